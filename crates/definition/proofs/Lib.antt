@@ -2,3 +2,4 @@ pub mod Places
 pub mod Round
 pub mod Accepted
 pub mod Converse
+pub mod Children

@@ -1,3 +1,4 @@
 pub mod Tree
 pub mod Grammar
 pub mod Check
+pub mod Children
