@@ -7,12 +7,13 @@ use Rattle.records.specs.declared.Head.{Head}
 -- the head of the record at `at`: mark, flags, start, end, text length and child count
 abbrev pub fieldsAt : List ℕ → ℕ → Head
 fieldsAt s at = record {
-    mark = markAt s at;
-    flags = flagsAt s at;
-    start = startAt s at;
-    end = lastAt s at;
-    text = lengthAt s at;
-    count = countAt s at }
+  mark = markAt s at;
+  flags = flagsAt s at;
+  start = startAt s at;
+  end = lastAt s at;
+  text = lengthAt s at;
+  count = countAt s at;
+}
 
 -- "mark (two ASCII letters), flags (1 byte), start and end (4 each), text length (2), child count (2)"
 unfoldable pub fieldBytes : Head → List ℕ

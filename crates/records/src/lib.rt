@@ -15,9 +15,13 @@ pub const HEAD_SIZE: usize = 15;
 
 // The places of a head's fields in it; the mark is at 0.
 const FLAGS: usize = 2;
+
 const START: usize = 3;
+
 const END: usize = 7;
+
 const LENGTH: usize = 11;
+
 const COUNT: usize = 13;
 
 // "A diagnostic is 10 bytes"
@@ -61,7 +65,10 @@ pub fn u32_at(tree: &[u8], at: usize) -> u32
     requires { ⌜ at + 4 ≤ length (now tree) ⌝ }
     ensures { λ r. ⌜ (r ≡ u32At (now (tree .entry)) at) × (r < 4294967296) ⌝ }
 {
-    wide32(tree[at]) + 256 * wide32(tree[at + 1]) + 65536 * wide32(tree[at + 2]) + 16777216 * wide32(tree[at + 3])
+    wide32(tree[at])
+        + 256 * wide32(tree[at + 1])
+        + 65536 * wide32(tree[at + 2])
+        + 16777216 * wide32(tree[at + 3])
 }
 
 // The mark of the record at `at`.
@@ -117,4 +124,27 @@ pub fn text_at(tree: &[u8], at: usize) -> &[u8]
     let start = at + HEAD_SIZE;
     let end = body_at(tree, at);
     &tree[start..end]
+}
+
+// The offset behind the record at `at`, which is at most `left` levels deep: behind its head, its text and its children.
+pub fn record_end(tree: &[u8], at: usize, left: usize) -> usize
+    requires { ⌜ Whole left (now tree) at ⌝ }
+    ensures { λ r. ⌜ r ≡ endAt left (now (tree .entry)) at ⌝ }
+{
+    let mut n = count_at(tree, at);
+    let mut end = body_at(tree, at);
+    while 0 < n {
+        end = record_end(tree, end, left - 1);
+        n -= 1;
+    }
+    end
+}
+
+// "A record read is handed back as the part of the tree it fills."
+pub fn record_at(tree: &[u8], at: usize, left: usize) -> &[u8]
+    requires { ⌜ Whole left (now tree) at ⌝ }
+    ensures { λ r. ⌜ now r ≡ partAt left (now (tree .entry)) at ⌝ }
+{
+    let end = record_end(tree, at, left);
+    &tree[at..end]
 }
