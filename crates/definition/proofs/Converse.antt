@@ -1,0 +1,188 @@
+-- The converse of the round trip: the bytes of an accepted record are `encode` of the tree that is read there, and that tree's fields fit.
+-- Assumes nothing.
+use mathlib.Core.Path.{_≡_, refl, sym, ap, _∙_}
+use mathlib.Core.List.{List, [], _∷_, _++_}
+use Prim.Native.Nat.{ℕ, zero, suc, _+_, _-_, _%_, _<_, _≤_, max}
+use native.Mathlib.Omega.{arith}
+use lib.ListN.{length, getD, take, drop, length-append, List·getD-eq-default}
+use lib.Seq.{getD-take, getD-drop}
+use mathlib.Core.Logic.{⊎-elim}
+use Rattle.definition.specs.Tree.{
+  Head,
+  Rec,
+  Recs,
+  rec,
+  nil,
+  cons,
+  count,
+  depth,
+  depths,
+  headSize,
+  le2,
+  le4,
+  headBytes,
+  encode,
+  encodes,
+  markAt,
+  flagsAt,
+  startAt,
+  lastAt,
+  lengthAt,
+  countAt,
+  textAt,
+  bodyAt,
+  headAt,
+  readAll,
+  endAt,
+  treeAt,
+  Bytes,
+  FitsHead,
+  Fits,
+  FitsAll,
+}
+use Rattle.definition.specs.Grammar.{Part, after, root}
+use Rattle.definition.specs.Check.{Checked, Checked.fine, checkAll, checkAt, checkTree, inside, deepest}
+use Rattle.definition.proofs.Places.{At, at-none, at-join, at-part, part-at, part-length, at-whole, at-le2, at-le4, byte-at, u16-small, u32-small, below-or-not}
+use Rattle.definition.proofs.Round.{length-headBytes}
+use Rattle.definition.proofs.Accepted.{Open, accepted, accepted-left, check-lies, check-ends, first-accepted, accepted-tree, AcceptedTree}
+
+pub count-readAll : (read : ℕ → Rec) (end : ℕ → ℕ) (n at : ℕ) → count (readAll read end n at) ≡ n
+unfolding readAll
+count-readAll read end zero at = refl
+count-readAll read end (suc n) at = ap suc (count-readAll read end n (end at))
+
+-- ---- one head
+
+module _ (s : List ℕ) (bytes : Bytes s) (at : ℕ) (room : at + headSize ≤ length s) (fits : bodyAt s at ≤ length s) where
+  text-length : length (textAt s at) ≡ lengthAt s at
+  text-length = part-length s (at + headSize) (lengthAt s at) fits
+
+  -- the fields one after the other, each where the one before ends
+  at-count : At s (at + 13) (le2 (countAt s at))
+  at-count = at-le2 s (at + 13) (omega arith) bytes
+
+  at-length : At s (at + 11) (le2 (lengthAt s at) ++ le2 (countAt s at))
+  at-length =
+      let e : at + 11 + 2 ≡ at + 13 = omega arith in
+      at-join s (at + 11) (le2 (lengthAt s at)) (le2 (countAt s at)) (at-le2 s (at + 11) (omega arith) bytes) (rw e at-count)
+
+  at-end : At s (at + 7) (le4 (lastAt s at) ++ (le2 (lengthAt s at) ++ le2 (countAt s at)))
+  at-end =
+      let e : at + 7 + 4 ≡ at + 11 = omega arith in
+      at-join s (at + 7) (le4 (lastAt s at)) (le2 (lengthAt s at) ++ le2 (countAt s at)) (at-le4 s (at + 7) (omega arith) bytes) (rw e at-length)
+
+  at-start : At s (at + 3) (le4 (startAt s at) ++ (le4 (lastAt s at) ++ (le2 (lengthAt s at) ++ le2 (countAt s at))))
+  at-start =
+      let e : at + 3 + 4 ≡ at + 7 = omega arith in
+      at-join s (at + 3) (le4 (startAt s at)) (le4 (lastAt s at) ++ (le2 (lengthAt s at) ++ le2 (countAt s at))) (at-le4 s (at + 3) (omega arith) bytes) (rw e at-end)
+
+  at-flags : At s (at + 2) (flagsAt s at % 256 ∷ (le4 (startAt s at) ++ (le4 (lastAt s at) ++ (le2 (lengthAt s at) ++ le2 (countAt s at)))))
+  at-flags =
+      let e : at + 2 + 1 ≡ at + 3 = omega arith in
+      at-join s (at + 2) (flagsAt s at % 256 ∷ []) (le4 (startAt s at) ++ (le4 (lastAt s at) ++ (le2 (lengthAt s at) ++ le2 (countAt s at)))) (byte-at s (at + 2) (omega arith) bytes) (rw e at-start)
+
+  at-head : At s at (headBytes (headAt s at) (countAt s at))
+  unfolding headBytes headAt
+  at-head =
+      rw text-length
+      (at-join s at (le2 (markAt s at)) (flagsAt s at % 256 ∷ (le4 (startAt s at) ++ (le4 (lastAt s at) ++ (le2 (lengthAt s at) ++ le2 (countAt s at))))) (at-le2 s at (omega arith) bytes) at-flags)
+
+  text-bytes : Bytes (textAt s at)
+  unfolding Bytes
+  text-bytes i = ⊎-elim
+      (λ (l : i < lengthAt s at). rw (getD-take (lengthAt s at) (drop (at + headSize) s) i 0 l, getD-drop (at + headSize) s i 0) (bytes (at + headSize + i)))
+      (λ (l : lengthAt s at ≤ i). rw (List·getD-eq-default (textAt s at) 0 {n = i} (omega (arith, text-length))) (omega arith))
+      (below-or-not i (lengthAt s at))
+
+  head-fits : FitsHead (headAt s at) (countAt s at)
+  unfolding headAt Bytes
+  head-fits = record {
+    mark = u16-small s at bytes;
+    flags = bytes (at + 2);
+    start = u32-small s (at + 3) bytes;
+    end = u32-small s (at + 7) bytes;
+    text = rw text-length (u16-small s (at + 11) bytes);
+    bytes = text-bytes;
+    count = u16-small s (at + 13) bytes;
+  }
+
+-- ---- a record with its children
+
+-- what is read stands there, ends where it is said to, fits, and is not too deep
+pub record Stands (s : List ℕ) (left at e : ℕ) (r : Rec) : Type 0 where
+  pub there : At s at (encode r)
+  pub ends : e ≡ at + length (encode r)
+  pub fits : Fits r
+  pub depth : depth r ≤ left
+
+record StandAll (s : List ℕ) (left at e : ℕ) (rs : Recs) : Type 0 where
+  pub there : At s at (encodes rs)
+  pub ends : e ≡ at + length (encodes rs)
+  pub fits : FitsAll rs
+  pub depth : depths rs ≤ left
+
+module _ (s : List ℕ) (bytes : Bytes s) where
+  all-stand : (left : ℕ) → ((p : ℕ) (ps : List Part) (e : ℕ) → checkAt left s p ps ≡ fine e → Stands s left p e (treeAt left s p)) →
+      (n p : ℕ) (ps : List Part) (e : ℕ) → p ≤ length s → checkAll (checkAt left s) s n p ps ≡ fine e →
+      StandAll s left p e (readAll (treeAt left s) (endAt left s) n p)
+  unfolding checkAll readAll encodes depths
+  all-stand left good zero p ps e h f = let z : p ≡ e = cc in record { there = at-none s p h; ends = omega arith; fits = tt; depth = omega arith }
+  all-stand left good (suc n) p ps e h f =
+      let u = first-accepted left s n p ps e f in
+      let one = good p ps (endAt left s p) (u .0) in
+      let l = check-lies left s p ps (endAt left s p) (u .0) in
+      let more = all-stand left good n (endAt left s p) (after ps (markAt s p)) e (l .inside) (u .1) in
+      let r : Rec = treeAt left s p in
+      let rs : Recs = readAll (treeAt left s) (endAt left s) n (endAt left s p) in
+      let n+ : length (encode r ++ encodes rs) ≡ length (encode r) + length (encodes rs) = length-append (encode r) (encodes rs) in
+      record {
+        there = at-join s p (encode r) (encodes rs) (one .there) (rw (← one .ends) (more .there));
+        ends = omega (arith, one .ends, more .ends);
+        fits = (one .fits, more .fits);
+        depth = omega (arith, one .depth, more .depth);
+      }
+
+  pub check-stands : (left at : ℕ) (ps : List Part) (e : ℕ) → checkAt left s at ps ≡ fine e → Stands s left at e (treeAt left s at)
+  unfolding treeAt encode depth headAt
+  check-stands zero at ps e f = absurd (let z = accepted-left zero s at ps e f in omega (arith, z))
+  check-stands (suc left) at ps e f =
+      let a = accepted left s at ps e f in
+      let o = a .itself in
+      let ks : Recs = readAll (treeAt left s) (endAt left s) (countAt s at) (bodyAt s at) in
+      let all = all-stand left (λ p rs x. check-stands left p rs x) (countAt s at) (bodyAt s at) (inside ps (markAt s at)) e (o .fits) (a .all) in
+      let n≡ : count ks ≡ countAt s at = count-readAll (treeAt left s) (endAt left s) (countAt s at) (bodyAt s at) in
+      let t≡ : length (textAt s at) ≡ lengthAt s at = text-length s bytes at (o .room) (o .fits) in
+      let hb : List ℕ = headBytes (headAt s at) (countAt s at) in
+      let l1 : length (hb ++ (textAt s at ++ encodes ks)) ≡ headSize + (lengthAt s at + length (encodes ks)) =
+      simp (length-append, length-headBytes, t≡) in
+      let body : At s (at + headSize) (textAt s at ++ encodes ks) =
+      at-join s (at + headSize) (textAt s at) (encodes ks) (part-at s (at + headSize) (lengthAt s at) (o .fits)) (rw t≡ (all .there)) in
+      record {
+        there = rw n≡ (at-join s at hb (textAt s at ++ encodes ks) (at-head s bytes at (o .room) (o .fits)) (rw length-headBytes body));
+        ends = rw n≡ (omega (arith, all .ends, l1));
+        fits = (rw n≡ (head-fits s bytes at (o .room) (o .fits)), all .fits);
+        depth = omega (arith, all .depth);
+      }
+
+  -- the part of the tree that an accepted record fills is its encoding
+  pub encode-treeAt : (left at : ℕ) (ps : List Part) (e : ℕ) → checkAt left s at ps ≡ fine e → take (e - at) (drop at s) ≡ encode (treeAt left s at)
+  encode-treeAt left at ps e f =
+      let t = check-stands left at ps e f in
+      let n : e - at ≡ length (encode (treeAt left s at)) = omega (arith, t .ends) in
+      rw n (at-part s at (encode (treeAt left s at)) (t .there))
+
+-- the bytes of an accepted tree are the encoding of what is read, which fits and is at most 64 deep
+pub record Read (tree : List ℕ) : Type 0 where
+  pub same : encode (treeAt deepest tree 0) ≡ tree
+  pub fits : Fits (treeAt deepest tree 0)
+  pub depth : depth (treeAt deepest tree 0) ≤ deepest
+
+pub read-accepted : (tree list : List ℕ) (e : ℕ) → Bytes tree → checkTree tree list ≡ fine e → Read tree
+read-accepted tree list e bytes f =
+    let a = accepted-tree tree list e f in
+    let t = check-stands tree bytes deepest 0 root (length tree) (a .0 .root-fine) in
+    record {
+      same = at-whole tree (encode (treeAt deepest tree 0)) (t .there) (omega (arith, t .ends));
+      fits = t .fits;
+      depth = t .depth;
+    }

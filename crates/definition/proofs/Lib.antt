@@ -1,0 +1,4 @@
+pub mod Places
+pub mod Round
+pub mod Accepted
+pub mod Converse
