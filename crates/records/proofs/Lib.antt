@@ -1,1 +1,4 @@
 pub mod Known
+pub mod Stores
+pub mod Whole
+pub mod Wrote

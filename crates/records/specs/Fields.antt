@@ -1,0 +1,29 @@
+-- The head of a record as a value of the code, and its bytes; the bytes of a diagnostic. Assumes nothing: these are definitions.
+use Prim.Native.Nat.{ℕ, _+_, _%_}
+use mathlib.Core.List.{List, _∷_, _++_}
+use Rattle.definition.specs.Tree.{le2, le4, markAt, flagsAt, startAt, lastAt, lengthAt, countAt}
+use Rattle.records.specs.declared.Head.{Head}
+
+-- the head of the record at `at`: mark, flags, start, end, text length and child count
+abbrev pub fieldsAt : List ℕ → ℕ → Head
+fieldsAt s at = record {
+  mark = markAt s at;
+  flags = flagsAt s at;
+  start = startAt s at;
+  end = lastAt s at;
+  text = lengthAt s at;
+  count = countAt s at;
+}
+
+-- "mark (two ASCII letters), flags (1 byte), start and end (4 each), text length (2), child count (2)"
+unfoldable pub fieldBytes : Head → List ℕ
+fieldBytes h =
+    le2 (h .mark) ++ ((h .flags % 256) ∷ (le4 (h .start) ++ (le4 (h .end) ++ (le2 (h .text) ++ le2 (h .count)))))
+
+-- "A diagnostic is 10 bytes: `d1` to `d5`, start, end"
+abbrev pub diagSize : ℕ
+diagSize = 10
+
+-- the diagnostic of the number kind: 100 is `d`, and 48 + kind its digit
+unfoldable pub diagBytes : ℕ → ℕ → ℕ → List ℕ
+diagBytes kind start end = 100 ∷ (48 + kind) ∷ (le4 start ++ le4 end)
