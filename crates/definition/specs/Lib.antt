@@ -2,3 +2,7 @@ pub mod Tree
 pub mod Grammar
 pub mod Check
 pub mod Children
+pub mod Record
+pub mod Helpers
+pub mod Prescan
+pub mod Names
