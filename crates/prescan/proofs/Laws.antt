@@ -45,7 +45,15 @@ use Rattle.definition.specs.Prescan.{
   addItem,
   asked,
 }
+use Rattle.records.specs.Whole.{Whole}
+use Rattle.records.proofs.Whole.{accepted-whole}
 use Rattle.definition.proofs.Kids.{fixed, Child, placed, head-is, mark-is, first-in, second-in}
+
+-- an accepted record lies in the tree, as `record_end` asks
+pub lies : {left : ℕ} {s : List ℕ} {at : ℕ} → AcceptedAt left s at → Whole left s at
+lies {left} {s} {at} a = accepted-whole left s at (a .slots) (a .past) (a .checked)
+
+-- In each module m is the mark of the record at `at`, as the code read it.
 
 -- ---- `is_array_type`
 
@@ -58,59 +66,59 @@ unfolding isArrayType firstIsArrayType arrayTypeKind isArrayTypeBy
 first-type nil = refl
 first-type (cons r rs) = refl
 
-module _ (left : ℕ) (s : List ℕ) (at : ℕ) where
-  type-of : (k : ArrayType) → arrayTypeKind (markAt s at) ≡ k →
+module _ (left : ℕ) (s : List ℕ) (at m : ℕ) (mq : m ≡ markAt s at) where
+  type-of : (k : ArrayType) → arrayTypeKind m ≡ k →
       isArrayType (treeAt left s at) ≡ isArrayTypeBy k (kidsOf (treeAt left s at)) (isArrayType (kid 0 (kidsOf (treeAt left s at))))
   type-of k e =
       type-by (treeAt left s at) ∙
       (ap (λ (b : Bool). isArrayTypeBy (arrayTypeKind (markOf (treeAt left s at))) (kidsOf (treeAt left s at)) b) (first-type (kidsOf (treeAt left s at))) ∙
-      ap (λ (j : ArrayType). isArrayTypeBy j (kidsOf (treeAt left s at)) (isArrayType (kid 0 (kidsOf (treeAt left s at))))) (ap arrayTypeKind (mark-is left s at) ∙ e))
+      ap (λ (j : ArrayType). isArrayTypeBy j (kidsOf (treeAt left s at)) (isArrayType (kid 0 (kidsOf (treeAt left s at))))) (ap arrayTypeKind (mark-is left s at ∙ sym mq) ∙ e))
 
-  pub type-array : (markAt s at ≡ mark "Ay") ⊎ (markAt s at ≡ mark "Tu") → isArrayType (treeAt left s at) ≡ true
+  pub type-array : (m ≡ mark "Tu") ⊎ (m ≡ mark "Ay") → isArrayType (treeAt left s at) ≡ true
   unfolding arrayTypeKind isArrayTypeBy
-  type-array h = type-of aArray (⊎-elim (λ (e : markAt s at ≡ mark "Ay"). rw e) (λ (e : markAt s at ≡ mark "Tu"). rw e) h)
+  type-array h = type-of aArray (⊎-elim (λ (e : m ≡ mark "Tu"). rw e) (λ (e : m ≡ mark "Ay"). rw e) h)
 
-  pub type-other : ((markAt s at ≡ mark "Ay") ⊎ (markAt s at ≡ mark "Tu") → ⊥) → (markAt s at ≡ mark "Ro" → ⊥) → (markAt s at ≡ mark "Rf" → ⊥) →
-      isArrayType (treeAt left s at) ≡ false
+  pub type-other : ((m ≡ mark "Tu") ⊎ (m ≡ mark "Ay") → ⊥) → (m ≡ mark "Ro" → ⊥) → (m ≡ mark "Rf" → ⊥) → isArrayType (treeAt left s at) ≡ false
   unfolding arrayTypeKind isArrayTypeBy
   type-other n o f =
-      type-of aOther (rw (ne-eqb (markAt s at) (mark "Ay") (λ e. n (inl e)), ne-eqb (markAt s at) (mark "Tu") (λ e. n (inr e)), ne-eqb (markAt s at) (mark "Ro") o, ne-eqb (markAt s at) (mark "Rf") f))
+      type-of aOther (rw (ne-eqb m (mark "Ay") (λ e. n (inr e)), ne-eqb m (mark "Tu") (λ e. n (inl e)), ne-eqb m (mark "Ro") o, ne-eqb m (mark "Rf") f))
 
-  module _ (a : AcceptedAt left s at) (p : ℕ) (q : p ≡ bodyAt s at) where
+  module _ (a : AcceptedAt left s at) (p : ℕ) (pq : p ≡ bodyAt s at) where
     -- what a `readonly` stands before
-    pub readonly-child : markAt s at ≡ mark "Ro" → Child left s at 0 p type
+    pub readonly-child : m ≡ mark "Ro" → Child left s at 0 p type
     unfolding grammar known slots place fixed
-    readonly-child e = placed (first-in left s at a (mark "Ro") e refl type refl) q
+    readonly-child e = placed (first-in left s at a (mark "Ro") (sym mq ∙ e) refl type refl) pq
 
-    pub type-readonly : markAt s at ≡ mark "Ro" → isArrayType (treeAt left s at) ≡ isArrayType (treeAt (left - 1) s p)
+    pub type-readonly : m ≡ mark "Ro" → isArrayType (treeAt left s at) ≡ isArrayType (treeAt (left - 1) s p)
     unfolding arrayTypeKind isArrayTypeBy
     type-readonly e = type-of aReadonly (rw e) ∙ ap isArrayType (readonly-child e .tree)
 
     -- the name of a reference
-    pub ref-child : markAt s at ≡ mark "Rf" → Child left s at 0 p "Id Op"
+    pub ref-child : m ≡ mark "Rf" → Child left s at 0 p "Id Op"
     unfolding grammar known slots place fixed
-    ref-child e = placed (first-in left s at a (mark "Rf") e refl "Id Op" refl) q
+    ref-child e = placed (first-in left s at a (mark "Rf") (sym mq ∙ e) refl "Id Op" refl) pq
 
-    pub type-ref : markAt s at ≡ mark "Rf" → isArrayType (treeAt left s at) ≡ refersToArray (treeAt (left - 1) s p)
+    pub type-ref : m ≡ mark "Rf" → isArrayType (treeAt left s at) ≡ refersToArray (treeAt (left - 1) s p)
     unfolding arrayTypeKind isArrayTypeBy
     type-ref e = type-of aRef (rw e) ∙ ap refersToArray (ref-child e .tree)
 
-module _ (left : ℕ) (s : List ℕ) (at : ℕ) where
+module _ (left : ℕ) (s : List ℕ) (at m : ℕ) (mq : m ≡ markAt s at) where
   refers-by : refersToArray (treeAt left s at) ≡
-      (eqb (markAt s at) (mark "Id") && (sameText (drop 4 (textAt s at)) (text "Array") || sameText (drop 4 (textAt s at)) (text "ReadonlyArray")))
+      (eqb m (mark "Id") && (sameText (drop 4 (textAt s at)) (text "Array") || sameText (drop 4 (textAt s at)) (text "ReadonlyArray")))
   unfolding headAt
-  refers-by = ap (λ (h : Head). eqb (h .mark) (mark "Id") && (sameText (drop 4 (h .text)) (text "Array") || sameText (drop 4 (h .text)) (text "ReadonlyArray"))) (head-is left s at)
+  refers-by =
+      rw mq (ap (λ (h : Head). eqb (h .mark) (mark "Id") && (sameText (drop 4 (h .text)) (text "Array") || sameText (drop 4 (h .text)) (text "ReadonlyArray"))) (head-is left s at))
 
-  pub refers-other : (markAt s at ≡ mark "Id" → ⊥) → refersToArray (treeAt left s at) ≡ false
-  refers-other n = refers-by ∙ rw (ne-eqb (markAt s at) (mark "Id") n)
+  pub refers-other : (m ≡ mark "Id" → ⊥) → refersToArray (treeAt left s at) ≡ false
+  refers-other n = refers-by ∙ rw (ne-eqb m (mark "Id") n)
 
-  module _ (e : markAt s at ≡ mark "Id") where
-    pub refers-array : sameText (drop 4 (textAt s at)) (text "Array") ≡ true → refersToArray (treeAt left s at) ≡ true
-    refers-array q = refers-by ∙ rw (eq-eqb (markAt s at) (mark "Id") e, q)
+  -- y is the symbol
+  module _ (e : m ≡ mark "Id") (y : List ℕ) (yq : y ≡ drop 4 (textAt s at)) where
+    pub refers-array : sameText y (text "Array") ≡ true → refersToArray (treeAt left s at) ≡ true
+    refers-array q = refers-by ∙ rw (sym yq, eq-eqb m (mark "Id") e, q)
 
-    pub refers-readonly : sameText (drop 4 (textAt s at)) (text "Array") ≡ false →
-        refersToArray (treeAt left s at) ≡ sameText (drop 4 (textAt s at)) (text "ReadonlyArray")
-    refers-readonly q = refers-by ∙ rw (eq-eqb (markAt s at) (mark "Id") e, q)
+    pub refers-readonly : sameText y (text "Array") ≡ false → refersToArray (treeAt left s at) ≡ sameText y (text "ReadonlyArray")
+    refers-readonly q = refers-by ∙ rw (sym yq, eq-eqb m (mark "Id") e, q)
 
 -- ---- `is_array_lit_init`
 
@@ -123,155 +131,156 @@ unfolding isArrayLitInit firstIsArrayLitInit arrayInitKind isArrayLitInitBy
 first-init nil = refl
 first-init (cons r rs) = refl
 
-module _ (left : ℕ) (s : List ℕ) (at : ℕ) where
-  init-of : (k : ArrayInit) → arrayInitKind (markAt s at) ≡ k →
+-- the marks of the expressions that are looked through
+abbrev pub Through : ℕ → Type 0
+Through m = (m ≡ mark "Tc") ⊎ ((m ≡ mark "Pr") ⊎ (m ≡ mark "Ts"))
+
+module _ (left : ℕ) (s : List ℕ) (at m : ℕ) (mq : m ≡ markAt s at) where
+  init-of : (k : ArrayInit) → arrayInitKind m ≡ k →
       isArrayLitInit (treeAt left s at) ≡ isArrayLitInitBy k (kidsOf (treeAt left s at)) (isArrayLitInit (kid 0 (kidsOf (treeAt left s at))))
   init-of k e =
       init-by (treeAt left s at) ∙
       (ap (λ (b : Bool). isArrayLitInitBy (arrayInitKind (markOf (treeAt left s at))) (kidsOf (treeAt left s at)) b) (first-init (kidsOf (treeAt left s at))) ∙
-      ap (λ (j : ArrayInit). isArrayLitInitBy j (kidsOf (treeAt left s at)) (isArrayLitInit (kid 0 (kidsOf (treeAt left s at))))) (ap arrayInitKind (mark-is left s at) ∙ e))
+      ap (λ (j : ArrayInit). isArrayLitInitBy j (kidsOf (treeAt left s at)) (isArrayLitInit (kid 0 (kidsOf (treeAt left s at))))) (ap arrayInitKind (mark-is left s at ∙ sym mq) ∙ e))
 
-  pub init-array : markAt s at ≡ mark "Ar" → isArrayLitInit (treeAt left s at) ≡ true
+  pub init-array : m ≡ mark "Ar" → isArrayLitInit (treeAt left s at) ≡ true
   unfolding arrayInitKind isArrayLitInitBy
   init-array e = init-of iArray (rw e)
 
-  -- the expressions that are looked through
-  abbrev pub Through : Type 0
-  Through = (markAt s at ≡ mark "Pr") ⊎ ((markAt s at ≡ mark "Tc") ⊎ (markAt s at ≡ mark "Ts"))
-
-  pub init-other : (markAt s at ≡ mark "Ar" → ⊥) → (Through → ⊥) → (markAt s at ≡ mark "As" → ⊥) → isArrayLitInit (treeAt left s at) ≡ false
+  pub init-other : (m ≡ mark "Ar" → ⊥) → (Through m → ⊥) → (m ≡ mark "As" → ⊥) → isArrayLitInit (treeAt left s at) ≡ false
   unfolding arrayInitKind isArrayLitInitBy
   init-other r n o =
       init-of iOther
-      (rw (ne-eqb (markAt s at) (mark "Ar") r, ne-eqb (markAt s at) (mark "Pr") (λ e. n (inl e)), ne-eqb (markAt s at) (mark "Tc") (λ e. n (inr (inl e))), ne-eqb (markAt s at) (mark "Ts") (λ e. n (inr (inr e))), ne-eqb (markAt s at) (mark "As") o))
+      (rw (ne-eqb m (mark "Ar") r, ne-eqb m (mark "Pr") (λ e. n (inr (inl e))), ne-eqb m (mark "Tc") (λ e. n (inl e)), ne-eqb m (mark "Ts") (λ e. n (inr (inr e))), ne-eqb m (mark "As") o))
 
-  module _ (a : AcceptedAt left s at) (p : ℕ) (q : p ≡ bodyAt s at) where
-    pub through-child : Through → Child left s at 0 p expression
+  module _ (a : AcceptedAt left s at) (p : ℕ) (pq : p ≡ bodyAt s at) where
+    pub through-child : Through m → Child left s at 0 p expression
     unfolding grammar known slots place fixed
     through-child h = placed (⊎-elim
-        (λ (e : markAt s at ≡ mark "Pr"). first-in left s at a (mark "Pr") e refl expression refl)
+        (λ (e : m ≡ mark "Tc"). first-in left s at a (mark "Tc") (sym mq ∙ e) refl expression refl)
         (⊎-elim
-        (λ (e : markAt s at ≡ mark "Tc"). first-in left s at a (mark "Tc") e refl expression refl)
-        (λ (e : markAt s at ≡ mark "Ts"). first-in left s at a (mark "Ts") e refl expression refl))
-        h) q
+        (λ (e : m ≡ mark "Pr"). first-in left s at a (mark "Pr") (sym mq ∙ e) refl expression refl)
+        (λ (e : m ≡ mark "Ts"). first-in left s at a (mark "Ts") (sym mq ∙ e) refl expression refl))
+        h) pq
 
-    pub init-through : Through → isArrayLitInit (treeAt left s at) ≡ isArrayLitInit (treeAt (left - 1) s p)
+    pub init-through : Through m → isArrayLitInit (treeAt left s at) ≡ isArrayLitInit (treeAt (left - 1) s p)
     unfolding arrayInitKind isArrayLitInitBy
     init-through h =
-        init-of iThrough (⊎-elim (λ (e : markAt s at ≡ mark "Pr"). rw e) (⊎-elim (λ (e : markAt s at ≡ mark "Tc"). rw e) (λ (e : markAt s at ≡ mark "Ts"). rw e)) h) ∙
+        init-of iThrough (⊎-elim (λ (e : m ≡ mark "Tc"). rw e) (⊎-elim (λ (e : m ≡ mark "Pr"). rw e) (λ (e : m ≡ mark "Ts"). rw e)) h) ∙
         ap isArrayLitInit (through-child h .tree)
 
     -- the expression of an As, and its type, which stands behind it
-    pub as-expr : markAt s at ≡ mark "As" → Child left s at 0 p expression
+    pub as-expr : m ≡ mark "As" → Child left s at 0 p expression
     unfolding grammar known slots place fixed
-    as-expr e = placed (first-in left s at a (mark "As") e refl expression refl) q
+    as-expr e = placed (first-in left s at a (mark "As") (sym mq ∙ e) refl expression refl) pq
 
-    module _ (t : ℕ) (r : t ≡ endAt (left - 1) s p) where
-      pub as-type : markAt s at ≡ mark "As" → Child left s at 1 t type
+    module _ (t : ℕ) (tq : t ≡ endAt (left - 1) s p) where
+      pub as-type : m ≡ mark "As" → Child left s at 1 t type
       unfolding grammar known slots place fixed
-      as-type e = placed (second-in left s at a (mark "As") e refl type refl) (r ∙ ap (endAt (left - 1) s) q)
+      as-type e = placed (second-in left s at a (mark "As") (sym mq ∙ e) refl type refl) (tq ∙ ap (endAt (left - 1) s) pq)
 
-      pub init-as : markAt s at ≡ mark "As" → isArrayLitInit (treeAt left s at) ≡ isArrayType (treeAt (left - 1) s t)
+      pub init-as : m ≡ mark "As" → isArrayLitInit (treeAt left s at) ≡ isArrayType (treeAt (left - 1) s t)
       unfolding arrayInitKind isArrayLitInitBy
       init-as e = init-of iAs (rw e) ∙ ap isArrayType (as-type e .tree)
 
 -- ---- what is declared under a name
 
-module _ (left : ℕ) (s : List ℕ) (at : ℕ) (name : List ℕ) where
-  named-by : named name (treeAt left s at) ≡ (eqb (markAt s at) (mark "Id") && sameText (textAt s at) name)
+module _ (left : ℕ) (s : List ℕ) (at m : ℕ) (mq : m ≡ markAt s at) (name : List ℕ) where
+  named-by : named name (treeAt left s at) ≡ (eqb m (mark "Id") && sameText (textAt s at) name)
   unfolding headAt
-  named-by = ap (λ (h : Head). eqb (h .mark) (mark "Id") && sameText (h .text) name) (head-is left s at)
+  named-by = rw mq (ap (λ (h : Head). eqb (h .mark) (mark "Id") && sameText (h .text) name) (head-is left s at))
 
-  pub named-other : (markAt s at ≡ mark "Id" → ⊥) → named name (treeAt left s at) ≡ false
-  named-other n = named-by ∙ rw (ne-eqb (markAt s at) (mark "Id") n)
+  pub named-other : (m ≡ mark "Id" → ⊥) → named name (treeAt left s at) ≡ false
+  named-other n = named-by ∙ rw (ne-eqb m (mark "Id") n)
 
-  pub named-is : markAt s at ≡ mark "Id" → named name (treeAt left s at) ≡ sameText (textAt s at) name
-  named-is e = named-by ∙ rw (eq-eqb (markAt s at) (mark "Id") e)
+  pub named-is : m ≡ mark "Id" → named name (treeAt left s at) ≡ sameText (textAt s at) name
+  named-is e = named-by ∙ rw (eq-eqb m (mark "Id") e)
 
 -- `add_class`: the type parameters of a Cl
-module _ (left : ℕ) (s : List ℕ) (at : ℕ) (a : AcceptedAt left s at) (e : markAt s at ≡ mark "Cl") (p : ℕ) (q : p ≡ bodyAt s at) where
+module _ (left : ℕ) (s : List ℕ) (at : ℕ) (a : AcceptedAt left s at) (e : markAt s at ≡ mark "Cl") (p : ℕ) (pq : p ≡ bodyAt s at) where
   pub params-child : Child left s at 0 p (optional "Op")
   unfolding grammar known slots place fixed
-  params-child = placed (first-in left s at a (mark "Cl") e refl (optional "Op") refl) q
+  params-child = placed (first-in left s at a (mark "Cl") e refl (optional "Op") refl) pq
 
   pub class-plain : addClass nonGenericClass (treeAt left s at) ≡ eqb (markAt s p) (mark "No")
-  class-plain = ap isNo (params-child .tree) ∙ ap (λ (m : ℕ). eqb m (mark "No")) (mark-is (left - 1) s p)
+  class-plain = ap isNo (params-child .tree) ∙ ap (λ (k : ℕ). eqb k (mark "No")) (mark-is (left - 1) s p)
 
--- a const with the type at t and the init at v
-module _ (l k : ℕ) (s : List ℕ) (t v : ℕ) where
-  no-by : isNo (treeAt l s t) ≡ eqb (markAt s t) (mark "No")
-  no-by = ap (λ (m : ℕ). eqb m (mark "No")) (mark-is l s t)
+-- a const with the type at t, whose mark is m, and the init at v
+module _ (l k : ℕ) (s : List ℕ) (t m : ℕ) (mq : m ≡ markAt s t) (v : ℕ) where
+  no-by : isNo (treeAt l s t) ≡ eqb m (mark "No")
+  no-by = ap (λ (j : ℕ). eqb j (mark "No")) (mark-is l s t ∙ sym mq)
 
-  pub const-typed : (markAt s t ≡ mark "No" → ⊥) → addConst typeofSafe (treeAt l s t) (treeAt k s v) ≡ true
-  const-typed n = rw (no-by ∙ ne-eqb (markAt s t) (mark "No") n)
+  pub const-typed : (m ≡ mark "No" → ⊥) → addConst typeofSafe (treeAt l s t) (treeAt k s v) ≡ true
+  const-typed n = rw (no-by ∙ ne-eqb m (mark "No") n)
 
-  function-by : (is "Fx" (treeAt k s v) || is "Aw" (treeAt k s v)) ≡ (eqb (markAt s v) (mark "Fx") || eqb (markAt s v) (mark "Aw"))
-  function-by = ap (λ (m : ℕ). eqb m (mark "Fx") || eqb m (mark "Aw")) (mark-is k s v)
+  pub const-by-init : m ≡ mark "No" → addConst arrayTyped (treeAt l s t) (treeAt k s v) ≡ isArrayLitInit (treeAt k s v)
+  const-by-init e = rw (no-by ∙ eq-eqb m (mark "No") e)
 
-  untyped : markAt s t ≡ mark "No" → addConst typeofSafe (treeAt l s t) (treeAt k s v) ≡ (eqb (markAt s v) (mark "Fx") || eqb (markAt s v) (mark "Aw"))
-  untyped e = rw (no-by ∙ eq-eqb (markAt s t) (mark "No") e) function-by
+  pub const-by-type : (m ≡ mark "No" → ⊥) → addConst arrayTyped (treeAt l s t) (treeAt k s v) ≡ isArrayType (treeAt l s t)
+  const-by-type n = rw (no-by ∙ ne-eqb m (mark "No") n)
 
-  pub const-function : markAt s t ≡ mark "No" → (markAt s v ≡ mark "Fx") ⊎ (markAt s v ≡ mark "Aw") → addConst typeofSafe (treeAt l s t) (treeAt k s v) ≡ true
-  const-function e h = untyped e ∙ ⊎-elim (λ (f : markAt s v ≡ mark "Fx"). rw f) (λ (f : markAt s v ≡ mark "Aw"). rw f) h
+  -- the init's mark is w
+  module _ (e : m ≡ mark "No") (w : ℕ) (wq : w ≡ markAt s v) where
+    untyped : addConst typeofSafe (treeAt l s t) (treeAt k s v) ≡ (eqb w (mark "Fx") || eqb w (mark "Aw"))
+    untyped = rw (no-by ∙ eq-eqb m (mark "No") e) (ap (λ (j : ℕ). eqb j (mark "Fx") || eqb j (mark "Aw")) (mark-is k s v ∙ sym wq))
 
-  pub const-plain : markAt s t ≡ mark "No" → ((markAt s v ≡ mark "Fx") ⊎ (markAt s v ≡ mark "Aw") → ⊥) →
-      addConst typeofSafe (treeAt l s t) (treeAt k s v) ≡ false
-  const-plain e n = untyped e ∙ rw (ne-eqb (markAt s v) (mark "Fx") (λ f. n (inl f)), ne-eqb (markAt s v) (mark "Aw") (λ f. n (inr f)))
+    pub const-function : (w ≡ mark "Aw") ⊎ (w ≡ mark "Fx") → addConst typeofSafe (treeAt l s t) (treeAt k s v) ≡ true
+    const-function h = untyped ∙ ⊎-elim (λ (f : w ≡ mark "Aw"). rw f) (λ (f : w ≡ mark "Fx"). rw f) h
 
-  pub const-by-init : markAt s t ≡ mark "No" → addConst arrayTyped (treeAt l s t) (treeAt k s v) ≡ isArrayLitInit (treeAt k s v)
-  const-by-init e = rw (no-by ∙ eq-eqb (markAt s t) (mark "No") e)
-
-  pub const-by-type : (markAt s t ≡ mark "No" → ⊥) → addConst arrayTyped (treeAt l s t) (treeAt k s v) ≡ isArrayType (treeAt l s t)
-  const-by-type n = rw (no-by ∙ ne-eqb (markAt s t) (mark "No") n)
+    pub const-plain : ((w ≡ mark "Aw") ⊎ (w ≡ mark "Fx") → ⊥) → addConst typeofSafe (treeAt l s t) (treeAt k s v) ≡ false
+    const-plain n = untyped ∙ rw (ne-eqb w (mark "Fx") (λ f. n (inr f)), ne-eqb w (mark "Aw") (λ f. n (inl f)))
 
 -- ---- a declarator
 
-module _ (left : ℕ) (s : List ℕ) (at : ℕ) (q : Question) (name : List ℕ) where
+module _ (left : ℕ) (s : List ℕ) (at m : ℕ) (mq : m ≡ markAt s at) (q : Question) (name : List ℕ) where
   declarator-by : addDeclarator q name (treeAt left s at) ≡
-      ((eqb (markAt s at) (mark "Vr") && is "Bd" (kid 0 (kidsOf (treeAt left s at)))) &&
+      ((eqb m (mark "Vr") && is "Bd" (kid 0 (kidsOf (treeAt left s at)))) &&
       (named name (kid 0 (kidsOf (kid 0 (kidsOf (treeAt left s at))))) &&
       addConst q (kid 1 (kidsOf (kid 0 (kidsOf (treeAt left s at))))) (kid 1 (kidsOf (treeAt left s at)))))
   unfolding addDeclarator
-  declarator-by = rw (mark-is left s at)
+  declarator-by = rw (mark-is left s at, mq)
 
-  pub declarator-other : (markAt s at ≡ mark "Vr" → ⊥) → addDeclarator q name (treeAt left s at) ≡ false
-  declarator-other n = declarator-by ∙ rw (ne-eqb (markAt s at) (mark "Vr") n)
+  pub declarator-other : (m ≡ mark "Vr" → ⊥) → addDeclarator q name (treeAt left s at) ≡ false
+  declarator-other n = declarator-by ∙ rw (ne-eqb m (mark "Vr") n)
 
-  module _ (a : AcceptedAt left s at) (e : markAt s at ≡ mark "Vr") (p : ℕ) (pq : p ≡ bodyAt s at) where
+  module _ (a : AcceptedAt left s at) (e : m ≡ mark "Vr") (p : ℕ) (pq : p ≡ bodyAt s at) where
     -- its pattern, at p
     pub pattern-child : Child left s at 0 p pattern
     unfolding grammar known slots place fixed
-    pattern-child = placed (first-in left s at a (mark "Vr") e refl pattern refl) pq
-
-    pub declarator-pattern : (markAt s p ≡ mark "Bd" → ⊥) → addDeclarator q name (treeAt left s at) ≡ false
-    declarator-pattern n =
-        declarator-by ∙ rw (eq-eqb (markAt s at) (mark "Vr") e, pattern-child .tree, mark-is (left - 1) s p, ne-eqb (markAt s p) (mark "Bd") n)
+    pattern-child = placed (first-in left s at a (mark "Vr") (sym mq ∙ e) refl pattern refl) pq
 
     -- its init, at v, behind the pattern
     pub init-child : (v : ℕ) → v ≡ endAt (left - 1) s p → Child left s at 1 v (optional expression)
     unfolding grammar known slots place fixed
-    init-child v r = placed (second-in left s at a (mark "Vr") e refl (optional expression) refl) (r ∙ ap (endAt (left - 1) s) pq)
+    init-child v r = placed (second-in left s at a (mark "Vr") (sym mq ∙ e) refl (optional expression) refl) (r ∙ ap (endAt (left - 1) s) pq)
 
-    module _ (f : markAt s p ≡ mark "Bd") (i : ℕ) (iq : i ≡ bodyAt s p) where
-      -- the pattern's name, at i
-      pub ident-child : Child (left - 1) s p 0 i "Id"
-      unfolding grammar known slots place fixed
-      ident-child = placed (first-in (left - 1) s p (pattern-child .accepted) (mark "Bd") f refl "Id" refl) iq
+    -- the pattern's mark is w
+    module _ (w : ℕ) (wq : w ≡ markAt s p) where
+      pub declarator-pattern : (w ≡ mark "Bd" → ⊥) → addDeclarator q name (treeAt left s at) ≡ false
+      declarator-pattern n =
+          declarator-by ∙ rw (eq-eqb m (mark "Vr") e, pattern-child .tree, mark-is (left - 1) s p, sym wq, ne-eqb w (mark "Bd") n)
 
-      named-by-ident : addDeclarator q name (treeAt left s at) ≡
-          (named name (treeAt (left - 1 - 1) s i) && addConst q (kid 1 (kidsOf (treeAt (left - 1) s p))) (kid 1 (kidsOf (treeAt left s at))))
-      named-by-ident =
-          declarator-by ∙ rw (eq-eqb (markAt s at) (mark "Vr") e, pattern-child .tree, mark-is (left - 1) s p, eq-eqb (markAt s p) (mark "Bd") f, ident-child .tree)
-
-      pub declarator-unnamed : named name (treeAt (left - 1 - 1) s i) ≡ false → addDeclarator q name (treeAt left s at) ≡ false
-      declarator-unnamed n = named-by-ident ∙ rw n
-
-      module _ (t : ℕ) (tq : t ≡ endAt (left - 1 - 1) s i) where
-        -- its type, at t, behind the name
-        pub type-child : Child (left - 1) s p 1 t (optional type)
+      module _ (f : w ≡ mark "Bd") (i : ℕ) (iq : i ≡ bodyAt s p) where
+        -- the pattern's name, at i
+        pub ident-child : Child (left - 1) s p 0 i "Id"
         unfolding grammar known slots place fixed
-        type-child = placed (second-in (left - 1) s p (pattern-child .accepted) (mark "Bd") f refl (optional type) refl) (tq ∙ ap (endAt (left - 1 - 1) s) iq)
+        ident-child = placed (first-in (left - 1) s p (pattern-child .accepted) (mark "Bd") (sym wq ∙ f) refl "Id" refl) iq
 
-        pub declarator-named : (v : ℕ) → v ≡ endAt (left - 1) s p → named name (treeAt (left - 1 - 1) s i) ≡ true →
-            addDeclarator q name (treeAt left s at) ≡ addConst q (treeAt (left - 1 - 1) s t) (treeAt (left - 1) s v)
-        declarator-named v r n = named-by-ident ∙ rw (n, type-child .tree, init-child v r .tree)
+        named-by-ident : addDeclarator q name (treeAt left s at) ≡
+            (named name (treeAt (left - 1 - 1) s i) && addConst q (kid 1 (kidsOf (treeAt (left - 1) s p))) (kid 1 (kidsOf (treeAt left s at))))
+        named-by-ident =
+            declarator-by ∙ rw (eq-eqb m (mark "Vr") e, pattern-child .tree, mark-is (left - 1) s p, sym wq, eq-eqb w (mark "Bd") f, ident-child .tree)
+
+        pub declarator-unnamed : named name (treeAt (left - 1 - 1) s i) ≡ false → addDeclarator q name (treeAt left s at) ≡ false
+        declarator-unnamed n = named-by-ident ∙ rw n
+
+        module _ (t : ℕ) (tq : t ≡ endAt (left - 1 - 1) s i) where
+          -- its type, at t, behind the name
+          pub type-child : Child (left - 1) s p 1 t (optional type)
+          unfolding grammar known slots place fixed
+          type-child =
+              placed (second-in (left - 1) s p (pattern-child .accepted) (mark "Bd") (sym wq ∙ f) refl (optional type) refl) (tq ∙ ap (endAt (left - 1 - 1) s) iq)
+
+          pub declarator-named : (v : ℕ) → v ≡ endAt (left - 1) s p → named name (treeAt (left - 1 - 1) s i) ≡ true →
+              addDeclarator q name (treeAt left s at) ≡ addConst q (treeAt (left - 1 - 1) s t) (treeAt (left - 1) s v)
+          declarator-named v r n = named-by-ident ∙ rw (n, type-child .tree, init-child v r .tree)

@@ -1,7 +1,6 @@
 -- `prescan::is_array_type` meets its contract: in each arm the mark picks the definition's case. The measure is the depth left. Assumes nothing.
-use mathlib.Core.Path.{_≡_, sym, ap, _∙_}
-use mathlib.Core.Logic.{_⊎_, inl, inr, ⊎-elim}
-use Prim.Native.Nat.{ℕ, _<_, _-_}
+use mathlib.Core.Path.{_≡_, sym, _∙_}
+use Prim.Native.Nat.{ℕ, _<_}
 use native.Mathlib.Omega.{arith}
 use borrow.Fn.Kinds.{In}
 use borrow.Fn.PlainCycle.{Measures, is, falls, and}
@@ -35,39 +34,31 @@ body-at-requires : (t : ℕ) → is-array-type-lts.Need-body-at-requires (calls 
 body-at-requires t c κs = itself (c .before .before .before .args .left) (c .before .before .before .args .tree .now) (c .before .before .before .args .at) (c .before .before .before .pre .1) .room
 
 sub-is-array-type : (t : ℕ) → is-array-type-lts.Need-sub-is-array-type (calls t) (this t) reads.Post
-sub-is-array-type t c = (let z = some-left (c .before .before .before .before .args .left) (c .before .before .before .before .args .tree .now) (c .before .before .before .before .args .at) (c .before .before .before .before .pre .1) in omega (arith, z))
+sub-is-array-type t c = omega (arith, some-left (c .before .before .before .before .args .left) (c .before .before .before .before .args .tree .now) (c .before .before .before .before .args .at) (c .before .before .before .before .pre .1))
 
 is-array-type-requires : (t : ℕ) → is-array-type-lts.Need-is-array-type-requires (calls t) (this t) reads.Post
-is-array-type-requires t c κs = (
-    (let z = some-left (c .before .before .before .before .args .left) (c .before .before .before .before .args .tree .now) (c .before .before .before .before .args .at) (c .before .before .before .before .pre .1) in omega (arith, z, c .before .before .before .before .pre .0)),
-    readonly-child (c .before .before .before .before .args .left) (c .before .before .before .before .args .tree .now) (c .before .before .before .before .args .at) (c .before .before .before .before .pre .1) (c .body-at .result) (c .body-at .ensures) (sym (c .before .before .mark-at .ensures .0) ∙ c .before .match .keys2) .accepted)
+is-array-type-requires t c κs = (omega (arith, some-left (c .before .before .before .before .args .left) (c .before .before .before .before .args .tree .now) (c .before .before .before .before .args .at) (c .before .before .before .before .pre .1), c .before .before .before .before .pre .0), readonly-child (c .before .before .before .before .args .left) (c .before .before .before .before .args .tree .now) (c .before .before .before .before .args .at) (c .before .before .mark-at .result) (c .before .before .mark-at .ensures .0) (c .before .before .before .before .pre .1) (c .body-at .result) (c .body-at .ensures) (c .before .match .keys2) .accepted)
 
 body-at-requires-2 : (t : ℕ) → is-array-type-lts.Need-body-at-requires-2 (calls t) (this t) reads.Post
 body-at-requires-2 t c κs = itself (c .before .before .before .args .left) (c .before .before .before .args .tree .now) (c .before .before .before .args .at) (c .before .before .before .pre .1) .room
 
 sub-refers-to-array : (t : ℕ) → is-array-type-lts.Need-sub-refers-to-array (calls t) (this t) reads.Post
-sub-refers-to-array t c = (let z = some-left (c .before .before .before .before .args .left) (c .before .before .before .before .args .tree .now) (c .before .before .before .before .args .at) (c .before .before .before .before .pre .1) in omega (arith, z))
+sub-refers-to-array t c = omega (arith, some-left (c .before .before .before .before .args .left) (c .before .before .before .before .args .tree .now) (c .before .before .before .before .args .at) (c .before .before .before .before .pre .1))
 
 refers-to-array-requires : (t : ℕ) → is-array-type-lts.Need-refers-to-array-requires (calls t) (this t) reads.Post
-refers-to-array-requires t c κs = ref-child (c .before .before .before .before .args .left) (c .before .before .before .before .args .tree .now) (c .before .before .before .before .args .at) (c .before .before .before .before .pre .1) (c .body-at2 .result) (c .body-at2 .ensures) (sym (c .before .before .mark-at .ensures .0) ∙ c .before .match .keys3) .accepted
+refers-to-array-requires t c κs = ref-child (c .before .before .before .before .args .left) (c .before .before .before .before .args .tree .now) (c .before .before .before .before .args .at) (c .before .before .mark-at .result) (c .before .before .mark-at .ensures .0) (c .before .before .before .before .pre .1) (c .body-at2 .result) (c .body-at2 .ensures) (c .before .match .keys3) .accepted
 
 returns : (t : ℕ) → is-array-type-lts.Need-returns (calls t) (this t) reads.Post
-returns t c = sym (type-array (c .before .before .before .args .left) (c .before .before .before .args .tree .now) (c .before .before .before .args .at) (⊎-elim (λ e. inr (sym (c .before .mark-at .ensures .0) ∙ e)) (λ e. inl (sym (c .before .mark-at .ensures .0) ∙ e)) (c .match .keys1)))
+returns t c = sym (type-array (c .before .before .before .args .left) (c .before .before .before .args .tree .now) (c .before .before .before .args .at) (c .before .mark-at .result) (c .before .mark-at .ensures .0) (c .match .keys1))
 
 returns-2 : (t : ℕ) → is-array-type-lts.Need-returns-2 (calls t) (this t) reads.Post
-returns-2 t c = c .is-array-type .ensures ∙
-    sym (type-readonly (c .before .before .before .before .before .args .left) (c .before .before .before .before .before .args .tree .now) (c .before .before .before .before .before .args .at) (c .before .before .before .before .before .pre .1) (c .before .body-at .result) (c .before .body-at .ensures) (sym (c .before .before .before .mark-at .ensures .0) ∙ c .before .before .match .keys2))
+returns-2 t c = c .is-array-type .ensures ∙ sym (type-readonly (c .before .before .before .before .before .args .left) (c .before .before .before .before .before .args .tree .now) (c .before .before .before .before .before .args .at) (c .before .before .before .mark-at .result) (c .before .before .before .mark-at .ensures .0) (c .before .before .before .before .before .pre .1) (c .before .body-at .result) (c .before .body-at .ensures) (c .before .before .match .keys2))
 
 returns-3 : (t : ℕ) → is-array-type-lts.Need-returns-3 (calls t) (this t) reads.Post
-returns-3 t c = c .refers-to-array .ensures ∙
-    sym (type-ref (c .before .before .before .before .before .args .left) (c .before .before .before .before .before .args .tree .now) (c .before .before .before .before .before .args .at) (c .before .before .before .before .before .pre .1) (c .before .body-at2 .result) (c .before .body-at2 .ensures) (sym (c .before .before .before .mark-at .ensures .0) ∙ c .before .before .match .keys3))
+returns-3 t c = c .refers-to-array .ensures ∙ sym (type-ref (c .before .before .before .before .before .args .left) (c .before .before .before .before .before .args .tree .now) (c .before .before .before .before .before .args .at) (c .before .before .before .mark-at .result) (c .before .before .before .mark-at .ensures .0) (c .before .before .before .before .before .pre .1) (c .before .body-at2 .result) (c .before .body-at2 .ensures) (c .before .before .match .keys3))
 
 returns-4 : (t : ℕ) → is-array-type-lts.Need-returns-4 (calls t) (this t) reads.Post
-returns-4 t c =
-    sym (type-other (c .before .before .before .args .left) (c .before .before .before .args .tree .now) (c .before .before .before .args .at)
-    (λ h. c .match .rest .0 .0 .1 (⊎-elim (λ e. inr (c .before .mark-at .ensures .0 ∙ e)) (λ e. inl (c .before .mark-at .ensures .0 ∙ e)) h))
-    (λ e. c .match .rest .0 .1 (c .before .mark-at .ensures .0 ∙ e))
-    (λ e. c .match .rest .1 (c .before .mark-at .ensures .0 ∙ e)))
+returns-4 t c = sym (type-other (c .before .before .before .args .left) (c .before .before .before .args .tree .now) (c .before .before .before .args .at) (c .before .mark-at .result) (c .before .mark-at .ensures .0) (c .match .rest .0 .0 .1) (c .match .rest .0 .1) (c .match .rest .1))
 
 pub +is-array-type-spec : {M : Type 1} → statement M
 +is-array-type-spec =

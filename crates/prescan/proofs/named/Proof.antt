@@ -18,7 +18,7 @@ mark-at-requires : tie.Need-mark-at-requires
 mark-at-requires c κs = itself (c .before .before .args .left) (c .before .before .args .tree .now) (c .before .before .args .at) (c .before .before .pre) .room
 
 returns : tie.Need-returns
-returns c = sym (named-other (c .before .before .before .before .args .left) (c .before .before .before .before .args .tree .now) (c .before .before .before .before .args .at) (c .before .before .before .before .args .name .now) (λ e. c .if1 .taken (c .before .mark-at .ensures .0 ∙ e)))
+returns c = sym (named-other (c .before .before .before .before .args .left) (c .before .before .before .before .args .tree .now) (c .before .before .before .before .args .at) (c .before .mark-at .result) (c .before .mark-at .ensures .0) (c .before .before .before .before .args .name .now) (c .if1 .taken))
 
 text-at-requires : tie.Need-text-at-requires
 text-at-requires c κs = itself (c .before .before .before .before .args .left) (c .before .before .before .before .args .tree .now) (c .before .before .before .before .args .at) (c .before .before .before .before .pre) .fits
@@ -28,8 +28,7 @@ same-text-requires c κs = search needs
 
 returns-2 : tie.Need-returns-2
 returns-2 c =
-    c .same-text .ensures ∙ ap (λ (l : List ℕ). sameText l (c .before .before .before .before .before .before .args .name .now)) (c .before .text-at .ensures) ∙
-    sym (named-is (c .before .before .before .before .before .before .args .left) (c .before .before .before .before .before .before .args .tree .now) (c .before .before .before .before .before .before .args .at) (c .before .before .before .before .before .before .args .name .now) (sym (c .before .before .before .mark-at .ensures .0) ∙ c .before .before .if1 .left))
+    c .same-text .ensures ∙ ap (λ (l : List ℕ). sameText l (c .before .before .before .before .before .before .args .name .now)) (c .before .text-at .ensures) ∙ sym (named-is (c .before .before .before .before .before .before .args .left) (c .before .before .before .before .before .before .args .tree .now) (c .before .before .before .before .before .before .args .at) (c .before .before .before .mark-at .result) (c .before .before .before .mark-at .ensures .0) (c .before .before .before .before .before .before .args .name .now) (c .before .before .if1 .left))
 
 pub named-spec : {M : Type 1} → statement M
 named-spec =

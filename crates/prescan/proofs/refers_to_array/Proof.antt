@@ -19,11 +19,10 @@ mark-at-requires : tie.Need-mark-at-requires
 mark-at-requires c κs = itself (c .before .args .left) (c .before .args .tree .now) (c .before .args .at) (c .before .pre) .room
 
 returns : tie.Need-returns
-returns c = sym (refers-other (c .before .before .before .args .left) (c .before .before .before .args .tree .now) (c .before .before .before .args .at) (λ e. c .if1 .taken (c .before .mark-at .ensures .0 ∙ e)))
+returns c = sym (refers-other (c .before .before .before .args .left) (c .before .before .before .args .tree .now) (c .before .before .before .args .at) (c .before .mark-at .result) (c .before .mark-at .ensures .0) (c .if1 .taken))
 
 symbol-at-requires : tie.Need-symbol-at-requires
-symbol-at-requires c κs =
-    (itself (c .before .before .before .args .left) (c .before .before .before .args .tree .now) (c .before .before .before .args .at) (c .before .before .before .pre) .fits, id-text (c .before .before .before .args .left) (c .before .before .before .args .tree .now) (c .before .before .before .args .at) (c .before .before .before .pre) (sym (c .before .mark-at .ensures .0) ∙ c .if1 .left))
+symbol-at-requires c κs = (itself (c .before .before .before .args .left) (c .before .before .before .args .tree .now) (c .before .before .before .args .at) (c .before .before .before .pre) .fits, id-text (c .before .before .before .args .left) (c .before .before .before .args .tree .now) (c .before .before .before .args .at) (c .before .before .before .pre) (sym (c .before .mark-at .ensures .0) ∙ c .if1 .left))
 
 slice-aggregate-same-text : tie.Need-slice-aggregate-same-text
 slice-aggregate-same-text c = search needs
@@ -32,9 +31,7 @@ same-text-requires : tie.Need-same-text-requires
 same-text-requires c κs = search needs
 
 returns-2 : tie.Need-returns-2
-returns-2 c =
-    sym (refers-array (c .before .before .before .before .before .before .before .args .left) (c .before .before .before .before .before .before .before .args .tree .now) (c .before .before .before .before .before .before .before .args .at) (sym (c .before .before .before .before .before .mark-at .ensures .0) ∙ c .before .before .before .before .if1 .left)
-    (ap (λ (l : List ℕ). sameText l (text "Array")) (sym (c .before .before .before .symbol-at .ensures)) ∙ sym (c .before .same-text .ensures) ∙ c .if2 .taken))
+returns-2 c = sym (refers-array (c .before .before .before .before .before .before .before .args .left) (c .before .before .before .before .before .before .before .args .tree .now) (c .before .before .before .before .before .before .before .args .at) (c .before .before .before .before .before .mark-at .result) (c .before .before .before .before .before .mark-at .ensures .0) (c .before .before .before .before .if1 .left) (c .before .before .before .symbol-at .result .now) (c .before .before .before .symbol-at .ensures) (sym (c .before .same-text .ensures) ∙ c .if2 .taken))
 
 slice-aggregate-same-text-2 : tie.Need-slice-aggregate-same-text-2
 slice-aggregate-same-text-2 c = search needs
@@ -43,10 +40,7 @@ same-text-requires-2 : tie.Need-same-text-requires-2
 same-text-requires-2 c κs = search needs
 
 returns-3 : tie.Need-returns-3
-returns-3 c =
-    c .same-text2 .ensures ∙ ap (λ (l : List ℕ). sameText l (text "ReadonlyArray")) (c .before .before .before .before .before .symbol-at .ensures) ∙
-    sym (refers-readonly (c .before .before .before .before .before .before .before .before .before .args .left) (c .before .before .before .before .before .before .before .before .before .args .tree .now) (c .before .before .before .before .before .before .before .before .before .args .at) (sym (c .before .before .before .before .before .before .before .mark-at .ensures .0) ∙ c .before .before .before .before .before .before .if1 .left)
-    (ap (λ (l : List ℕ). sameText l (text "Array")) (sym (c .before .before .before .before .before .symbol-at .ensures)) ∙ sym (c .before .before .before .same-text .ensures) ∙ c .before .before .if2 .left))
+returns-3 c = c .same-text2 .ensures ∙ sym (refers-readonly (c .before .before .before .before .before .before .before .before .before .args .left) (c .before .before .before .before .before .before .before .before .before .args .tree .now) (c .before .before .before .before .before .before .before .before .before .args .at) (c .before .before .before .before .before .before .before .mark-at .result) (c .before .before .before .before .before .before .before .mark-at .ensures .0) (c .before .before .before .before .before .before .if1 .left) (c .before .before .before .before .before .symbol-at .result .now) (c .before .before .before .before .before .symbol-at .ensures) (sym (c .before .before .before .same-text .ensures) ∙ c .before .before .if2 .left))
 
 pub refers-to-array-spec : {M : Type 1} → statement M
 refers-to-array-spec =
