@@ -3,13 +3,13 @@ use mathlib.Core.Path.{_≡_, refl, sym, ap, _∙_}
 use mathlib.Core.List.{List, [], _∷_}
 use mathlib.Core.Bool.{Bool, true, false, cond, not, _&&_, _||_}
 use mathlib.Core.Logic.{_⊎_, inl, inr, ⊎-elim}
-use Prim.Native.Nat.{ℕ, zero, suc, _+_, _-_, _<_, _≤_}
+use Prim.Native.Nat.{ℕ, _-_, _/_, _%_, _<_, _≤_}
 use native.Mathlib.Omega.{arith}
 use lib.Dec.{eqb}
 use lib.ListN.{drop}
 use borrow.Author.Tests.{eq-eqb, ne-eqb}
-use Rattle.definition.specs.Tree.{Head, Rec, Recs, rec, nil, cons, markAt, countAt, textAt, bodyAt, headAt, readAll, endAt, treeAt}
-use Rattle.definition.specs.Grammar.{mark, type, expression, pattern, optional, grammar, known, slots, place}
+use Rattle.definition.specs.Tree.{Head, Rec, Recs, rec, nil, cons, markAt, flagsAt, countAt, textAt, bodyAt, headAt, readAll, endAt, treeAt}
+use Rattle.definition.specs.Grammar.{mark, marks, member, _or_, declaration, type, expression, pattern, optional, grammar, known, slots, place}
 use Rattle.definition.specs.Children.{AcceptedAt, AllAccepted}
 use Rattle.definition.specs.Record.{text, sameText, headOf, kidsOf, markOf, textOf, is, isNo, symbolOf, has2, kid}
 use Rattle.definition.specs.Prescan.{
@@ -41,13 +41,23 @@ use Rattle.definition.specs.Prescan.{
   named,
   addDeclarator,
   addDeclarators,
+  Declared,
+  Declared.dFn,
+  Declared.dClass,
+  Declared.dVar,
+  Declared.dOther,
+  declaredKind,
+  addDeclBy,
+  addFn,
   addDecl,
   addItem,
   asked,
 }
 use Rattle.records.specs.Whole.{Whole}
 use Rattle.records.proofs.Whole.{accepted-whole}
-use Rattle.definition.proofs.Kids.{fixed, Child, placed, head-is, mark-is, first-in, second-in}
+use Rattle.definition.proofs.Kids.{fixed, Child, placed, wider, member-one, head-is, mark-is, flags-is, kids-are, first-in, second-in}
+use Rattle.definition.proofs.Children.{children, first-one, others, readAll-more, readAll-none}
+use Rattle.prescan.specs.Question.{addVar}
 
 -- an accepted record lies in the tree, as `record_end` asks
 pub lies : {left : ℕ} {s : List ℕ} {at : ℕ} → AcceptedAt left s at → Whole left s at
@@ -284,3 +294,168 @@ module _ (left : ℕ) (s : List ℕ) (at m : ℕ) (mq : m ≡ markAt s at) (q : 
           pub declarator-named : (v : ℕ) → v ≡ endAt (left - 1) s p → named name (treeAt (left - 1 - 1) s i) ≡ true →
               addDeclarator q name (treeAt left s at) ≡ addConst q (treeAt (left - 1 - 1) s t) (treeAt (left - 1) s v)
           declarator-named v r n = named-by-ident ∙ rw (n, type-child .tree, init-child v r .tree)
+
+-- ---- a search among siblings
+
+-- with n of the records `whole` left, the first of them at c: they are accepted, and the answer F for all of them is the one for those left
+pub record Seek (F : Recs → Bool) (whole : Recs) (left : ℕ) (s : List ℕ) (n c : ℕ) : Type 0 where
+  pub all : AllAccepted left s n c
+  pub rest : F whole ≡ F (readAll (treeAt left s) (endAt left s) n c)
+
+pub seek-start : (F : Recs → Bool) (left : ℕ) (s : List ℕ) (at : ℕ) → AcceptedAt left s at → (n c : ℕ) → n ≡ countAt s at → c ≡ bodyAt s at →
+    Seek F (kidsOf (treeAt left s at)) (left - 1) s n c
+seek-start F left s at a n c nq cq = rw (nq, cq) (record { all = children left s at a; rest = ap F (kids-are left s at a) })
+
+-- where F is f of some record
+module _ (F : Recs → Bool) (f : Rec → Bool) (step : (r : Rec) (rs : Recs) → F (cons r rs) ≡ (f r || F rs)) (none : F nil ≡ false) (whole : Recs) (left : ℕ) (s : List ℕ) (n c : ℕ) (i : Seek F whole left s n c) where
+  pub seek-first : 0 < n → AcceptedAt left s c
+  seek-first h = first-one left s n c (i .all) h
+
+  turn : 0 < n → F whole ≡ (f (treeAt left s c) || F (readAll (treeAt left s) (endAt left s) (n - 1) (endAt left s c)))
+  turn h = i .rest ∙ (ap F (readAll-more (treeAt left s) (endAt left s) n c h) ∙ step (treeAt left s c) (readAll (treeAt left s) (endAt left s) (n - 1) (endAt left s c)))
+
+  pub seek-here : 0 < n → f (treeAt left s c) ≡ true → F whole ≡ true
+  seek-here h e = turn h ∙ rw e
+
+  pub seek-next : 0 < n → f (treeAt left s c) ≡ false → (d : ℕ) → d ≡ endAt left s c → Seek F whole left s (n - 1) d
+  seek-next h e d dq = rw dq (record { all = others left s n c (i .all) h; rest = turn h ∙ rw e })
+
+  pub seek-done : n ≤ 0 → F whole ≡ false
+  seek-done h = i .rest ∙ (ap F (readAll-none (treeAt left s) (endAt left s) n c h) ∙ none)
+
+-- ---- the declarators of a const
+
+module _ (q : Question) (name : List ℕ) where
+  abbrev pub Declares : Recs → Bool
+  Declares ks = addDeclarators q name ks
+
+  pub declares-step : (r : Rec) (rs : Recs) → Declares (cons r rs) ≡ (addDeclarator q name r || Declares rs)
+  unfolding addDeclarators
+  declares-step r rs = refl
+
+  pub declares-none : Declares nil ≡ false
+  unfolding addDeclarators
+  declares-none = refl
+
+-- f is the record's flags
+module _ (left : ℕ) (s : List ℕ) (at f : ℕ) (fq : f ≡ flagsAt s at) (q : Question) (name : List ℕ) where
+  var-by : addVar q name (treeAt left s at) ≡ (eqb (f / 2 % 2) 1 && addDeclarators q name (kidsOf (treeAt left s at)))
+  var-by = ap (λ (k : ℕ). eqb (k / 2 % 2) 1 && addDeclarators q name (kidsOf (treeAt left s at))) (flags-is left s at ∙ sym fq)
+
+  pub var-other : (f / 2 % 2 ≡ 1 → ⊥) → addVar q name (treeAt left s at) ≡ false
+  var-other n = var-by ∙ rw (ne-eqb (f / 2 % 2) 1 n)
+
+  pub var-const : f / 2 % 2 ≡ 1 → addVar q name (treeAt left s at) ≡ addDeclarators q name (kidsOf (treeAt left s at))
+  var-const e = var-by ∙ rw (eq-eqb (f / 2 % 2) 1 e)
+
+-- ---- a declaration
+
+module _ (left : ℕ) (s : List ℕ) (at m : ℕ) (mq : m ≡ markAt s at) (q : Question) (name : List ℕ) where
+  decl-by : (k : Declared) → declaredKind m ≡ k → addDecl q name (treeAt left s at) ≡ addDeclBy k q name (treeAt left s at)
+  decl-by k e = ap (λ (j : Declared). addDeclBy j q name (treeAt left s at)) (ap declaredKind (mark-is left s at ∙ sym mq) ∙ e)
+
+  pub decl-var : m ≡ mark "Vd" → addDecl q name (treeAt left s at) ≡ addVar q name (treeAt left s at)
+  unfolding declaredKind addDeclBy
+  decl-var e = decl-by dVar (rw e)
+
+  abbrev pub Fn : Type 0
+  Fn = (m ≡ mark "Fd") ⊎ (m ≡ mark "Fx")
+
+  abbrev pub Class : Type 0
+  Class = (m ≡ mark "Cd") ⊎ (m ≡ mark "Cx")
+
+  pub decl-other : (Fn → ⊥) → (Class → ⊥) → (m ≡ mark "Vd" → ⊥) → addDecl q name (treeAt left s at) ≡ false
+  unfolding declaredKind addDeclBy
+  decl-other f c v =
+      decl-by dOther
+      (rw (ne-eqb m (mark "Fd") (λ e. f (inl e)), ne-eqb m (mark "Fx") (λ e. f (inr e)), ne-eqb m (mark "Cd") (λ e. c (inl e)), ne-eqb m (mark "Cx") (λ e. c (inr e)), ne-eqb m (mark "Vd") v))
+
+  -- the name stands at p
+  module _ (a : AcceptedAt left s at) (p : ℕ) (pq : p ≡ bodyAt s at) where
+    pub fn-ident : Fn → Child left s at 0 p (optional "Id")
+    unfolding grammar known slots place fixed marks member
+    fn-ident h = placed (⊎-elim
+        (λ (e : m ≡ mark "Fd"). wider (first-in left s at a (mark "Fd") (sym mq ∙ e) refl "Id" refl) (optional "Id") refl)
+        (λ (e : m ≡ mark "Fx"). first-in left s at a (mark "Fx") (sym mq ∙ e) refl (optional "Id") refl)
+        h) pq
+
+    fn-by : Fn → addDecl q name (treeAt left s at) ≡ (named name (treeAt (left - 1) s p) && addFn q)
+    unfolding declaredKind addDeclBy
+    fn-by h = decl-by dFn (⊎-elim (λ (e : m ≡ mark "Fd"). rw e) (λ (e : m ≡ mark "Fx"). rw e) h) ∙ rw (fn-ident h .tree)
+
+    pub decl-fn : Fn → named name (treeAt (left - 1) s p) ≡ true → addDecl q name (treeAt left s at) ≡ addFn q
+    decl-fn h n = fn-by h ∙ rw n
+
+    pub fn-unnamed : Fn → named name (treeAt (left - 1) s p) ≡ false → addDecl q name (treeAt left s at) ≡ false
+    fn-unnamed h n = fn-by h ∙ rw n
+
+    pub class-ident : Class → Child left s at 0 p (optional "Id")
+    unfolding grammar known slots place fixed marks member
+    class-ident h = placed (⊎-elim
+        (λ (e : m ≡ mark "Cd"). wider (first-in left s at a (mark "Cd") (sym mq ∙ e) refl "Id" refl) (optional "Id") refl)
+        (λ (e : m ≡ mark "Cx"). first-in left s at a (mark "Cx") (sym mq ∙ e) refl (optional "Id") refl)
+        h) pq
+
+    class-by : Class → addDecl q name (treeAt left s at) ≡ (named name (treeAt (left - 1) s p) && addClass q (kid 1 (kidsOf (treeAt left s at))))
+    unfolding declaredKind addDeclBy
+    class-by h = decl-by dClass (⊎-elim (λ (e : m ≡ mark "Cd"). rw e) (λ (e : m ≡ mark "Cx"). rw e) h) ∙ rw (class-ident h .tree)
+
+    pub class-unnamed : Class → named name (treeAt (left - 1) s p) ≡ false → addDecl q name (treeAt left s at) ≡ false
+    class-unnamed h n = class-by h ∙ rw n
+
+    -- the class stands at d, behind the name
+    module _ (h : Class) (d : ℕ) (dq : d ≡ endAt (left - 1) s p) where
+      pub class-child : Child left s at 1 d "Cl"
+      unfolding grammar known slots place fixed
+      class-child = placed (⊎-elim
+          (λ (e : m ≡ mark "Cd"). second-in left s at a (mark "Cd") (sym mq ∙ e) refl "Cl" refl)
+          (λ (e : m ≡ mark "Cx"). second-in left s at a (mark "Cx") (sym mq ∙ e) refl "Cl" refl)
+          h) (dq ∙ ap (endAt (left - 1) s) pq)
+
+      pub class-mark : markAt s d ≡ mark "Cl"
+      unfolding marks
+      class-mark = member-one (markAt s d) (mark "Cl") (class-child .marks)
+
+      pub decl-class : named name (treeAt (left - 1) s p) ≡ true → addDecl q name (treeAt left s at) ≡ addClass q (treeAt (left - 1) s d)
+      decl-class n = class-by h ∙ rw (n, class-child .tree)
+
+-- ---- an item
+
+module _ (left : ℕ) (s : List ℕ) (at m : ℕ) (mq : m ≡ markAt s at) (q : Question) (name : List ℕ) where
+  abbrev pub Export : Type 0
+  Export = (m ≡ mark "Ed") ⊎ (m ≡ mark "Xd")
+
+  item-by : addItem q name (treeAt left s at) ≡
+      addDecl q name (cond (eqb m (mark "Ed") || eqb m (mark "Xd")) (kid 0 (kidsOf (treeAt left s at))) (treeAt left s at))
+  item-by =
+      ap (λ (j : ℕ). addDecl q name (cond (eqb j (mark "Ed") || eqb j (mark "Xd")) (kid 0 (kidsOf (treeAt left s at))) (treeAt left s at))) (mark-is left s at ∙ sym mq)
+
+  pub item-plain : (Export → ⊥) → addItem q name (treeAt left s at) ≡ addDecl q name (treeAt left s at)
+  item-plain n = item-by ∙ rw (ne-eqb m (mark "Ed") (λ e. n (inl e)), ne-eqb m (mark "Xd") (λ e. n (inr e)))
+
+  module _ (a : AcceptedAt left s at) (p : ℕ) (pq : p ≡ bodyAt s at) (h : Export) where
+    pub export-child : Child left s at 0 p (declaration or "Cx Fx In")
+    unfolding grammar known slots place fixed marks member
+    export-child = placed (⊎-elim
+        (λ (e : m ≡ mark "Ed"). wider (first-in left s at a (mark "Ed") (sym mq ∙ e) refl declaration refl) (declaration or "Cx Fx In") refl)
+        (λ (e : m ≡ mark "Xd"). wider (first-in left s at a (mark "Xd") (sym mq ∙ e) refl "Cx Fx In" refl) (declaration or "Cx Fx In") refl)
+        h) pq
+
+    pub item-export : addItem q name (treeAt left s at) ≡ addDecl q name (treeAt (left - 1) s p)
+    item-export =
+        let b : (eqb m (mark "Ed") || eqb m (mark "Xd")) ≡ true = ⊎-elim (λ (e : m ≡ mark "Ed"). rw e) (λ (e : m ≡ mark "Xd"). rw e) h in
+        item-by ∙ rw (b, export-child .tree)
+
+-- ---- the items of the module
+
+module _ (q : Question) (name : List ℕ) where
+  abbrev pub Asks : Recs → Bool
+  Asks ks = asked q ks name
+
+  pub asks-step : (r : Rec) (rs : Recs) → Asks (cons r rs) ≡ (addItem q name r || Asks rs)
+  unfolding asked
+  asks-step r rs = refl
+
+  pub asks-none : Asks nil ≡ false
+  unfolding asked
+  asks-none = refl

@@ -8,6 +8,7 @@ ghost use Rattle.definition.specs.Children.{AcceptedAt};
 ghost use Rattle.definition.specs.Record.{kidsOf, has2, headOf};
 ghost use Rattle.definition.specs.Prescan.{isArrayType, refersToArray, isArrayLitInit, addFn, addClass, addConst, named, addDeclarator, addDeclarators, addDecl, addItem, asked};
 ghost use Rattle.prescan.specs.Question.{meant, addVar};
+use records::DEEPEST;
 use records::body_at;
 use records::count_at;
 use records::mark_at;
@@ -37,9 +38,6 @@ use records::record_end;
 use records::text::same_text;
 use records::text::symbol_at;
 use records::text_at;
-
-// The levels that the root is read with: "depth over 64 (root is 1)".
-const DEEPEST: usize = 64;
 
 // The sets of `PrescannedModuleIds`.
 pub enum Question {

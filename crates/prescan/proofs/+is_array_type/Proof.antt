@@ -1,5 +1,5 @@
 -- `prescan::is_array_type` meets its contract: in each arm the mark picks the definition's case. The measure is the depth left. Assumes nothing.
-use mathlib.Core.Path.{_≡_, sym, _∙_}
+use mathlib.Core.Path.{sym, _∙_}
 use Prim.Native.Nat.{ℕ, _<_}
 use native.Mathlib.Omega.{arith}
 use borrow.Fn.Kinds.{In}

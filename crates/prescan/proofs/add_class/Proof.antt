@@ -1,5 +1,5 @@
 -- `prescan::add_class` meets its contract. Assumes nothing.
-use mathlib.Core.Path.{_≡_, sym, ap, _∙_}
+use mathlib.Core.Path.{sym, ap, _∙_}
 use Prim.Native.Nat.{ℕ}
 use borrow.Author.Needs.{needs}
 use lib.Dec.{eqb}
@@ -8,10 +8,6 @@ use Rattle.definition.proofs.Children.{itself}
 use Rattle.prescan.proofs.Laws.{params-child, class-plain}
 use Rattle.prescan.proofs.add_class.Statement.{statement}
 use Rattle.prescan.proofs.add_class.Tie as tie
-use Rattle.prescan.proofs.add_class.Reads as reads
-use Rattle.prescan.proofs.add_class.Lts as lts
-use Rattle.records.proofs.body_at.Reads as body-at-reads
-use Rattle.records.proofs.mark_at.Reads as mark-at-reads
 
 enum-told : tie.Need-enum-told
 enum-told c = search needs

@@ -1,5 +1,5 @@
 -- `prescan::named` meets its contract: the definition's answer is one of the head's mark and text. Assumes nothing.
-use mathlib.Core.Path.{_≡_, sym, ap, _∙_}
+use mathlib.Core.Path.{sym, ap, _∙_}
 use mathlib.Core.List.{List}
 use Prim.Native.Nat.{ℕ}
 use borrow.Author.Needs.{needs}
@@ -8,11 +8,6 @@ use Rattle.definition.proofs.Children.{itself}
 use Rattle.prescan.proofs.Laws.{named-other, named-is}
 use Rattle.prescan.proofs.named.Statement.{statement}
 use Rattle.prescan.proofs.named.Tie as tie
-use Rattle.prescan.proofs.named.Reads as reads
-use Rattle.prescan.proofs.named.Lts as lts
-use Rattle.records.proofs.mark_at.Reads as mark-at-reads
-use Rattle.records.proofs.text.same_text.Reads as same-text-reads
-use Rattle.records.proofs.text_at.Reads as text-at-reads
 
 mark-at-requires : tie.Need-mark-at-requires
 mark-at-requires c κs = itself (c .before .before .args .left) (c .before .before .args .tree .now) (c .before .before .args .at) (c .before .before .pre) .room

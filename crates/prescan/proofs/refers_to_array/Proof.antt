@@ -1,19 +1,11 @@
 -- `prescan::refers_to_array` meets its contract: the definition's answer is one of the head's mark and text. Assumes nothing.
-use mathlib.Core.Path.{_≡_, sym, ap, _∙_}
-use mathlib.Core.List.{List}
-use Prim.Native.Nat.{ℕ}
+use mathlib.Core.Path.{sym, _∙_}
 use borrow.Author.Needs.{needs}
-use Rattle.definition.specs.Record.{text, sameText}
 use Rattle.definition.proofs.Children.{itself}
 use Rattle.definition.proofs.Kids.{id-text}
 use Rattle.prescan.proofs.Laws.{refers-other, refers-array, refers-readonly}
 use Rattle.prescan.proofs.refers_to_array.Statement.{statement}
 use Rattle.prescan.proofs.refers_to_array.Tie as tie
-use Rattle.prescan.proofs.refers_to_array.Reads as reads
-use Rattle.prescan.proofs.refers_to_array.Lts as lts
-use Rattle.records.proofs.mark_at.Reads as mark-at-reads
-use Rattle.records.proofs.text.same_text.Reads as same-text-reads
-use Rattle.records.proofs.text.symbol_at.Reads as symbol-at-reads
 
 mark-at-requires : tie.Need-mark-at-requires
 mark-at-requires c κs = itself (c .before .args .left) (c .before .args .tree .now) (c .before .args .at) (c .before .pre) .room
