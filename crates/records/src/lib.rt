@@ -45,6 +45,7 @@ pub struct Head {
     pub count: usize,
 }
 
+// A byte as a wider number.
 fn wide16(b: u8) -> u16
     ensures { λ r. ⌜ (r ≡ b) × (r < 256) ⌝ }
 {
@@ -192,7 +193,7 @@ pub fn put4(out: &mut [u8], p: usize, v: u32)
     }
 }
 
-// The same two where there is room for all of it.
+// `put2` and `put4` where there is room for all of it: no test.
 fn set2(out: &mut [u8], p: usize, v: usize)
     requires { ⌜ p + 2 ≤ length (now out) ⌝ }
     ensures { λ _. ⌜ now (out .exit) ≡ sets (now (out .entry)) p (le2 v) ⌝ }
@@ -211,7 +212,7 @@ fn set4(out: &mut [u8], p: usize, v: u32)
     out[p + 3] = (v / 16777216 % 256) as u8;
 }
 
-// A head where there is room for all of it.
+// A head where there is room for all of it: no test.
 fn set_head(out: &mut [u8], p: usize, h: Head)
     requires { ⌜ p + headSize ≤ length (now out) ⌝ }
     ensures { λ _. ⌜ now (out .exit) ≡ sets (now (out .entry)) p (fieldBytes h) ⌝ }
@@ -251,7 +252,7 @@ pub fn put_head(out: &mut [u8], p: usize, h: Head) -> usize
     end
 }
 
-// A copy between parts of equal length.
+// A copy between two parts of equal length: no test inside the loop.
 fn copy(to: &mut [u8], from: &[u8])
     requires { ⌜ length (now to) ≡ length (now from) ⌝ }
     ensures { λ _. ⌜ now (to .exit) ≡ now (from .entry) ⌝ }
