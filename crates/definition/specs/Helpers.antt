@@ -74,9 +74,9 @@ objectFreezeCallArg ctx nil = false
 objectFreezeCallArg ctx (cons callee nil) = false
 objectFreezeCallArg ctx (cons callee (cons arg rest)) =
     is "Mb" callee && (
-      isGlobal ctx "Object" (kid 0 (kidsOf callee)) && (
-        (is "Ki" (kid 1 (kidsOf callee)) && sameText (textOf (kid 1 (kidsOf callee))) (text "freeze")) && (
-          not (is "Op" arg) && (ends rest && not (is "Sp" arg)))))
+    isGlobal ctx "Object" (kid 0 (kidsOf callee)) && (
+    (is "Ki" (kid 1 (kidsOf callee)) && sameText (textOf (kid 1 (kidsOf callee))) (text "freeze")) && (
+    not (is "Op" arg) && (ends rest && not (is "Sp" arg)))))
 
 -- ---- `tpl_to_ts_type`
 

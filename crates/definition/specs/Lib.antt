@@ -6,3 +6,7 @@ pub mod Helpers
 pub mod Prescan
 pub mod Names
 pub mod Typing
+pub mod Classes
+pub mod Enums
+pub mod Items
+pub mod Transform

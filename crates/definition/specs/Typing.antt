@@ -146,7 +146,7 @@ elementKind m = cond (eqb m (mark "No")) eHole (cond (eqb m (mark "Sp")) eSpread
 
 -- `typed` types the element, `spread` the array that a Sp spreads, `rest` the elements after it
 unfoldable pub elementBy :
-  Element → Head → (ℕ → Out (Option Rec)) → (ℕ → Out (Option Rec)) → (ℕ → Out (Option Recs)) → ℕ → Out (Option Recs)
+    Element → Head → (ℕ → Out (Option Rec)) → (ℕ → Out (Option Rec)) → (ℕ → Out (Option Recs)) → ℕ → Out (Option Recs)
 elementBy eHole h typed spread rest n = element anyTypeAnn [] (rest n)
 elementBy eSpread h typed spread rest n =
     let o : Out (Option Rec) = spread n in
@@ -334,14 +334,14 @@ module _ (ids : PrescannedModuleIds) (ctx : ℕ) where
     pub exprToTsType : Rec → Bool → Bool → ℕ → Out (Option Rec)
     exprToTsType (rec h ks) c r n =
         exprBy (exprKind (h .mark)) h ks c r
-          (record {
-            first = λ c r n. typeFirst ks c r n;
-            second = λ c r n. typeSecond ks c r n;
-            elements = λ c r n. elements ks c r n;
-            props = λ c r n. props ks c r n;
-            fn = λ n. fnSecond ks n;
-            params = λ n. arrowParams ks 2 n
-          }) n
+        (record {
+          first = λ c r n. typeFirst ks c r n;
+          second = λ c r n. typeSecond ks c r n;
+          elements = λ c r n. elements ks c r n;
+          props = λ c r n. props ks c r n;
+          fn = λ n. fnSecond ks n;
+          params = λ n. arrowParams ks 2 n;
+        }) n
 
     pub typeFirst : Recs → Bool → Bool → ℕ → Out (Option Rec)
     typeFirst nil c r n = pure none n
