@@ -230,6 +230,12 @@ module-of ks = node "Mo" ks
 abbrev default-array : Rec
 default-array = at 0 18 (module-of (one (at 0 18 (node "Xe" (one (at 15 17 (node "Ar" nil)))))))
 
+abbrev default-array-out : Rec
+default-array-out =
+    at 0 18 (module-of (two
+    (var 3 (node "Bd" (two (id 0 "_dts_1") (node "Ro" (one (at 15 17 (node "Tu" nil)))))) absent)
+    (at 0 18 (node "Xe" (one (id 0 "_dts_1"))))))
+
 -- `const a = b;`
 abbrev const-a-b : Rec
 const-a-b = module-of (one (var 2 (at 6 7 (name "a" absent)) (id 1 "b")))
@@ -273,6 +279,12 @@ array-spread =
     (var 2 (name "a" local-array) (node "Ar" nil))
     (var 2 (name "b" absent) (node "Ar" (one (node "Sp" (one (id 2 "a")))))))
 
+abbrev array-spread-out : Rec
+array-spread-out =
+    module-of (two
+    (var 3 (name "a" local-array) absent)
+    (var 3 (name "b" (node "Ro" (one (node "Tu" (one (node "Tm" (two absent (node "Rt" (one (node "Tf" (one (id 2 "a")))))))))))) absent))
+
 -- `export default 1; namespace N { declare const a: any; export default 1; } export default 1;`
 abbrev default-one : Rec
 default-one = node "Xe" (one (leaf "Nu" (rest 8)))
@@ -296,11 +308,7 @@ namespaces-out =
 
 unfoldable samples : List Sample
 samples =
-    accepted default-array
-    (at 0 18 (module-of (two
-    (var 3 (node "Bd" (two (id 0 "_dts_1") (node "Ro" (one (at 15 17 (node "Tu" nil)))))) absent)
-    (at 0 18 (node "Xe" (one (id 0 "_dts_1")))))))
-    170 0 [] ∷
+    accepted default-array default-array-out 170 0 [] ∷
     accepted const-a-b (module-of (one (var 3 (at 6 7 (name "a" (keyword "any"))) absent))) 113 1 (diag "d2" 6 7 ∷ []) ∷
     refuses (encode (module-of nil)) (rest 9) 99 99 2 0 ∷
     refuses [] [] 99 99 3 0 ∷
@@ -320,11 +328,7 @@ samples =
     } ∷
     makes minus-zero (module-of (one (var 3 (name "a" (node "Tl" (one (leaf "Bi" (0 ∷ text "0"))))) absent))) [] ∷
     makes object-spread (module-of (one (var 3 (name "a" (node "Li" nil)) absent))) (diag "d4" 12 17 ∷ []) ∷
-    makes array-spread
-    (module-of (two
-    (var 3 (name "a" local-array) absent)
-    (var 3 (name "b" (node "Ro" (one (node "Tu" (one (node "Tm" (two absent (node "Rt" (one (node "Tf" (one (id 2 "a")))))))))))) absent)))
-    [] ∷
+    makes array-spread array-spread-out [] ∷
     makes namespaces namespaces-out [] ∷
     []
 
