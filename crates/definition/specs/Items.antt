@@ -132,9 +132,9 @@ declared top h = withFlags h (flag1 top (h .flags))
 abbrev pub exportOf : Head → Recs → Out (Option Rec) → Out Recs
 exportOf h ops o = given (o .0) (nil, o .1 ++ (diag "d1" h ∷ []), o .2) (λ d. (one (rec h (cons d ops)), o .1, o .2))
 
--- a statement that has become a declaration, or none
-abbrev pub stmtOf : Out (Option Rec) → Out Recs
-stmtOf o = onValue (λ (d : Option Rec). given d nil one) o
+-- a statement at h, once its declaration has become another, or none
+abbrev pub stmtOf : Head → Out (Option Rec) → Out Recs
+stmtOf h o = given (o .0) (nil, o .1 ++ (diag "d1" h ∷ []), o .2) (λ d. (one d, o .1, o .2))
 
 module _ (list : List ℕ) (ctx : ℕ) (ty : Typing) where
   -- `decl_to_type_decl`; `ns` transforms the children of an Ns. "Exported Us gives d5 at Us"
@@ -149,11 +149,11 @@ module _ (list : List ℕ) (ctx : ℕ) (ty : Typing) where
 
   -- `transform_module_stmt`: "Fd goes if the range is in the overload list"; "In, Ty and a bare Us pass"
   unfoldable pub transformModuleStmt : Decl → Head → Recs → Bool → (ℕ → Out Recs) → ℕ → Out Recs
-  transformModuleStmt dFn h ks top ns n = ifM (listed list h) (pure nil) (λ n. stmtOf (declToTypeDecl dFn h ks top ns n)) n
-  transformModuleStmt dClass h ks top ns n = stmtOf (declToTypeDecl dClass h ks top ns n)
-  transformModuleStmt dVar h ks top ns n = stmtOf (declToTypeDecl dVar h ks top ns n)
-  transformModuleStmt dEnum h ks top ns n = stmtOf (declToTypeDecl dEnum h ks top ns n)
-  transformModuleStmt dModule h ks top ns n = stmtOf (declToTypeDecl dModule h ks top ns n)
+  transformModuleStmt dFn h ks top ns n = ifM (listed list h) (pure nil) (λ n. stmtOf h (declToTypeDecl dFn h ks top ns n)) n
+  transformModuleStmt dClass h ks top ns n = stmtOf h (declToTypeDecl dClass h ks top ns n)
+  transformModuleStmt dVar h ks top ns n = stmtOf h (declToTypeDecl dVar h ks top ns n)
+  transformModuleStmt dEnum h ks top ns n = stmtOf h (declToTypeDecl dEnum h ks top ns n)
+  transformModuleStmt dModule h ks top ns n = stmtOf h (declToTypeDecl dModule h ks top ns n)
   transformModuleStmt dUsing h ks top ns n = pure (one (rec h ks)) n
   transformModuleStmt dType h ks top ns n = pure (one (rec h ks)) n
 
