@@ -3,4 +3,5 @@ pub mod Round
 pub mod Accepted
 pub mod Converse
 pub mod Children
+pub mod Kids
 pub mod Samples
