@@ -1,3 +1,13 @@
 pub mod Tree
 pub mod Grammar
 pub mod Check
+pub mod Children
+pub mod Record
+pub mod Helpers
+pub mod Prescan
+pub mod Names
+pub mod Typing
+pub mod Classes
+pub mod Enums
+pub mod Items
+pub mod Transform
