@@ -4,7 +4,8 @@ ghost use Prim.Native.Nat.{_+_, _<_, _≤_};
 ghost use lib.ListN.{length, set};
 ghost use lib.Seq.{sets};
 ghost use Rattle.definition.specs.Tree.{headSize, le2, le4, u16At, u32At, markAt, countAt, bodyAt, textAt, endAt};
-ghost use Rattle.records.specs.Fields.{fieldsAt, fieldBytes, diagBytes};
+ghost use Rattle.definition.specs.Record.{diagBytes};
+ghost use Rattle.records.specs.Fields.{fieldsAt, fieldBytes, diagOf};
 ghost use Rattle.records.specs.Whole.{Whole, partAt};
 ghost use Rattle.records.specs.Wrote.{sat, Put};
 
@@ -292,7 +293,7 @@ pub fn put_record(tree: &[u8], at: usize, left: usize, out: &mut [u8], p: usize)
 
 // A diagnostic with one of the marks `d1` to `d5` at a range, as far as there is room, and the position behind it.
 pub fn put_diagnostic(diagnostics: &mut [u8], d: usize, mark: u16, start: u32, end: u32) -> usize
-    ensures { λ r. ⌜ Put (now (diagnostics .entry)) (now (diagnostics .exit)) d (diagBytes mark start end) r ⌝ }
+    ensures { λ r. ⌜ Put (now (diagnostics .entry)) (now (diagnostics .exit)) d (diagBytes (diagOf mark start end)) r ⌝ }
 {
     let next = advance(d, DIAGNOSTIC_SIZE);
     if diagnostics.len() <= d {
