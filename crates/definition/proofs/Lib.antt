@@ -4,3 +4,5 @@ pub mod Accepted
 pub mod Converse
 pub mod Children
 pub mod Kids
+pub mod Samples
+pub mod CheckSamples
