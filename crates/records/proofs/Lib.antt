@@ -3,3 +3,4 @@ pub mod Stores
 pub mod Whole
 pub mod Wrote
 pub mod Texts
+pub mod Puts
