@@ -4,3 +4,4 @@ pub mod Whole
 pub mod Wrote
 pub mod Texts
 pub mod Puts
+pub mod Accepted

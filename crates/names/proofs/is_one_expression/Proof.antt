@@ -1,55 +1,47 @@
+-- `names::is_one_expression` meets its contract. Assumes nothing.
+use mathlib.Core.Path.{sym, ap, _∙_}
+use Prim.Native.Nat.{ℕ, _-_}
+use native.Mathlib.Omega.{arith}
+use lib.Dec.{eqb}
+use Rattle.definition.specs.Grammar.{mark}
+use Rattle.records.proofs.Accepted.{lies}
+use Rattle.definition.proofs.Children.{itself, some-left}
+use Rattle.names.proofs.Keys.{only-none, first-kid, only-quasi, only-ops, only-one, second-kid, only-before}
 use Rattle.names.proofs.is_one_expression.Statement.{statement}
 use Rattle.names.proofs.is_one_expression.Tie as tie
-use Rattle.names.proofs.is_one_expression.Reads as reads
-use Rattle.names.proofs.is_one_expression.Lts as lts
-use Rattle.records.proofs.body_at.Reads as body-at-reads
-use Rattle.records.proofs.count_at.Reads as count-at-reads
-use Rattle.records.proofs.mark_at.Reads as mark-at-reads
-use Rattle.records.proofs.record_end.Reads as record-end-reads
 
--- src/lib.rt:66:9
 count-at-requires : tie.Need-count-at-requires
-count-at-requires c κs = ?
+count-at-requires c κs = itself (c .before .args .left) (c .before .args .tree .now) (c .before .args .at) (c .before .pre) .room
 
--- src/lib.rt:68:9
 returns : tie.Need-returns
-returns c = ?
+returns c = sym (only-none (c .before .before .before .args .left) (c .before .before .before .args .tree .now) (c .before .before .before .args .at) (c .before .before .before .pre) (c .before .count-at .result) (c .before .count-at .ensures .0) (c .if1 .taken))
 
--- src/lib.rt:70:9
 body-at-requires : tie.Need-body-at-requires
-body-at-requires c κs = ?
+body-at-requires c κs = itself (c .before .before .before .args .left) (c .before .before .before .args .tree .now) (c .before .before .before .args .at) (c .before .before .before .pre) .room
 
--- src/lib.rt:71:9
 mark-at-requires : tie.Need-mark-at-requires
-mark-at-requires c κs = ?
+mark-at-requires c κs = itself (c .before .before .before .before .args .left - 1) (c .before .before .before .before .args .tree .now) (c .body-at .result) (first-kid (c .before .before .before .before .args .left) (c .before .before .before .before .args .tree .now) (c .before .before .before .before .args .at) (c .before .before .before .before .pre) (c .before .before .count-at .result) (c .before .before .count-at .ensures .0) (c .before .if1 .left) (c .body-at .result) (c .body-at .ensures)) .room
 
--- src/lib.rt:73:9
 returns-2 : tie.Need-returns-2
-returns-2 c = ?
+returns-2 c = sym (only-quasi (c .before .before .before .before .before .before .args .left) (c .before .before .before .before .before .before .args .tree .now) (c .before .before .before .before .before .before .args .at) (c .before .before .before .before .before .before .pre) (c .before .before .before .before .count-at .result) (c .before .before .before .before .count-at .ensures .0) (c .before .before .before .if1 .left) (c .before .before .body-at .result) (c .before .before .body-at .ensures) (c .before .mark-at .result) (c .before .mark-at .ensures .0) (c .if2 .taken))
 
--- src/lib.rt:76:9
 returns-3 : tie.Need-returns-3
-returns-3 c = ?
+returns-3 c = sym (only-ops (c .before .before .before .before .before .before .before .args .left) (c .before .before .before .before .before .before .before .args .tree .now) (c .before .before .before .before .before .before .before .args .at) (c .before .before .before .before .before .before .before .pre) (c .before .before .before .before .before .count-at .result) (c .before .before .before .before .before .count-at .ensures .0) (c .before .before .before .before .if1 .left) (c .before .before .before .body-at .result) (c .before .before .before .body-at .ensures) (c .before .before .mark-at .result) (c .before .before .mark-at .ensures .0) (c .if3 .taken))
 
--- src/lib.rt:79:9
 returns-4 : tie.Need-returns-4
-returns-4 c = ?
+returns-4 c = sym (only-one (c .before .before .before .before .before .before .before .before .args .left) (c .before .before .before .before .before .before .before .before .args .tree .now) (c .before .before .before .before .before .before .before .before .args .at) (c .before .before .before .before .before .before .before .before .pre) (c .before .before .before .before .before .before .count-at .result) (c .before .before .before .before .before .before .count-at .ensures .0) (c .before .before .before .before .before .if1 .left) (c .before .before .before .before .body-at .result) (c .before .before .before .before .body-at .ensures) (c .before .before .before .mark-at .result) (c .before .before .before .mark-at .ensures .0) (c .before .before .if2 .left) (c .before .if3 .left) (c .if4 .taken))
 
--- src/lib.rt:81:43
 sub-record-end : tie.Need-sub-record-end
-sub-record-end c = ?
+sub-record-end c = omega (arith, some-left (c .before .before .before .before .before .before .before .before .args .left) (c .before .before .before .before .before .before .before .before .args .tree .now) (c .before .before .before .before .before .before .before .before .args .at) (c .before .before .before .before .before .before .before .before .pre))
 
--- src/lib.rt:81:19
 record-end-requires : tie.Need-record-end-requires
-record-end-requires c κs = ?
+record-end-requires c κs = lies (first-kid (c .before .before .before .before .before .before .before .before .args .left) (c .before .before .before .before .before .before .before .before .args .tree .now) (c .before .before .before .before .before .before .before .before .args .at) (c .before .before .before .before .before .before .before .before .pre) (c .before .before .before .before .before .before .count-at .result) (c .before .before .before .before .before .before .count-at .ensures .0) (c .before .before .before .before .before .if1 .left) (c .before .before .before .before .body-at .result) (c .before .before .before .before .body-at .ensures))
 
--- src/lib.rt:81:5
 mark-at-requires-2 : tie.Need-mark-at-requires-2
-mark-at-requires-2 c κs = ?
+mark-at-requires-2 c κs = itself (c .before .before .before .before .before .before .before .before .before .args .left - 1) (c .before .before .before .before .before .before .before .before .before .args .tree .now) (c .record-end .result) (second-kid (c .before .before .before .before .before .before .before .before .before .args .left) (c .before .before .before .before .before .before .before .before .before .args .tree .now) (c .before .before .before .before .before .before .before .before .before .args .at) (c .before .before .before .before .before .before .before .before .before .pre) (c .before .before .before .before .before .before .before .count-at .result) (c .before .before .before .before .before .before .before .count-at .ensures .0) (c .before .before .before .before .before .before .if1 .left) (c .before .before .before .before .before .body-at .result) (c .before .before .before .before .before .body-at .ensures) (c .before .before .before .before .mark-at .result) (c .before .before .before .before .mark-at .ensures .0) (c .before .before .before .if2 .left) (c .before .before .if3 .left) (c .before .if4 .left) (c .record-end .result) (c .record-end .ensures)) .room
 
--- src/lib.rt:62:1
 returns-5 : tie.Need-returns-5
-returns-5 c = ?
+returns-5 c = ap (λ (k : ℕ). eqb k (mark "Op")) (c .mark-at2 .ensures .0) ∙ sym (only-before (c .before .before .before .before .before .before .before .before .before .before .args .left) (c .before .before .before .before .before .before .before .before .before .before .args .tree .now) (c .before .before .before .before .before .before .before .before .before .before .args .at) (c .before .before .before .before .before .before .before .before .before .before .pre) (c .before .before .before .before .before .before .before .before .count-at .result) (c .before .before .before .before .before .before .before .before .count-at .ensures .0) (c .before .before .before .before .before .before .before .if1 .left) (c .before .before .before .before .before .before .body-at .result) (c .before .before .before .before .before .before .body-at .ensures) (c .before .before .before .before .before .mark-at .result) (c .before .before .before .before .before .mark-at .ensures .0) (c .before .before .before .before .if2 .left) (c .before .before .before .if3 .left) (c .before .before .if4 .left) (c .before .record-end .result) (c .before .record-end .ensures))
 
 pub is-one-expression-spec : {M : Type 1} → statement M
 is-one-expression-spec =

@@ -4,8 +4,9 @@ use Prim.Native.Nat.{ℕ, _<_}
 use native.Mathlib.Omega.{arith}
 use borrow.Fn.Kinds.{In}
 use borrow.Fn.PlainCycle.{Measures, is, falls, and}
+use Rattle.records.proofs.Accepted.{lies}
 use Rattle.definition.proofs.Children.{itself, some-left}
-use Rattle.prescan.proofs.Laws.{lies, init-array, init-other, through-child, init-through, as-expr, as-type, init-as}
+use Rattle.prescan.proofs.Laws.{init-array, init-other, through-child, init-through, as-expr, as-type, init-as}
 use Rattle.prescan.proofs.is_array_lit_init.Reads as reads
 use Rattle.prescan.proofs.is_array_lit_init.Kinds as kinds
 use Rattle.prescan.proofs.+is_array_lit_init.Lts-is_array_lit_init as is-array-lit-init-lts

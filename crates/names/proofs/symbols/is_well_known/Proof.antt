@@ -8,9 +8,6 @@ use Rattle.definition.specs.Names.{wellKnownSymbolNames, anyText}
 use Rattle.names.proofs.Table.{names-long, any-here, any-next, any-end}
 use Rattle.names.proofs.symbols.is_well_known.Statement.{statement}
 use Rattle.names.proofs.symbols.is_well_known.Tie as tie
-use Rattle.names.proofs.symbols.is_well_known.Reads as reads
-use Rattle.names.proofs.symbols.is_well_known.Lts as lts
-use Rattle.names.proofs.symbols.is_name.Reads as is-name-reads
 
 abbrev Inv-loop : tie.InvT-loop
 Inv-loop symbol k₀ k = (k ≤ 16) × (anyText wellKnownSymbolNames symbol ≡ anyText (drop k wellKnownSymbolNames) symbol)

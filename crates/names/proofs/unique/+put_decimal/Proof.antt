@@ -1,5 +1,4 @@
 -- `names::unique::put_decimal` meets its contract: the last digit stands behind the others. The measure is the number. Assumes nothing.
-use mathlib.Core.Path.{_≡_, sym, ap, _∙_}
 use Prim.Native.Nat.{ℕ, _<_, _%_}
 use native.Mathlib.Omega.{arith}
 use borrow.Author.Needs.{needs}

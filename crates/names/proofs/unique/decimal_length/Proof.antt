@@ -3,8 +3,6 @@ use native.Mathlib.Omega.{arith}
 use Rattle.names.proofs.Decimals.{at-most-twenty, Counted, count-start, count-turn, count-done}
 use Rattle.names.proofs.unique.decimal_length.Statement.{statement}
 use Rattle.names.proofs.unique.decimal_length.Tie as tie
-use Rattle.names.proofs.unique.decimal_length.Reads as reads
-use Rattle.names.proofs.unique.decimal_length.Lts as lts
 
 abbrev Inv-loop : tie.InvT-loop
 Inv-loop n rest₀ digits₀ rest digits = Counted n rest digits

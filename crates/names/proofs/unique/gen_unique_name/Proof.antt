@@ -5,10 +5,6 @@ use Rattle.records.proofs.Puts.{put-put}
 use borrow.Author.Needs.{needs}
 use Rattle.names.proofs.unique.gen_unique_name.Statement.{statement}
 use Rattle.names.proofs.unique.gen_unique_name.Tie as tie
-use Rattle.names.proofs.unique.gen_unique_name.Reads as reads
-use Rattle.names.proofs.unique.gen_unique_name.Lts as lts
-use Rattle.names.proofs.unique.put_decimal.Reads as put-decimal-reads
-use Rattle.records.proofs.put_text.Reads as put-text-reads
 
 slice-aggregate-put-text : tie.Need-slice-aggregate-put-text
 slice-aggregate-put-text c = search needs

@@ -4,9 +4,6 @@ use Rattle.names.proofs.Decimals.{length-unique}
 use borrow.Author.Needs.{needs}
 use Rattle.names.proofs.unique.unique_name_length.Statement.{statement}
 use Rattle.names.proofs.unique.unique_name_length.Tie as tie
-use Rattle.names.proofs.unique.unique_name_length.Reads as reads
-use Rattle.names.proofs.unique.unique_name_length.Lts as lts
-use Rattle.names.proofs.unique.decimal_length.Reads as decimal-length-reads
 
 decimal-length-requires : tie.Need-decimal-length-requires
 decimal-length-requires c κs = search needs
