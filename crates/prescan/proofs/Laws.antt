@@ -16,7 +16,7 @@ use Rattle.definition.proofs.Kids.{fixed, Child, placed, wider, member-one, hea
 use Rattle.definition.proofs.Children.{children, first-one, others, readAll-more, readAll-none}
 use Rattle.prescan.specs.Question.{addVar}
 
--- In each module m is the mark of the record at `at`, as the code read it.
+-- In each module m is the mark of the record at `at`, as the code read it, and p the place where its children begin.
 
 -- ---- `is_array_type`
 
@@ -29,7 +29,7 @@ unfolding isArrayType firstIsArrayType arrayTypeKind isArrayTypeBy
 first-type nil = refl
 first-type (cons r rs) = refl
 
-module _ (left : ℕ) (s : List ℕ) (at m : ℕ) (mq : m ≡ markAt s at) where
+module _ {left : ℕ} {s : List ℕ} {at : ℕ} (a : AcceptedAt left s at) {m : ℕ} (mq : m ≡ markAt s at) where
   type-of : (k : ArrayType) → arrayTypeKind m ≡ k →
       isArrayType (treeAt left s at) ≡ isArrayTypeBy k (kidsOf (treeAt left s at)) (isArrayType (kid 0 (kidsOf (treeAt left s at))))
   type-of k e =
@@ -46,7 +46,7 @@ module _ (left : ℕ) (s : List ℕ) (at m : ℕ) (mq : m ≡ markAt s at) where
   type-other n o f =
       type-of aOther (rw (ne-eqb m (mark "Ay") (λ e. n (inr e)), ne-eqb m (mark "Tu") (λ e. n (inl e)), ne-eqb m (mark "Ro") o, ne-eqb m (mark "Rf") f))
 
-  module _ (a : AcceptedAt left s at) (p : ℕ) (pq : p ≡ bodyAt s at) where
+  module _ {p : ℕ} (pq : p ≡ bodyAt s at) where
     -- what a `readonly` stands before
     pub readonly-child : m ≡ mark "Ro" → Child left s at 0 p type
     unfolding grammar known slots place fixed
@@ -65,7 +65,8 @@ module _ (left : ℕ) (s : List ℕ) (at m : ℕ) (mq : m ≡ markAt s at) where
     unfolding arrayTypeKind isArrayTypeBy
     type-ref e = type-of aRef (rw e) ∙ ap refersToArray (ref-child e .tree)
 
-module _ (left : ℕ) (s : List ℕ) (at m : ℕ) (mq : m ≡ markAt s at) where
+  -- ---- the name of a reference
+
   refers-by : refersToArray (treeAt left s at) ≡
       (eqb m (mark "Id") && (sameText (drop 4 (textAt s at)) (text "Array") || sameText (drop 4 (textAt s at)) (text "ReadonlyArray")))
   unfolding headAt
@@ -75,8 +76,8 @@ module _ (left : ℕ) (s : List ℕ) (at m : ℕ) (mq : m ≡ markAt s at) where
   pub refers-other : (m ≡ mark "Id" → ⊥) → refersToArray (treeAt left s at) ≡ false
   refers-other n = refers-by ∙ rw (ne-eqb m (mark "Id") n)
 
-  -- y is the symbol
-  module _ (e : m ≡ mark "Id") (y : List ℕ) (yq : y ≡ drop 4 (textAt s at)) where
+  -- y is its symbol
+  module _ (e : m ≡ mark "Id") {y : List ℕ} (yq : y ≡ drop 4 (textAt s at)) where
     pub refers-array : sameText y (text "Array") ≡ true → refersToArray (treeAt left s at) ≡ true
     refers-array q = refers-by ∙ rw (sym yq, eq-eqb m (mark "Id") e, q)
 
@@ -98,7 +99,7 @@ first-init (cons r rs) = refl
 abbrev pub Through : ℕ → Type 0
 Through m = (m ≡ mark "Tc") ⊎ ((m ≡ mark "Pr") ⊎ (m ≡ mark "Ts"))
 
-module _ (left : ℕ) (s : List ℕ) (at m : ℕ) (mq : m ≡ markAt s at) where
+module _ {left : ℕ} {s : List ℕ} {at : ℕ} (a : AcceptedAt left s at) {m : ℕ} (mq : m ≡ markAt s at) where
   init-of : (k : ArrayInit) → arrayInitKind m ≡ k →
       isArrayLitInit (treeAt left s at) ≡ isArrayLitInitBy k (kidsOf (treeAt left s at)) (isArrayLitInit (kid 0 (kidsOf (treeAt left s at))))
   init-of k e =
@@ -116,7 +117,7 @@ module _ (left : ℕ) (s : List ℕ) (at m : ℕ) (mq : m ≡ markAt s at) where
       init-of iOther
       (rw (ne-eqb m (mark "Ar") r, ne-eqb m (mark "Pr") (λ e. n (inr (inl e))), ne-eqb m (mark "Tc") (λ e. n (inl e)), ne-eqb m (mark "Ts") (λ e. n (inr (inr e))), ne-eqb m (mark "As") o))
 
-  module _ (a : AcceptedAt left s at) (p : ℕ) (pq : p ≡ bodyAt s at) where
+  module _ {p : ℕ} (pq : p ≡ bodyAt s at) where
     pub through-child : Through m → Child left s at 0 p expression
     unfolding grammar known slots place fixed
     through-child h = placed (⊎-elim
@@ -132,12 +133,12 @@ module _ (left : ℕ) (s : List ℕ) (at m : ℕ) (mq : m ≡ markAt s at) where
         init-of iThrough (⊎-elim (λ (e : m ≡ mark "Tc"). rw e) (⊎-elim (λ (e : m ≡ mark "Pr"). rw e) (λ (e : m ≡ mark "Ts"). rw e)) h) ∙
         ap isArrayLitInit (through-child h .tree)
 
-    -- the expression of an As, and its type, which stands behind it
+    -- the expression of an As, and its type, which stands behind it, at t
     pub as-expr : m ≡ mark "As" → Child left s at 0 p expression
     unfolding grammar known slots place fixed
     as-expr e = placed (first-in left s at a (mark "As") (sym mq ∙ e) refl expression refl) pq
 
-    module _ (t : ℕ) (tq : t ≡ endAt (left - 1) s p) where
+    module _ {t : ℕ} (tq : t ≡ endAt (left - 1) s p) where
       pub as-type : m ≡ mark "As" → Child left s at 1 t type
       unfolding grammar known slots place fixed
       as-type e = placed (second-in left s at a (mark "As") (sym mq ∙ e) refl type refl) (tq ∙ ap (endAt (left - 1) s) pq)
@@ -148,7 +149,7 @@ module _ (left : ℕ) (s : List ℕ) (at m : ℕ) (mq : m ≡ markAt s at) where
 
 -- ---- what is declared under a name
 
-module _ (left : ℕ) (s : List ℕ) (at m : ℕ) (mq : m ≡ markAt s at) (name : List ℕ) where
+module _ {left : ℕ} {s : List ℕ} {at : ℕ} (a : AcceptedAt left s at) {m : ℕ} (mq : m ≡ markAt s at) (name : List ℕ) where
   named-by : named name (treeAt left s at) ≡ (eqb m (mark "Id") && sameText (textAt s at) name)
   unfolding headAt
   named-by = rw mq (ap (λ (h : Head). eqb (h .mark) (mark "Id") && sameText (h .text) name) (head-is left s at))
@@ -156,20 +157,20 @@ module _ (left : ℕ) (s : List ℕ) (at m : ℕ) (mq : m ≡ markAt s at) (name
   pub named-other : (m ≡ mark "Id" → ⊥) → named name (treeAt left s at) ≡ false
   named-other n = named-by ∙ rw (ne-eqb m (mark "Id") n)
 
-  pub named-is : m ≡ mark "Id" → named name (treeAt left s at) ≡ sameText (textAt s at) name
-  named-is e = named-by ∙ rw (eq-eqb m (mark "Id") e)
+  pub named-is : m ≡ mark "Id" → {t : List ℕ} → t ≡ textAt s at → named name (treeAt left s at) ≡ sameText t name
+  named-is e {t} tq = named-by ∙ rw (eq-eqb m (mark "Id") e, tq)
 
 -- `add_class`: the type parameters of a Cl
-module _ (left : ℕ) (s : List ℕ) (at : ℕ) (a : AcceptedAt left s at) (e : markAt s at ≡ mark "Cl") (p : ℕ) (pq : p ≡ bodyAt s at) where
+module _ {left : ℕ} {s : List ℕ} {at : ℕ} (a : AcceptedAt left s at) (e : markAt s at ≡ mark "Cl") {p : ℕ} (pq : p ≡ bodyAt s at) where
   pub params-child : Child left s at 0 p (optional "Op")
   unfolding grammar known slots place fixed
   params-child = placed (first-in left s at a (mark "Cl") e refl (optional "Op") refl) pq
 
-  pub class-plain : addClass nonGenericClass (treeAt left s at) ≡ eqb (markAt s p) (mark "No")
-  class-plain = ap isNo (params-child .tree) ∙ ap (λ (k : ℕ). eqb k (mark "No")) (mark-is (left - 1) s p)
+  pub class-plain : {w : ℕ} → w ≡ markAt s p → addClass nonGenericClass (treeAt left s at) ≡ eqb w (mark "No")
+  class-plain {w} wq = ap isNo (params-child .tree) ∙ ap (λ (k : ℕ). eqb k (mark "No")) (mark-is (left - 1) s p ∙ sym wq)
 
--- a const with the type at t, whose mark is m, and the init at v
-module _ (l k : ℕ) (s : List ℕ) (t m : ℕ) (mq : m ≡ markAt s t) (v : ℕ) where
+-- a const with the type at t, whose mark is m, and the init at v, whose mark is w
+module _ {l k : ℕ} {s : List ℕ} {t v : ℕ} (at : AcceptedAt l s t) (av : AcceptedAt k s v) {m : ℕ} (mq : m ≡ markAt s t) where
   no-by : isNo (treeAt l s t) ≡ eqb m (mark "No")
   no-by = ap (λ (j : ℕ). eqb j (mark "No")) (mark-is l s t ∙ sym mq)
 
@@ -182,8 +183,7 @@ module _ (l k : ℕ) (s : List ℕ) (t m : ℕ) (mq : m ≡ markAt s t) (v : ℕ
   pub const-by-type : (m ≡ mark "No" → ⊥) → addConst arrayTyped (treeAt l s t) (treeAt k s v) ≡ isArrayType (treeAt l s t)
   const-by-type n = rw (no-by ∙ ne-eqb m (mark "No") n)
 
-  -- the init's mark is w
-  module _ (e : m ≡ mark "No") (w : ℕ) (wq : w ≡ markAt s v) where
+  module _ (e : m ≡ mark "No") {w : ℕ} (wq : w ≡ markAt s v) where
     untyped : addConst typeofSafe (treeAt l s t) (treeAt k s v) ≡ (eqb w (mark "Fx") || eqb w (mark "Aw"))
     untyped = rw (no-by ∙ eq-eqb m (mark "No") e) (ap (λ (j : ℕ). eqb j (mark "Fx") || eqb j (mark "Aw")) (mark-is k s v ∙ sym wq))
 
@@ -195,58 +195,58 @@ module _ (l k : ℕ) (s : List ℕ) (t m : ℕ) (mq : m ≡ markAt s t) (v : ℕ
 
 -- ---- a declarator
 
-module _ (left : ℕ) (s : List ℕ) (at m : ℕ) (mq : m ≡ markAt s at) (q : Question) (name : List ℕ) where
-  declarator-by : addDeclarator q name (treeAt left s at) ≡
+module _ {left : ℕ} {s : List ℕ} {at : ℕ} (a : AcceptedAt left s at) {m : ℕ} (mq : m ≡ markAt s at) where
+  declarator-by : (q : Question) (name : List ℕ) → addDeclarator q name (treeAt left s at) ≡
       ((eqb m (mark "Vr") && is "Bd" (kid 0 (kidsOf (treeAt left s at)))) &&
       (named name (kid 0 (kidsOf (kid 0 (kidsOf (treeAt left s at))))) &&
       addConst q (kid 1 (kidsOf (kid 0 (kidsOf (treeAt left s at))))) (kid 1 (kidsOf (treeAt left s at)))))
   unfolding addDeclarator
-  declarator-by = rw (mark-is left s at, mq)
+  declarator-by q name = rw (mark-is left s at, mq)
 
-  pub declarator-other : (m ≡ mark "Vr" → ⊥) → addDeclarator q name (treeAt left s at) ≡ false
-  declarator-other n = declarator-by ∙ rw (ne-eqb m (mark "Vr") n)
+  pub declarator-other : (q : Question) (name : List ℕ) → (m ≡ mark "Vr" → ⊥) → addDeclarator q name (treeAt left s at) ≡ false
+  declarator-other q name n = declarator-by q name ∙ rw (ne-eqb m (mark "Vr") n)
 
-  module _ (a : AcceptedAt left s at) (e : m ≡ mark "Vr") (p : ℕ) (pq : p ≡ bodyAt s at) where
-    -- its pattern, at p
+  module _ (e : m ≡ mark "Vr") {p : ℕ} (pq : p ≡ bodyAt s at) where
+    -- its pattern
     pub pattern-child : Child left s at 0 p pattern
     unfolding grammar known slots place fixed
     pattern-child = placed (first-in left s at a (mark "Vr") (sym mq ∙ e) refl pattern refl) pq
 
     -- its init, at v, behind the pattern
-    pub init-child : (v : ℕ) → v ≡ endAt (left - 1) s p → Child left s at 1 v (optional expression)
+    pub init-child : {v : ℕ} → v ≡ endAt (left - 1) s p → Child left s at 1 v (optional expression)
     unfolding grammar known slots place fixed
-    init-child v r = placed (second-in left s at a (mark "Vr") (sym mq ∙ e) refl (optional expression) refl) (r ∙ ap (endAt (left - 1) s) pq)
+    init-child vq = placed (second-in left s at a (mark "Vr") (sym mq ∙ e) refl (optional expression) refl) (vq ∙ ap (endAt (left - 1) s) pq)
 
     -- the pattern's mark is w
-    module _ (w : ℕ) (wq : w ≡ markAt s p) where
-      pub declarator-pattern : (w ≡ mark "Bd" → ⊥) → addDeclarator q name (treeAt left s at) ≡ false
-      declarator-pattern n =
-          declarator-by ∙ rw (eq-eqb m (mark "Vr") e, pattern-child .tree, mark-is (left - 1) s p, sym wq, ne-eqb w (mark "Bd") n)
+    module _ {w : ℕ} (wq : w ≡ markAt s p) where
+      pub declarator-pattern : (q : Question) (name : List ℕ) → (w ≡ mark "Bd" → ⊥) → addDeclarator q name (treeAt left s at) ≡ false
+      declarator-pattern q name n =
+          declarator-by q name ∙ rw (eq-eqb m (mark "Vr") e, pattern-child .tree, mark-is (left - 1) s p, sym wq, ne-eqb w (mark "Bd") n)
 
-      module _ (f : w ≡ mark "Bd") (i : ℕ) (iq : i ≡ bodyAt s p) where
+      module _ (f : w ≡ mark "Bd") {i : ℕ} (iq : i ≡ bodyAt s p) where
         -- the pattern's name, at i
         pub ident-child : Child (left - 1) s p 0 i "Id"
         unfolding grammar known slots place fixed
         ident-child = placed (first-in (left - 1) s p (pattern-child .accepted) (mark "Bd") (sym wq ∙ f) refl "Id" refl) iq
 
-        named-by-ident : addDeclarator q name (treeAt left s at) ≡
+        named-by-ident : (q : Question) (name : List ℕ) → addDeclarator q name (treeAt left s at) ≡
             (named name (treeAt (left - 1 - 1) s i) && addConst q (kid 1 (kidsOf (treeAt (left - 1) s p))) (kid 1 (kidsOf (treeAt left s at))))
-        named-by-ident =
-            declarator-by ∙ rw (eq-eqb m (mark "Vr") e, pattern-child .tree, mark-is (left - 1) s p, sym wq, eq-eqb w (mark "Bd") f, ident-child .tree)
+        named-by-ident q name =
+            declarator-by q name ∙ rw (eq-eqb m (mark "Vr") e, pattern-child .tree, mark-is (left - 1) s p, sym wq, eq-eqb w (mark "Bd") f, ident-child .tree)
 
-        pub declarator-unnamed : named name (treeAt (left - 1 - 1) s i) ≡ false → addDeclarator q name (treeAt left s at) ≡ false
-        declarator-unnamed n = named-by-ident ∙ rw n
+        pub declarator-unnamed : (q : Question) (name : List ℕ) → named name (treeAt (left - 1 - 1) s i) ≡ false → addDeclarator q name (treeAt left s at) ≡ false
+        declarator-unnamed q name n = named-by-ident q name ∙ rw n
 
-        module _ (t : ℕ) (tq : t ≡ endAt (left - 1 - 1) s i) where
+        module _ {t : ℕ} (tq : t ≡ endAt (left - 1 - 1) s i) where
           -- its type, at t, behind the name
           pub type-child : Child (left - 1) s p 1 t (optional type)
           unfolding grammar known slots place fixed
           type-child =
               placed (second-in (left - 1) s p (pattern-child .accepted) (mark "Bd") (sym wq ∙ f) refl (optional type) refl) (tq ∙ ap (endAt (left - 1 - 1) s) iq)
 
-          pub declarator-named : (v : ℕ) → v ≡ endAt (left - 1) s p → named name (treeAt (left - 1 - 1) s i) ≡ true →
+          pub declarator-named : {v : ℕ} → v ≡ endAt (left - 1) s p → (q : Question) (name : List ℕ) → named name (treeAt (left - 1 - 1) s i) ≡ true →
               addDeclarator q name (treeAt left s at) ≡ addConst q (treeAt (left - 1 - 1) s t) (treeAt (left - 1) s v)
-          declarator-named v r n = named-by-ident ∙ rw (n, type-child .tree, init-child v r .tree)
+          declarator-named vq q name n = named-by-ident q name ∙ rw (n, type-child .tree, init-child vq .tree)
 
 -- ---- a search among siblings
 
@@ -255,26 +255,27 @@ pub record Seek (F : Recs → Bool) (whole : Recs) (left : ℕ) (s : List ℕ) (
   pub all : AllAccepted left s n c
   pub rest : F whole ≡ F (readAll (treeAt left s) (endAt left s) n c)
 
-pub seek-start : (F : Recs → Bool) (left : ℕ) (s : List ℕ) (at : ℕ) → AcceptedAt left s at → (n c : ℕ) → n ≡ countAt s at → c ≡ bodyAt s at →
+pub seek-start : (F : Recs → Bool) {left : ℕ} {s : List ℕ} {at : ℕ} → AcceptedAt left s at → {n c : ℕ} → n ≡ countAt s at → c ≡ bodyAt s at →
     Seek F (kidsOf (treeAt left s at)) (left - 1) s n c
-seek-start F left s at a n c nq cq = rw (nq, cq) (record { all = children left s at a; rest = ap F (kids-are left s at a) })
+seek-start F {left} {s} {at} a nq cq = rw (nq, cq) (record { all = children left s at a; rest = ap F (kids-are left s at a) })
 
--- where F is f of some record
-module _ (F : Recs → Bool) (f : Rec → Bool) (step : (r : Rec) (rs : Recs) → F (cons r rs) ≡ (f r || F rs)) (none : F nil ≡ false) (whole : Recs) (left : ℕ) (s : List ℕ) (n c : ℕ) (i : Seek F whole left s n c) where
+module _ {F : Recs → Bool} {whole : Recs} {left : ℕ} {s : List ℕ} {n c : ℕ} (i : Seek F whole left s n c) where
   pub seek-first : 0 < n → AcceptedAt left s c
   seek-first h = first-one left s n c (i .all) h
 
-  turn : 0 < n → F whole ≡ (f (treeAt left s c) || F (readAll (treeAt left s) (endAt left s) (n - 1) (endAt left s c)))
-  turn h = i .rest ∙ (ap F (readAll-more (treeAt left s) (endAt left s) n c h) ∙ step (treeAt left s c) (readAll (treeAt left s) (endAt left s) (n - 1) (endAt left s c)))
+  pub seek-done : F nil ≡ false → n ≤ 0 → F whole ≡ false
+  seek-done z h = i .rest ∙ (ap F (readAll-none (treeAt left s) (endAt left s) n c h) ∙ z)
 
-  pub seek-here : 0 < n → f (treeAt left s c) ≡ true → F whole ≡ true
-  seek-here h e = turn h ∙ rw e
+  -- where F is f of some record
+  module _ (f : Rec → Bool) (step : (r : Rec) (rs : Recs) → F (cons r rs) ≡ (f r || F rs)) (h : 0 < n) where
+    turn : F whole ≡ (f (treeAt left s c) || F (readAll (treeAt left s) (endAt left s) (n - 1) (endAt left s c)))
+    turn = i .rest ∙ (ap F (readAll-more (treeAt left s) (endAt left s) n c h) ∙ step (treeAt left s c) (readAll (treeAt left s) (endAt left s) (n - 1) (endAt left s c)))
 
-  pub seek-next : 0 < n → f (treeAt left s c) ≡ false → (d : ℕ) → d ≡ endAt left s c → Seek F whole left s (n - 1) d
-  seek-next h e d dq = rw dq (record { all = others left s n c (i .all) h; rest = turn h ∙ rw e })
+    pub seek-here : f (treeAt left s c) ≡ true → F whole ≡ true
+    seek-here e = turn ∙ rw e
 
-  pub seek-done : n ≤ 0 → F whole ≡ false
-  seek-done h = i .rest ∙ (ap F (readAll-none (treeAt left s) (endAt left s) n c h) ∙ none)
+    pub seek-next : f (treeAt left s c) ≡ false → {d : ℕ} → d ≡ endAt left s c → Seek F whole left s (n - 1) d
+    seek-next e dq = rw dq (record { all = others left s n c (i .all) h; rest = turn ∙ rw e })
 
 -- ---- the declarators of a const
 
@@ -291,7 +292,7 @@ module _ (q : Question) (name : List ℕ) where
   declares-none = refl
 
 -- f is the record's flags
-module _ (left : ℕ) (s : List ℕ) (at f : ℕ) (fq : f ≡ flagsAt s at) (q : Question) (name : List ℕ) where
+module _ {left : ℕ} {s : List ℕ} {at : ℕ} (a : AcceptedAt left s at) {f : ℕ} (fq : f ≡ flagsAt s at) (q : Question) (name : List ℕ) where
   var-by : addVar q name (treeAt left s at) ≡ (eqb (f / 2 % 2) 1 && addDeclarators q name (kidsOf (treeAt left s at)))
   var-by = ap (λ (k : ℕ). eqb (k / 2 % 2) 1 && addDeclarators q name (kidsOf (treeAt left s at))) (flags-is left s at ∙ sym fq)
 
@@ -303,61 +304,63 @@ module _ (left : ℕ) (s : List ℕ) (at f : ℕ) (fq : f ≡ flagsAt s at) (q :
 
 -- ---- a declaration
 
-module _ (left : ℕ) (s : List ℕ) (at m : ℕ) (mq : m ≡ markAt s at) (q : Question) (name : List ℕ) where
-  decl-by : (k : Declared) → declaredKind m ≡ k → addDecl q name (treeAt left s at) ≡ addDeclBy k q name (treeAt left s at)
-  decl-by k e = ap (λ (j : Declared). addDeclBy j q name (treeAt left s at)) (ap declaredKind (mark-is left s at ∙ sym mq) ∙ e)
+-- the marks of functions and of classes
+abbrev pub Fn : ℕ → Type 0
+Fn m = (m ≡ mark "Fd") ⊎ (m ≡ mark "Fx")
 
-  pub decl-var : m ≡ mark "Vd" → addDecl q name (treeAt left s at) ≡ addVar q name (treeAt left s at)
+abbrev pub Class : ℕ → Type 0
+Class m = (m ≡ mark "Cd") ⊎ (m ≡ mark "Cx")
+
+module _ {left : ℕ} {s : List ℕ} {at : ℕ} (a : AcceptedAt left s at) {m : ℕ} (mq : m ≡ markAt s at) where
+  decl-by : (q : Question) (name : List ℕ) (k : Declared) → declaredKind m ≡ k → addDecl q name (treeAt left s at) ≡ addDeclBy k q name (treeAt left s at)
+  decl-by q name k e = ap (λ (j : Declared). addDeclBy j q name (treeAt left s at)) (ap declaredKind (mark-is left s at ∙ sym mq) ∙ e)
+
+  pub decl-var : (q : Question) (name : List ℕ) → m ≡ mark "Vd" → addDecl q name (treeAt left s at) ≡ addVar q name (treeAt left s at)
   unfolding declaredKind addDeclBy
-  decl-var e = decl-by dVar (rw e)
+  decl-var q name e = decl-by q name dVar (rw e)
 
-  abbrev pub Fn : Type 0
-  Fn = (m ≡ mark "Fd") ⊎ (m ≡ mark "Fx")
-
-  abbrev pub Class : Type 0
-  Class = (m ≡ mark "Cd") ⊎ (m ≡ mark "Cx")
-
-  pub decl-other : (Fn → ⊥) → (Class → ⊥) → (m ≡ mark "Vd" → ⊥) → addDecl q name (treeAt left s at) ≡ false
+  pub decl-other : (q : Question) (name : List ℕ) → (Fn m → ⊥) → (Class m → ⊥) → (m ≡ mark "Vd" → ⊥) → addDecl q name (treeAt left s at) ≡ false
   unfolding declaredKind addDeclBy
-  decl-other f c v =
-      decl-by dOther
+  decl-other q name f c v =
+      decl-by q name dOther
       (rw (ne-eqb m (mark "Fd") (λ e. f (inl e)), ne-eqb m (mark "Fx") (λ e. f (inr e)), ne-eqb m (mark "Cd") (λ e. c (inl e)), ne-eqb m (mark "Cx") (λ e. c (inr e)), ne-eqb m (mark "Vd") v))
 
   -- the name stands at p
-  module _ (a : AcceptedAt left s at) (p : ℕ) (pq : p ≡ bodyAt s at) where
-    pub fn-ident : Fn → Child left s at 0 p (optional "Id")
+  module _ {p : ℕ} (pq : p ≡ bodyAt s at) where
+    pub fn-ident : Fn m → Child left s at 0 p (optional "Id")
     unfolding grammar known slots place fixed marks member
     fn-ident h = placed (⊎-elim
         (λ (e : m ≡ mark "Fd"). wider (first-in left s at a (mark "Fd") (sym mq ∙ e) refl "Id" refl) (optional "Id") refl)
         (λ (e : m ≡ mark "Fx"). first-in left s at a (mark "Fx") (sym mq ∙ e) refl (optional "Id") refl)
         h) pq
 
-    fn-by : Fn → addDecl q name (treeAt left s at) ≡ (named name (treeAt (left - 1) s p) && addFn q)
+    fn-by : (q : Question) (name : List ℕ) → Fn m → addDecl q name (treeAt left s at) ≡ (named name (treeAt (left - 1) s p) && addFn q)
     unfolding declaredKind addDeclBy
-    fn-by h = decl-by dFn (⊎-elim (λ (e : m ≡ mark "Fd"). rw e) (λ (e : m ≡ mark "Fx"). rw e) h) ∙ rw (fn-ident h .tree)
+    fn-by q name h = decl-by q name dFn (⊎-elim (λ (e : m ≡ mark "Fd"). rw e) (λ (e : m ≡ mark "Fx"). rw e) h) ∙ rw (fn-ident h .tree)
 
-    pub decl-fn : Fn → named name (treeAt (left - 1) s p) ≡ true → addDecl q name (treeAt left s at) ≡ addFn q
-    decl-fn h n = fn-by h ∙ rw n
+    pub decl-fn : (q : Question) (name : List ℕ) → Fn m → named name (treeAt (left - 1) s p) ≡ true → addDecl q name (treeAt left s at) ≡ addFn q
+    decl-fn q name h n = fn-by q name h ∙ rw n
 
-    pub fn-unnamed : Fn → named name (treeAt (left - 1) s p) ≡ false → addDecl q name (treeAt left s at) ≡ false
-    fn-unnamed h n = fn-by h ∙ rw n
+    pub fn-unnamed : (q : Question) (name : List ℕ) → Fn m → named name (treeAt (left - 1) s p) ≡ false → addDecl q name (treeAt left s at) ≡ false
+    fn-unnamed q name h n = fn-by q name h ∙ rw n
 
-    pub class-ident : Class → Child left s at 0 p (optional "Id")
+    pub class-ident : Class m → Child left s at 0 p (optional "Id")
     unfolding grammar known slots place fixed marks member
     class-ident h = placed (⊎-elim
         (λ (e : m ≡ mark "Cd"). wider (first-in left s at a (mark "Cd") (sym mq ∙ e) refl "Id" refl) (optional "Id") refl)
         (λ (e : m ≡ mark "Cx"). first-in left s at a (mark "Cx") (sym mq ∙ e) refl (optional "Id") refl)
         h) pq
 
-    class-by : Class → addDecl q name (treeAt left s at) ≡ (named name (treeAt (left - 1) s p) && addClass q (kid 1 (kidsOf (treeAt left s at))))
+    class-by : (q : Question) (name : List ℕ) → Class m →
+        addDecl q name (treeAt left s at) ≡ (named name (treeAt (left - 1) s p) && addClass q (kid 1 (kidsOf (treeAt left s at))))
     unfolding declaredKind addDeclBy
-    class-by h = decl-by dClass (⊎-elim (λ (e : m ≡ mark "Cd"). rw e) (λ (e : m ≡ mark "Cx"). rw e) h) ∙ rw (class-ident h .tree)
+    class-by q name h = decl-by q name dClass (⊎-elim (λ (e : m ≡ mark "Cd"). rw e) (λ (e : m ≡ mark "Cx"). rw e) h) ∙ rw (class-ident h .tree)
 
-    pub class-unnamed : Class → named name (treeAt (left - 1) s p) ≡ false → addDecl q name (treeAt left s at) ≡ false
-    class-unnamed h n = class-by h ∙ rw n
+    pub class-unnamed : (q : Question) (name : List ℕ) → Class m → named name (treeAt (left - 1) s p) ≡ false → addDecl q name (treeAt left s at) ≡ false
+    class-unnamed q name h n = class-by q name h ∙ rw n
 
     -- the class stands at d, behind the name
-    module _ (h : Class) (d : ℕ) (dq : d ≡ endAt (left - 1) s p) where
+    module _ (h : Class m) {d : ℕ} (dq : d ≡ endAt (left - 1) s p) where
       pub class-child : Child left s at 1 d "Cl"
       unfolding grammar known slots place fixed
       class-child = placed (⊎-elim
@@ -369,24 +372,26 @@ module _ (left : ℕ) (s : List ℕ) (at m : ℕ) (mq : m ≡ markAt s at) (q : 
       unfolding marks
       class-mark = member-one (markAt s d) (mark "Cl") (class-child .marks)
 
-      pub decl-class : named name (treeAt (left - 1) s p) ≡ true → addDecl q name (treeAt left s at) ≡ addClass q (treeAt (left - 1) s d)
-      decl-class n = class-by h ∙ rw (n, class-child .tree)
+      pub decl-class : (q : Question) (name : List ℕ) → named name (treeAt (left - 1) s p) ≡ true →
+          addDecl q name (treeAt left s at) ≡ addClass q (treeAt (left - 1) s d)
+      decl-class q name n = class-by q name h ∙ rw (n, class-child .tree)
 
 -- ---- an item
 
-module _ (left : ℕ) (s : List ℕ) (at m : ℕ) (mq : m ≡ markAt s at) (q : Question) (name : List ℕ) where
-  abbrev pub Export : Type 0
-  Export = (m ≡ mark "Ed") ⊎ (m ≡ mark "Xd")
+-- the marks of exports
+abbrev pub Export : ℕ → Type 0
+Export m = (m ≡ mark "Ed") ⊎ (m ≡ mark "Xd")
 
-  item-by : addItem q name (treeAt left s at) ≡
+module _ {left : ℕ} {s : List ℕ} {at : ℕ} (a : AcceptedAt left s at) {m : ℕ} (mq : m ≡ markAt s at) where
+  item-by : (q : Question) (name : List ℕ) → addItem q name (treeAt left s at) ≡
       addDecl q name (cond (eqb m (mark "Ed") || eqb m (mark "Xd")) (kid 0 (kidsOf (treeAt left s at))) (treeAt left s at))
-  item-by =
+  item-by q name =
       ap (λ (j : ℕ). addDecl q name (cond (eqb j (mark "Ed") || eqb j (mark "Xd")) (kid 0 (kidsOf (treeAt left s at))) (treeAt left s at))) (mark-is left s at ∙ sym mq)
 
-  pub item-plain : (Export → ⊥) → addItem q name (treeAt left s at) ≡ addDecl q name (treeAt left s at)
-  item-plain n = item-by ∙ rw (ne-eqb m (mark "Ed") (λ e. n (inl e)), ne-eqb m (mark "Xd") (λ e. n (inr e)))
+  pub item-plain : (q : Question) (name : List ℕ) → (Export m → ⊥) → addItem q name (treeAt left s at) ≡ addDecl q name (treeAt left s at)
+  item-plain q name n = item-by q name ∙ rw (ne-eqb m (mark "Ed") (λ e. n (inl e)), ne-eqb m (mark "Xd") (λ e. n (inr e)))
 
-  module _ (a : AcceptedAt left s at) (p : ℕ) (pq : p ≡ bodyAt s at) (h : Export) where
+  module _ {p : ℕ} (pq : p ≡ bodyAt s at) (h : Export m) where
     pub export-child : Child left s at 0 p (declaration or "Cx Fx In")
     unfolding grammar known slots place fixed marks member
     export-child = placed (⊎-elim
@@ -394,10 +399,10 @@ module _ (left : ℕ) (s : List ℕ) (at m : ℕ) (mq : m ≡ markAt s at) (q : 
         (λ (e : m ≡ mark "Xd"). wider (first-in left s at a (mark "Xd") (sym mq ∙ e) refl "Cx Fx In" refl) (declaration or "Cx Fx In") refl)
         h) pq
 
-    pub item-export : addItem q name (treeAt left s at) ≡ addDecl q name (treeAt (left - 1) s p)
-    item-export =
+    pub item-export : (q : Question) (name : List ℕ) → addItem q name (treeAt left s at) ≡ addDecl q name (treeAt (left - 1) s p)
+    item-export q name =
         let b : (eqb m (mark "Ed") || eqb m (mark "Xd")) ≡ true = ⊎-elim (λ (e : m ≡ mark "Ed"). rw e) (λ (e : m ≡ mark "Xd"). rw e) h in
-        item-by ∙ rw (b, export-child .tree)
+        item-by q name ∙ rw (b, export-child .tree)
 
 -- ---- the items of the module
 

@@ -5,9 +5,8 @@ use native.Mathlib.Omega.{arith}
 use Rattle.definition.specs.Tree.{treeAt}
 use Rattle.definition.specs.Record.{kidsOf}
 use Rattle.definition.specs.Prescan.{addDeclarator}
-use Rattle.records.proofs.Accepted.{lies}
-use Rattle.definition.proofs.Children.{itself, some-left}
 use Rattle.records.specs.declared.Head.{Head}
+use Rattle.records.proofs.Accepted.{room, lies, level}
 use Rattle.prescan.specs.Question.{meant}
 use Rattle.prescan.proofs.Laws.{var-other, var-const, Declares, declares-step, declares-none, Seek, seek-start, seek-first, seek-here, seek-next, seek-done}
 use Rattle.prescan.proofs.add_var.Statement.{statement}
@@ -20,31 +19,31 @@ abbrev μ-loop : tie.MeasureT-loop
 μ-loop tree at left name question n₀ declarator₀ n declarator = n
 
 read-head-requires : tie.Need-read-head-requires Inv-loop μ-loop
-read-head-requires c κs = itself (c .before .before .args .left) (c .before .before .args .tree .now) (c .before .before .args .at) (c .before .before .pre) .room
+read-head-requires c κs = room (c .before .before .pre)
 
 returns : tie.Need-returns Inv-loop μ-loop
-returns c = sym (var-other (c .before .before .before .before .before .args .left) (c .before .before .before .before .before .args .tree .now) (c .before .before .before .before .before .args .at) (c .before .before .read-head .result .flags) (ap (λ (h : Head). h .flags) (c .before .before .read-head .ensures)) (meant (c .before .before .before .before .before .args .question)) (c .before .before .before .before .before .args .name .now) (c .if1 .taken))
+returns c = sym (var-other (c .before .before .before .before .before .pre) (ap (λ (h : Head). h .flags) (c .before .before .read-head .ensures)) (meant (c .before .before .before .before .before .args .question)) (c .before .before .before .before .before .args .name .now) (c .if1 .taken))
 
 body-at-requires : tie.Need-body-at-requires Inv-loop μ-loop
-body-at-requires c κs = itself (c .before .before .before .before .before .args .left) (c .before .before .before .before .before .args .tree .now) (c .before .before .before .before .before .args .at) (c .before .before .before .before .before .pre) .room
+body-at-requires c κs = room (c .before .before .before .before .before .pre)
 
 loop-holds : tie.Need-loop-holds Inv-loop μ-loop
-loop-holds c = seek-start (Declares (meant (c .before .before .before .before .before .before .args .question)) (c .before .before .before .before .before .before .args .name .now)) (c .before .before .before .before .before .before .args .left) (c .before .before .before .before .before .before .args .tree .now) (c .before .before .before .before .before .before .args .at) (c .before .before .before .before .before .before .pre) (c .before .before .before .read-head .result .count) (c .body-at .result) (ap (λ (h : Head). h .count) (c .before .before .before .read-head .ensures)) (c .body-at .ensures)
+loop-holds c = seek-start (Declares (meant (c .before .before .before .before .before .before .args .question)) (c .before .before .before .before .before .before .args .name .now)) (c .before .before .before .before .before .before .pre) (ap (λ (h : Head). h .count) (c .before .before .before .read-head .ensures)) (c .body-at .ensures)
 
 sub-add-declarator : tie.Need-sub-add-declarator Inv-loop μ-loop
-sub-add-declarator c = omega (arith, some-left (c .before .before .before .before .before .before .before .before .args .left) (c .before .before .before .before .before .before .before .before .args .tree .now) (c .before .before .before .before .before .before .before .before .args .at) (c .before .before .before .before .before .before .before .before .pre))
+sub-add-declarator c = omega (arith, level (c .before .before .before .before .before .before .before .before .pre))
 
 add-declarator-requires : tie.Need-add-declarator-requires Inv-loop μ-loop
-add-declarator-requires c κs = seek-first (Declares (meant (c .before .before .before .before .before .before .before .before .args .question)) (c .before .before .before .before .before .before .before .before .args .name .now)) (addDeclarator (meant (c .before .before .before .before .before .before .before .before .args .question)) (c .before .before .before .before .before .before .before .before .args .name .now)) (declares-step (meant (c .before .before .before .before .before .before .before .before .args .question)) (c .before .before .before .before .before .before .before .before .args .name .now)) (declares-none (meant (c .before .before .before .before .before .before .before .before .args .question)) (c .before .before .before .before .before .before .before .before .args .name .now)) (kidsOf (treeAt (c .before .before .before .before .before .before .before .before .args .left) (c .before .before .before .before .before .before .before .before .args .tree .now) (c .before .before .before .before .before .before .before .before .args .at))) (c .before .before .before .before .before .before .before .before .args .left - 1) (c .before .before .before .before .before .before .before .before .args .tree .now) (c .before .loop .n) (c .before .loop .declarator) (c .before .loop .inv) (c .loop-test .taken)
+add-declarator-requires c κs = seek-first (c .before .loop .inv) (c .loop-test .taken)
 
 returns-2 : tie.Need-returns-2 Inv-loop μ-loop
-returns-2 c = sym (var-const (c .before .before .before .before .before .before .before .before .before .before .args .left) (c .before .before .before .before .before .before .before .before .before .before .args .tree .now) (c .before .before .before .before .before .before .before .before .before .before .args .at) (c .before .before .before .before .before .before .before .read-head .result .flags) (ap (λ (h : Head). h .flags) (c .before .before .before .before .before .before .before .read-head .ensures)) (meant (c .before .before .before .before .before .before .before .before .before .before .args .question)) (c .before .before .before .before .before .before .before .before .before .before .args .name .now) (c .before .before .before .before .before .if1 .left) ∙ seek-here (Declares (meant (c .before .before .before .before .before .before .before .before .before .before .args .question)) (c .before .before .before .before .before .before .before .before .before .before .args .name .now)) (addDeclarator (meant (c .before .before .before .before .before .before .before .before .before .before .args .question)) (c .before .before .before .before .before .before .before .before .before .before .args .name .now)) (declares-step (meant (c .before .before .before .before .before .before .before .before .before .before .args .question)) (c .before .before .before .before .before .before .before .before .before .before .args .name .now)) (declares-none (meant (c .before .before .before .before .before .before .before .before .before .before .args .question)) (c .before .before .before .before .before .before .before .before .before .before .args .name .now)) (kidsOf (treeAt (c .before .before .before .before .before .before .before .before .before .before .args .left) (c .before .before .before .before .before .before .before .before .before .before .args .tree .now) (c .before .before .before .before .before .before .before .before .before .before .args .at))) (c .before .before .before .before .before .before .before .before .before .before .args .left - 1) (c .before .before .before .before .before .before .before .before .before .before .args .tree .now) (c .before .before .before .loop .n) (c .before .before .before .loop .declarator) (c .before .before .before .loop .inv) (c .before .before .loop-test .taken) (sym (c .before .add-declarator .ensures) ∙ c .if2 .taken))
+returns-2 c = sym (var-const (c .before .before .before .before .before .before .before .before .before .before .pre) (ap (λ (h : Head). h .flags) (c .before .before .before .before .before .before .before .read-head .ensures)) (meant (c .before .before .before .before .before .before .before .before .before .before .args .question)) (c .before .before .before .before .before .before .before .before .before .before .args .name .now) (c .before .before .before .before .before .if1 .left) ∙ seek-here (c .before .before .before .loop .inv) (addDeclarator (meant (c .before .before .before .before .before .before .before .before .before .before .args .question)) (c .before .before .before .before .before .before .before .before .before .before .args .name .now)) (declares-step (meant (c .before .before .before .before .before .before .before .before .before .before .args .question)) (c .before .before .before .before .before .before .before .before .before .before .args .name .now)) (c .before .before .loop-test .taken) (sym (c .before .add-declarator .ensures) ∙ c .if2 .taken))
 
 sub-record-end : tie.Need-sub-record-end Inv-loop μ-loop
-sub-record-end c = omega (arith, some-left (c .before .before .before .before .before .before .before .before .before .before .args .left) (c .before .before .before .before .before .before .before .before .before .before .args .tree .now) (c .before .before .before .before .before .before .before .before .before .before .args .at) (c .before .before .before .before .before .before .before .before .before .before .pre))
+sub-record-end c = omega (arith, level (c .before .before .before .before .before .before .before .before .before .before .pre))
 
 record-end-requires : tie.Need-record-end-requires Inv-loop μ-loop
-record-end-requires c κs = lies (seek-first (Declares (meant (c .before .before .before .before .before .before .before .before .before .before .args .question)) (c .before .before .before .before .before .before .before .before .before .before .args .name .now)) (addDeclarator (meant (c .before .before .before .before .before .before .before .before .before .before .args .question)) (c .before .before .before .before .before .before .before .before .before .before .args .name .now)) (declares-step (meant (c .before .before .before .before .before .before .before .before .before .before .args .question)) (c .before .before .before .before .before .before .before .before .before .before .args .name .now)) (declares-none (meant (c .before .before .before .before .before .before .before .before .before .before .args .question)) (c .before .before .before .before .before .before .before .before .before .before .args .name .now)) (kidsOf (treeAt (c .before .before .before .before .before .before .before .before .before .before .args .left) (c .before .before .before .before .before .before .before .before .before .before .args .tree .now) (c .before .before .before .before .before .before .before .before .before .before .args .at))) (c .before .before .before .before .before .before .before .before .before .before .args .left - 1) (c .before .before .before .before .before .before .before .before .before .before .args .tree .now) (c .before .before .before .loop .n) (c .before .before .before .loop .declarator) (c .before .before .before .loop .inv) (c .before .before .loop-test .taken))
+record-end-requires c κs = lies (seek-first (c .before .before .before .loop .inv) (c .before .before .loop-test .taken))
 
 sub-n : tie.Need-sub-n Inv-loop μ-loop
 sub-n c = omega arith
@@ -53,10 +52,10 @@ loop-less : tie.Need-loop-less Inv-loop μ-loop
 loop-less c = omega arith
 
 loop-again : tie.Need-loop-again Inv-loop μ-loop
-loop-again c = seek-next (Declares (meant (c .before .before .before .before .before .before .before .before .before .before .before .args .question)) (c .before .before .before .before .before .before .before .before .before .before .before .args .name .now)) (addDeclarator (meant (c .before .before .before .before .before .before .before .before .before .before .before .args .question)) (c .before .before .before .before .before .before .before .before .before .before .before .args .name .now)) (declares-step (meant (c .before .before .before .before .before .before .before .before .before .before .before .args .question)) (c .before .before .before .before .before .before .before .before .before .before .before .args .name .now)) (declares-none (meant (c .before .before .before .before .before .before .before .before .before .before .before .args .question)) (c .before .before .before .before .before .before .before .before .before .before .before .args .name .now)) (kidsOf (treeAt (c .before .before .before .before .before .before .before .before .before .before .before .args .left) (c .before .before .before .before .before .before .before .before .before .before .before .args .tree .now) (c .before .before .before .before .before .before .before .before .before .before .before .args .at))) (c .before .before .before .before .before .before .before .before .before .before .before .args .left - 1) (c .before .before .before .before .before .before .before .before .before .before .before .args .tree .now) (c .before .before .before .before .loop .n) (c .before .before .before .before .loop .declarator) (c .before .before .before .before .loop .inv) (c .before .before .before .loop-test .taken) (sym (c .before .before .add-declarator .ensures) ∙ c .before .if2 .left) (c .record-end .result) (c .record-end .ensures)
+loop-again c = seek-next (c .before .before .before .before .loop .inv) (addDeclarator (meant (c .before .before .before .before .before .before .before .before .before .before .before .args .question)) (c .before .before .before .before .before .before .before .before .before .before .before .args .name .now)) (declares-step (meant (c .before .before .before .before .before .before .before .before .before .before .before .args .question)) (c .before .before .before .before .before .before .before .before .before .before .before .args .name .now)) (c .before .before .before .loop-test .taken) (sym (c .before .before .add-declarator .ensures) ∙ c .before .if2 .left) (c .record-end .ensures)
 
 returns-3 : tie.Need-returns-3 Inv-loop μ-loop
-returns-3 c = sym (var-const (c .before .before .before .before .before .before .before .before .args .left) (c .before .before .before .before .before .before .before .before .args .tree .now) (c .before .before .before .before .before .before .before .before .args .at) (c .before .before .before .before .before .read-head .result .flags) (ap (λ (h : Head). h .flags) (c .before .before .before .before .before .read-head .ensures)) (meant (c .before .before .before .before .before .before .before .before .args .question)) (c .before .before .before .before .before .before .before .before .args .name .now) (c .before .before .before .if1 .left) ∙ seek-done (Declares (meant (c .before .before .before .before .before .before .before .before .args .question)) (c .before .before .before .before .before .before .before .before .args .name .now)) (addDeclarator (meant (c .before .before .before .before .before .before .before .before .args .question)) (c .before .before .before .before .before .before .before .before .args .name .now)) (declares-step (meant (c .before .before .before .before .before .before .before .before .args .question)) (c .before .before .before .before .before .before .before .before .args .name .now)) (declares-none (meant (c .before .before .before .before .before .before .before .before .args .question)) (c .before .before .before .before .before .before .before .before .args .name .now)) (kidsOf (treeAt (c .before .before .before .before .before .before .before .before .args .left) (c .before .before .before .before .before .before .before .before .args .tree .now) (c .before .before .before .before .before .before .before .before .args .at))) (c .before .before .before .before .before .before .before .before .args .left - 1) (c .before .before .before .before .before .before .before .before .args .tree .now) (c .before .loop .n) (c .before .loop .declarator) (c .before .loop .inv) (c .loop-test .left))
+returns-3 c = sym (var-const (c .before .before .before .before .before .before .before .before .pre) (ap (λ (h : Head). h .flags) (c .before .before .before .before .before .read-head .ensures)) (meant (c .before .before .before .before .before .before .before .before .args .question)) (c .before .before .before .before .before .before .before .before .args .name .now) (c .before .before .before .if1 .left) ∙ seek-done (c .before .loop .inv) (declares-none (meant (c .before .before .before .before .before .before .before .before .args .question)) (c .before .before .before .before .before .before .before .before .args .name .now)) (c .loop-test .left))
 
 pub add-var-spec : {M : Type 1} → statement M
 add-var-spec =
