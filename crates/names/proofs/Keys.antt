@@ -26,7 +26,7 @@ key-as h e = record { key = h .key ∙ sym e; accepted = h .accepted }
 
 -- ---- `is_well_known_symbol_expr`
 
-module _ (left : ℕ) (s : List ℕ) (at m : ℕ) (mq : m ≡ markAt s at) (unresolved : ℕ) where
+module _ {left : ℕ} {s : List ℕ} {at : ℕ} (a : AcceptedAt left s at) {m : ℕ} (mq : m ≡ markAt s at) (unresolved : ℕ) where
   member-by : isWellKnownMember unresolved (treeAt left s at) ≡ (eqb m (mark "Mb") && isWellKnownSymbolExpr unresolved (kidsOf (treeAt left s at)))
   member-by = ap (λ (j : ℕ). eqb j (mark "Mb") && isWellKnownSymbolExpr unresolved (kidsOf (treeAt left s at))) (mark-is left s at ∙ sym mq)
 
@@ -34,7 +34,7 @@ module _ (left : ℕ) (s : List ℕ) (at m : ℕ) (mq : m ≡ markAt s at) (unre
   well-other n = member-by ∙ rw (ne-eqb m (mark "Mb") n)
 
   -- of an Mb, whose object stands at p
-  module _ (a : AcceptedAt left s at) (e : m ≡ mark "Mb") (p : ℕ) (pq : p ≡ bodyAt s at) where
+  module _ (e : m ≡ mark "Mb") {p : ℕ} (pq : p ≡ bodyAt s at) where
     pub object-child : Child left s at 0 p expression
     unfolding grammar known slots place fixed
     object-child = placed (first-in left s at a (mark "Mb") (sym mq ∙ e) refl expression refl) pq
@@ -48,20 +48,20 @@ module _ (left : ℕ) (s : List ℕ) (at m : ℕ) (mq : m ≡ markAt s at) (unre
     well-local g = well-by ∙ rw g
 
     -- its property stands at d, and has the mark w
-    module _ (g : isGlobalName unresolved (text "Symbol") (treeAt (left - 1) s p) ≡ true) (d : ℕ) (dq : d ≡ endAt (left - 1) s p) where
+    module _ (g : isGlobalName unresolved (text "Symbol") (treeAt (left - 1) s p) ≡ true) {d : ℕ} (dq : d ≡ endAt (left - 1) s p) where
       pub property-child : Child left s at 1 d "Ki Op"
       unfolding grammar known slots place fixed
       property-child = placed (second-in left s at a (mark "Mb") (sym mq ∙ e) refl "Ki Op" refl) (dq ∙ ap (endAt (left - 1) s) pq)
 
-      module _ (w : ℕ) (wq : w ≡ markAt s d) where
+      module _ {w : ℕ} (wq : w ≡ markAt s d) where
         property-by : isWellKnownMember unresolved (treeAt left s at) ≡ (eqb w (mark "Ki") && anyText wellKnownSymbolNames (textAt s d))
         property-by = well-by ∙ rw (g, property-child .tree, mark-is (left - 1) s d, text-is (left - 1) s d, sym wq)
 
         pub well-computed : (w ≡ mark "Ki" → ⊥) → isWellKnownMember unresolved (treeAt left s at) ≡ false
         well-computed n = property-by ∙ rw (ne-eqb w (mark "Ki") n)
 
-        pub well-named : w ≡ mark "Ki" → isWellKnownMember unresolved (treeAt left s at) ≡ anyText wellKnownSymbolNames (textAt s d)
-        well-named f = property-by ∙ rw (eq-eqb w (mark "Ki") f)
+        pub well-named : w ≡ mark "Ki" → {t : List ℕ} → t ≡ textAt s d → isWellKnownMember unresolved (treeAt left s at) ≡ anyText wellKnownSymbolNames t
+        well-named f {t} tq = property-by ∙ rw (eq-eqb w (mark "Ki") f, tq)
 
 -- ---- the only expression of a template
 
@@ -69,7 +69,7 @@ module _ (left : ℕ) (s : List ℕ) (at m : ℕ) (mq : m ≡ markAt s at) (unre
 abbrev others : ℕ → List ℕ → ℕ → ℕ → Recs
 others left s n p = readAll (treeAt (left - 1) s) (endAt (left - 1) s) (n - 1) (endAt (left - 1) s p)
 
-module _ (left : ℕ) (s : List ℕ) (at : ℕ) (a : AcceptedAt left s at) (n : ℕ) (nq : n ≡ countAt s at) where
+module _ {left : ℕ} {s : List ℕ} {at : ℕ} (a : AcceptedAt left s at) {n : ℕ} (nq : n ≡ countAt s at) where
   kids-read : kidsOf (treeAt left s at) ≡ readAll (treeAt (left - 1) s) (endAt (left - 1) s) n (bodyAt s at)
   kids-read = rw nq (kids-are left s at a)
 
@@ -77,7 +77,7 @@ module _ (left : ℕ) (s : List ℕ) (at : ℕ) (a : AcceptedAt left s at) (n : 
   unfolding onlyExpression
   only-none z = rw (kids-read ∙ readAll-none (treeAt (left - 1) s) (endAt (left - 1) s) n (bodyAt s at) (omega arith))
 
-  module _ (z : n ≡ 0 → ⊥) (p : ℕ) (pq : p ≡ bodyAt s at) where
+  module _ (z : n ≡ 0 → ⊥) {p : ℕ} (pq : p ≡ bodyAt s at) where
     some-kid : 0 < n
     some-kid = go n z
       where
@@ -90,7 +90,7 @@ module _ (left : ℕ) (s : List ℕ) (at : ℕ) (a : AcceptedAt left s at) (n : 
     first-kid = rw (pq, ← (child-0 left s at)) (child left s at a 0 (omega (arith, nq, some-kid)))
 
     -- it has the mark w
-    module _ (w : ℕ) (wq : w ≡ markAt s p) where
+    module _ {w : ℕ} (wq : w ≡ markAt s p) where
       only-by : onlyExpression (kidsOf (treeAt left s at)) ≡ ((not (eqb w (mark "Qu")) && not (eqb w (mark "Op"))) && ends (others left s n p))
       unfolding onlyExpression
       only-by =
@@ -114,7 +114,7 @@ module _ (left : ℕ) (s : List ℕ) (at : ℕ) (a : AcceptedAt left s at) (n : 
         only-one e = only-ends ∙ rw (readAll-none (treeAt (left - 1) s) (endAt (left - 1) s) (n - 1) (endAt (left - 1) s p) (omega arith))
 
         -- the second child, at d
-        module _ (f : n ≡ 1 → ⊥) (d : ℕ) (dq : d ≡ endAt (left - 1) s p) where
+        module _ (f : n ≡ 1 → ⊥) {d : ℕ} (dq : d ≡ endAt (left - 1) s p) where
           two-kids : 1 < n
           two-kids = go n z f
             where
@@ -126,16 +126,16 @@ module _ (left : ℕ) (s : List ℕ) (at : ℕ) (a : AcceptedAt left s at) (n : 
           pub second-kid : AcceptedAt (left - 1) s d
           second-kid = rw (dq, pq, ← (child-1 left s at)) (child left s at a 1 (omega (arith, nq, two-kids)))
 
-          pub only-before : onlyExpression (kidsOf (treeAt left s at)) ≡ eqb (markAt s d) (mark "Op")
-          only-before =
-              only-ends ∙ rw (readAll-more (treeAt (left - 1) s) (endAt (left - 1) s) (n - 1) (endAt (left - 1) s p) (omega (arith, two-kids)), sym dq, mark-is (left - 1) s d)
+          pub only-before : {v : ℕ} → v ≡ markAt s d → onlyExpression (kidsOf (treeAt left s at)) ≡ eqb v (mark "Op")
+          only-before {v} vq =
+              only-ends ∙ rw (vq, readAll-more (treeAt (left - 1) s) (endAt (left - 1) s) (n - 1) (endAt (left - 1) s p) (omega (arith, two-kids)), sym dq, mark-is (left - 1) s d)
 
 -- a template with an only expression has a first child
 only-there : (left : ℕ) (s : List ℕ) (at : ℕ) → AcceptedAt left s at → onlyExpression (kidsOf (treeAt left s at)) ≡ true → 0 < countAt s at
 only-there left s at a h = go (countAt s at) refl
   where
     go : (k : ℕ) → countAt s at ≡ k → 0 < k
-    go zero e = absurd (let f = only-none left s at a 0 (sym e) refl in let y : _≡_ {A = ℕ} 0 1 = cc (h, f) in omega arith)
+    go zero e = absurd (let f = only-none a (sym e) refl in let y : _≡_ {A = ℕ} 0 1 = cc (h, f) in omega arith)
     go (suc k) e = omega arith
 
 -- ---- `prop_name_from_expr`
@@ -162,7 +162,7 @@ Literal m = (m ≡ mark "Bi") ⊎ ((m ≡ mark "Ss") ⊎ (m ≡ mark "Nu"))
 abbrev pub Through : ℕ → Type 0
 Through m = (m ≡ mark "Ta") ⊎ ((m ≡ mark "Tc") ⊎ ((m ≡ mark "Nn") ⊎ ((m ≡ mark "Pr") ⊎ ((m ≡ mark "As") ⊎ (m ≡ mark "Ts")))))
 
-module _ (left : ℕ) (s : List ℕ) (at m : ℕ) (mq : m ≡ markAt s at) (ctx : ℕ) where
+module _ {left : ℕ} {s : List ℕ} {at : ℕ} (a : AcceptedAt left s at) {m : ℕ} (mq : m ≡ markAt s at) (ctx : ℕ) where
   expr-of : (k : KeyExpr) → keyExprKind m ≡ k → propNameFromExpr (treeAt left s at) ctx ≡
       propNameBy k ctx (treeAt left s at) (λ n. propNameFromFirst (kidsOf (treeAt left s at)) n) (λ n. propNameFromOnly (kidsOf (treeAt left s at)) n)
   expr-of k e =
@@ -190,7 +190,7 @@ module _ (left : ℕ) (s : List ℕ) (at m : ℕ) (mq : m ≡ markAt s at) (ctx 
     symbol-by : propNameFromExpr (treeAt left s at) ctx ≡ cond (isWellKnownMember ctx (treeAt left s at)) (some (computed (treeAt left s at))) none
     unfolding keyExprKind propNameBy
     symbol-by =
-        let w : isWellKnownMember ctx (treeAt left s at) ≡ isWellKnownSymbolExpr ctx (kidsOf (treeAt left s at)) = member-by left s at m mq ctx ∙ rw (eq-eqb m (mark "Mb") e) in
+        let w : isWellKnownMember ctx (treeAt left s at) ≡ isWellKnownSymbolExpr ctx (kidsOf (treeAt left s at)) = member-by a mq ctx ∙ rw (eq-eqb m (mark "Mb") e) in
         expr-of xMember (rw e) ∙ ap (λ (b : Bool). cond b (some (computed (treeAt left s at))) none) (sym w)
 
     pub key-symbol : isWellKnownMember ctx (treeAt left s at) ≡ true → propNameFromExpr (treeAt left s at) ctx ≡ some (computed (treeAt left s at))
@@ -204,7 +204,7 @@ module _ (left : ℕ) (s : List ℕ) (at m : ℕ) (mq : m ≡ markAt s at) (ctx 
   key-template e o = expr-of xTpl (rw e) ∙ (only-name (kidsOf (treeAt left s at)) ctx ∙ rw o)
 
   -- the first child stands at p
-  module _ (a : AcceptedAt left s at) (p : ℕ) (pq : p ≡ bodyAt s at) where
+  module _ {p : ℕ} (pq : p ≡ bodyAt s at) where
     pub only-child : onlyExpression (kidsOf (treeAt left s at)) ≡ true → AcceptedAt (left - 1) s p
     only-child o = rw (pq, ← (child-0 left s at)) (child left s at a 0 (only-there left s at a o))
 
@@ -249,7 +249,7 @@ module _ (left : ℕ) (s : List ℕ) (at m : ℕ) (mq : m ≡ markAt s at) (ctx 
 
 -- ---- `valid_prop_name`
 
-module _ (left : ℕ) (s : List ℕ) (at m : ℕ) (mq : m ≡ markAt s at) (ctx : ℕ) where
+module _ {left : ℕ} {s : List ℕ} {at : ℕ} (a : AcceptedAt left s at) {m : ℕ} (mq : m ≡ markAt s at) (ctx : ℕ) where
   valid-by : validPropName ctx (treeAt left s at) ≡ cond (eqb m (mark "Kc")) (propNameFromFirst (kidsOf (treeAt left s at)) ctx) (some (treeAt left s at))
   unfolding validPropName
   valid-by = ap (λ (j : ℕ). cond (eqb j (mark "Kc")) (propNameFromFirst (kidsOf (treeAt left s at)) ctx) (some (treeAt left s at))) (mark-is left s at ∙ sym mq)
@@ -257,7 +257,7 @@ module _ (left : ℕ) (s : List ℕ) (at m : ℕ) (mq : m ≡ markAt s at) (ctx 
   pub valid-stands : (m ≡ mark "Kc" → ⊥) → validPropName ctx (treeAt left s at) ≡ some (treeAt left s at)
   valid-stands n = valid-by ∙ rw (ne-eqb m (mark "Kc") n)
 
-  module _ (a : AcceptedAt left s at) (e : m ≡ mark "Kc") (p : ℕ) (pq : p ≡ bodyAt s at) where
+  module _ (e : m ≡ mark "Kc") {p : ℕ} (pq : p ≡ bodyAt s at) where
     pub computed-child : Child left s at 0 p expression
     unfolding grammar known slots place fixed
     computed-child = placed (first-in left s at a (mark "Kc") (sym mq ∙ e) refl expression refl) pq
