@@ -43,13 +43,14 @@ wrote-then {a} {b} {c} {p} {E} {F} v w =
       same = w .same ∙ v .same;
       keep = λ i h g. w .keep i (omega arith) g ∙ v .keep i h g;
       new = λ i h g k. ⊎-elim
-        (λ (l : i < length E). w .keep (p + i) (omega arith) k ∙ v .new i l g k ∙ sym (List·getD-append E F 0 i l))
-        (λ (l : length E ≤ i).
+          (λ (l : i < length E). w .keep (p + i) (omega arith) k ∙ v .new i l g k ∙ sym (List·getD-append E F 0 i l))
+          (λ (l : length E ≤ i).
           let n : length (E ++ F) ≡ length E + length F = length-append E F in
           let s : length b ≡ length a = v .same in
           let e : p + i ≡ sat p (length E) + (i - length E) = omega arith in
           ap (λ (q : ℕ). getD c q 0) e ∙ w .new (i - length E) (omega arith) (omega arith) (omega arith) ∙ sym (getD-second E F i l))
-        (less i (length E)) }
+          (less i (length E));
+    }
 
 -- a write behind the room for a front, and then the front, as a head is written behind its children
 pub wrote-front : {a b K : List ℕ} (p : ℕ) (H : List ℕ) → Wrote a b (sat p (length H)) K → Wrote a (sets b p H) p (H ++ K)
@@ -58,21 +59,22 @@ wrote-front {a} {b} {K} p H w =
       same = length-sets b p H ∙ w .same;
       keep = λ i h g. sets-below b p H i h ∙ w .keep i (omega arith) g;
       new = λ i h g k. ⊎-elim
-        (λ (l : i < length H).
+          (λ (l : i < length H).
           let s : length b ≡ length a = w .same in
           sets-in b p H i l (omega arith) ∙ sym (List·getD-append H K 0 i l))
-        (λ (l : length H ≤ i).
+          (λ (l : length H ≤ i).
           let n : length (H ++ K) ≡ length H + length K = length-append H K in
           let e : p + i ≡ sat p (length H) + (i - length H) = omega arith in
           sets-above b p H (p + i) (omega arith) ∙ ap (λ (q : ℕ). getD b q 0) e ∙ w .new (i - length H) (omega arith) (omega arith) (omega arith) ∙ sym (getD-second H K i l))
-        (less i (length H)) }
+          (less i (length H));
+    }
 
 -- on a slice that E just fills, the slice is E
 pub wrote-exact : {a b E : List ℕ} → Wrote a b 0 E → length a ≡ length E → length E < top → b ≡ E
 wrote-exact {a} {b} {E} w h k =
     ext-getD 0 b E (w .same ∙ h) (λ i l.
-      let s = w .same in
-      sym (ap (λ (j : ℕ). getD b j 0) (zero-add i)) ∙ w .new i (omega arith) (omega arith) (omega arith))
+    let s = w .same in
+    sym (ap (λ (j : ℕ). getD b j 0) (zero-add i)) ∙ w .new i (omega arith) (omega arith) (omega arith))
 
 pub put-wrote : {a b : List ℕ} {p : ℕ} {E : List ℕ} {q : ℕ} → Put a b p E q → Wrote a b p E
 put-wrote {a} {p = p} {E = E} w = wrote-eq a p E (w .bytes)
@@ -100,7 +102,8 @@ ran-then {o' = o'} {o'' = o''} {g' = g'} {g'' = g''} {E = E} {D = D} {F = F} {G 
       out = wrote-then (r .out) (subst (λ (q : ℕ). Wrote o' o'' q F) (r .atp) (s .out));
       dia = wrote-then (r .dia) (subst (λ (q : ℕ). Wrote g' g'' q G) (r .atd) (s .dia));
       atp = omega (arith, r .atp, s .atp, length-append E F);
-      atd = omega (arith, r .atd, s .atd, length-append D G) }
+      atd = omega (arith, r .atd, s .atd, length-append D G);
+    }
 
 -- the output is given up: its position goes back to p, from where it was, or from k behind p
 pub ran-back : {o o' g g' : List ℕ} {p d p' d' : ℕ} {E D : List ℕ} → p ≤ top → Ran o o' g g' p d p' d' E D → Ran o o' g g' p d p d' [] D
@@ -108,10 +111,11 @@ ran-back h r = record { out = wrote-drop (r .out); dia = r .dia; atp = omega ari
 
 pub ran-lower : {o o' g g' : List ℕ} (p k : ℕ) {d p' d' : ℕ} {E D : List ℕ} → p ≤ top → Ran o o' g g' (sat p k) d p' d' E D → Ran o o' g g' p d p d' [] D
 ran-lower p k h r = record {
-    out = record { same = r .out .same; keep = λ i l m. r .out .keep i (omega arith) m; new = λ i l m n. absurd (omega arith) };
-    dia = r .dia;
-    atp = omega arith;
-    atd = r .atd }
+  out = record { same = r .out .same; keep = λ i l m. r .out .keep i (omega arith) m; new = λ i l m n. absurd (omega arith) };
+  dia = r .dia;
+  atp = omega arith;
+  atd = r .atd;
+}
 
 -- the front of the output is written last
 pub ran-front : {o o' g g' : List ℕ} (p : ℕ) (H : List ℕ) {d p' d' : ℕ} {K D : List ℕ}
