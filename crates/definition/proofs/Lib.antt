@@ -3,3 +3,4 @@ pub mod Round
 pub mod Accepted
 pub mod Converse
 pub mod Children
+pub mod Kids

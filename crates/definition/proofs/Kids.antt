@@ -1,0 +1,279 @@
+-- From the mark of an accepted record to its text and its children: how many there are at least, which marks they have, and that they are accepted.
+-- Assumes nothing.
+use mathlib.Core.Path.{_≡_, refl, sym, ap, _∙_, subst}
+use mathlib.Core.List.{List, [], _∷_}
+use mathlib.Core.Bool.{Bool, true, false, cond, _&&_, _||_}
+use mathlib.Core.Logic.{_⊎_, inl, inr, ⊎-elim}
+use mathlib.Core.Option.{Option, none, some}
+use Prim.Native.Nat.{ℕ, zero, suc, _+_, _-_, _<_, _≤_}
+use Prim.Native.String.{String}
+use native.Mathlib.Nat.{not-suc-le-zero, le-of-suc-le-suc}
+use native.Mathlib.Omega.{arith}
+use lib.Dec.{eqb}
+use lib.ListN.{length}
+use borrow.Author.Tests.{eqb-true, eqb-false, leb-true, eq-eqb, ne-eqb}
+use Rattle.definition.specs.Tree.{Head, Rec, nil, headSize, markAt, flagsAt, lengthAt, countAt, textAt, bodyAt, headAt, readAll, endOfAll, endAt, treeAt}
+use Rattle.definition.specs.Grammar.{
+  mark,
+  marks,
+  member,
+  Part,
+  Part.one,
+  Part.many,
+  Part.property,
+  Form,
+  Form.empty,
+  Form.eight,
+  Form.integer,
+  Form.identifier,
+  grammar,
+  known,
+  forms,
+  slots,
+  place,
+  allowed,
+  after,
+  least,
+  isProperty,
+  undestructured,
+  expression,
+  type,
+  pattern,
+}
+use Rattle.definition.specs.Check.{hasForm, isInteger, formOf, slotsOf, inside, Checked.fine, checkAt}
+use Rattle.definition.specs.Children.{AcceptedAt, childAt}
+use Rattle.definition.specs.Record.{headOf, kidsOf, markOf, textOf, absent, kid}
+use Rattle.definition.proofs.Places.{part-length}
+use Rattle.definition.proofs.Accepted.{Accepted, accepted, child-accepted, slotsAt}
+use Rattle.definition.proofs.Children.{some-left, itself, tree-is}
+
+-- ---- sets of marks
+
+-- a mark in a set that is not its first is one of the others
+pub member-rest : (m x : ℕ) (xs : List ℕ) → member m (x ∷ xs) ≡ true → (m ≡ x → ⊥) → member m xs ≡ true
+unfolding member
+member-rest m x xs e n = let z = ne-eqb m x n in rw z at e
+
+-- a mark in a set of one
+pub member-one : (m x : ℕ) → member m (x ∷ []) ≡ true → m ≡ x
+unfolding member
+member-one m x e = eqb-true m x (go (eqb m x) e)
+  where
+    go : (b : Bool) → (b || false) ≡ true → b ≡ true
+    go true e = refl
+    go false e = e
+
+-- a mark in a set is none that the set lacks: `member-not m x xs refl h`
+pub member-not : (m x : ℕ) (xs : List ℕ) → member x xs ≡ false → member m xs ≡ true → m ≡ x → ⊥
+member-not m x xs f e q = let z : _≡_ {A = Bool} true false = sym e ∙ (ap (λ (k : ℕ). member k xs) q ∙ f) in let y : _≡_ {A = ℕ} 0 1 = cc in omega arith
+
+-- a mark in a set is in a larger one: `member-wider m xs ys refl h`
+abbrev pub contained : List ℕ → List ℕ → Bool
+contained [] ys = true
+contained (x ∷ xs) ys = member x ys && contained xs ys
+
+both : (a b : Bool) → (a && b) ≡ true → (a ≡ true) × (b ≡ true)
+both true b e = (refl, e)
+both false b e = absurd (let z : _≡_ {A = ℕ} 0 1 = cc in omega arith)
+
+pub member-wider : (m : ℕ) (xs ys : List ℕ) → contained xs ys ≡ true → member m xs ≡ true → member m ys ≡ true
+unfolding member
+member-wider m [] ys c e = absurd (let z : _≡_ {A = ℕ} 0 1 = cc in omega arith)
+member-wider m (x ∷ xs) ys c e = go (eqb m x) refl (member-wider m xs ys (both (member x ys) (contained xs ys) c .1)) e
+  where
+    go : (b : Bool) → eqb m x ≡ b → (member m xs ≡ true → member m ys ≡ true) → (b || member m xs) ≡ true → member m ys ≡ true
+    go true q f h = rw (eqb-true m x q) (both (member x ys) (contained xs ys) c .0)
+    go false q f h = f h
+
+-- ---- the head of the tree that stands at an offset, accepted or not
+
+pub head-is : (left : ℕ) (s : List ℕ) (at : ℕ) → headOf (treeAt left s at) ≡ headAt s at
+unfolding treeAt
+head-is zero s at = refl
+head-is (suc left) s at = refl
+
+pub mark-is : (left : ℕ) (s : List ℕ) (at : ℕ) → markOf (treeAt left s at) ≡ markAt s at
+unfolding headAt
+mark-is left s at = ap (λ (h : Head). h .mark) (head-is left s at)
+
+pub flags-is : (left : ℕ) (s : List ℕ) (at : ℕ) → headOf (treeAt left s at) .flags ≡ flagsAt s at
+unfolding headAt
+flags-is left s at = ap (λ (h : Head). h .flags) (head-is left s at)
+
+pub text-is : (left : ℕ) (s : List ℕ) (at : ℕ) → textOf (treeAt left s at) ≡ textAt s at
+unfolding headAt
+text-is left s at = ap (λ (h : Head). h .text) (head-is left s at)
+
+-- whether it has a mark: `is S (treeAt left s at)`, from a comparison of numbers
+pub is-mark : (left : ℕ) (s : List ℕ) (at m : ℕ) → markAt s at ≡ m → eqb (markOf (treeAt left s at)) m ≡ true
+is-mark left s at m e = eq-eqb _ _ (mark-is left s at ∙ e)
+
+pub not-mark : (left : ℕ) (s : List ℕ) (at m : ℕ) → (markAt s at ≡ m → ⊥) → eqb (markOf (treeAt left s at)) m ≡ false
+not-mark left s at m n = ne-eqb _ _ (λ e. n (sym (mark-is left s at) ∙ e))
+
+-- ---- one of n records
+
+pub kid-read : (read : ℕ → Rec) (end : ℕ → ℕ) (n at i : ℕ) → i < n → kid i (readAll read end n at) ≡ read (endOfAll end i at)
+unfolding readAll endOfAll
+kid-read read end zero at i h = absurd (not-suc-le-zero h)
+kid-read read end (suc n) at zero h = refl
+kid-read read end (suc n) at (suc i) h = kid-read read end n (end at) i (le-of-suc-le-suc h)
+
+pub kid-read-none : (read : ℕ → Rec) (end : ℕ → ℕ) (n at i : ℕ) → n ≤ i → kid i (readAll read end n at) ≡ absent
+unfolding readAll
+kid-read-none read end zero at i h = go i
+  where
+    go : (j : ℕ) → kid j nil ≡ absent
+    go zero = refl
+    go (suc j) = refl
+kid-read-none read end (suc n) at zero h = absurd (not-suc-le-zero h)
+kid-read-none read end (suc n) at (suc i) h = kid-read-none read end n (end at) i (le-of-suc-le-suc h)
+
+-- the first slot asks one of its marks
+pub allowed-one : (S : String) (ps : List Part) (m : ℕ) → allowed (one S ∷ ps) m ≡ true → member m (marks S) ≡ true
+unfolding allowed
+allowed-one S ps m e = e
+
+-- ---- the slots that a row fixes by their number: those before the first `*`
+
+-- the set of marks at the slot i
+unfoldable pub fixed : List Part → ℕ → Option String
+fixed [] i = none
+fixed (one s ∷ ps) zero = some s
+fixed (one s ∷ ps) (suc i) = fixed ps i
+fixed (many s ∷ ps) i = none
+fixed (property ∷ ps) zero = some "Bd Ag"
+fixed (property ∷ ps) (suc i) = fixed ps i
+
+never-some : (S : String) → none ≡ some S → ⊥
+never-some S e = let z : _≡_ {A = ℕ} 0 1 = cc in omega arith
+
+fixed-least : (ps : List Part) (i : ℕ) (S : String) → fixed ps i ≡ some S → i < least ps
+unfolding fixed least
+fixed-least [] i S e = absurd (never-some S e)
+fixed-least (one s ∷ ps) zero S e = omega arith
+fixed-least (one s ∷ ps) (suc i) S e = omega (arith, fixed-least ps i S e)
+fixed-least (many s ∷ ps) i S e = absurd (never-some S e)
+fixed-least (property ∷ ps) zero S e = omega arith
+fixed-least (property ∷ ps) (suc i) S e = omega (arith, fixed-least ps i S e)
+
+fixed-allowed : (end : ℕ → ℕ) (s : List ℕ) (ps : List Part) (p i m : ℕ) (S : String) → fixed ps i ≡ some S →
+    allowed (slotsAt end s ps p i) m ≡ true → member m (marks S) ≡ true
+unfolding fixed slotsAt after allowed
+fixed-allowed end s [] p i m S e a = absurd (never-some S e)
+fixed-allowed end s (one t ∷ ps) p zero m S e a = let z : t ≡ S = cc in rw z at a
+fixed-allowed end s (one t ∷ ps) p (suc i) m S e a = fixed-allowed end s ps (end p) i m S e a
+fixed-allowed end s (many t ∷ ps) p i m S e a = absurd (never-some S e)
+fixed-allowed end s (property ∷ ps) p zero m S e a = let z : "Bd Ag" ≡ S = cc in rw z at a
+fixed-allowed end s (property ∷ ps) p (suc i) m S e a = fixed-allowed end s ps (end p) i m S e a
+
+plain : (p b : Bool) (x y : List Part) → b ≡ false → cond p (cond b x y) y ≡ y
+plain true true x y e = absurd (let z : _≡_ {A = ℕ} 0 1 = cc in omega arith)
+plain true false x y e = refl
+plain false b x y e = refl
+
+-- the slots inside a record are its row's, but for an Ag
+pub inside-plain : (ps : List Part) (m : ℕ) → (m ≡ mark "Ag" → ⊥) → inside ps m ≡ slotsOf m
+inside-plain ps m n = plain (isProperty ps) (eqb m (mark "Ag")) undestructured (slotsOf m) (ne-eqb m (mark "Ag") n)
+
+inside-ag : (ps : List Part) → (inside ps (mark "Ag") ≡ undestructured) ⊎ (inside ps (mark "Ag") ≡ slotsOf (mark "Ag"))
+inside-ag ps = go (isProperty ps)
+  where
+    go : (p : Bool) → (cond p undestructured (slotsOf (mark "Ag")) ≡ undestructured) ⊎ (cond p undestructured (slotsOf (mark "Ag")) ≡ slotsOf (mark "Ag"))
+    go true = inl refl
+    go false = inr refl
+
+-- ---- the children of an accepted record
+
+-- its child with the number i is there, is accepted, is the tree's child, and has one of the marks S
+pub record Child (left : ℕ) (s : List ℕ) (at i : ℕ) (S : String) : Type 0 where
+  pub there : i < countAt s at
+  pub accepted : AcceptedAt (left - 1) s (childAt left s at i)
+  pub tree : kid i (kidsOf (treeAt left s at)) ≡ treeAt (left - 1) s (childAt left s at i)
+  pub marks : member (markAt s (childAt left s at i)) (marks S) ≡ true
+
+-- the same with a larger set: `wider c T refl`, with the line `unfolding marks member`
+pub wider : {left : ℕ} {s : List ℕ} {at i : ℕ} {S : String} → Child left s at i S → (T : String) → contained (marks S) (marks T) ≡ true → Child left s at i T
+wider {left} {s} {at} {i} {S} c T w =
+    record { there = c .there; accepted = c .accepted; tree = c .tree; marks = member-wider (markAt s (childAt left s at i)) (marks S) (marks T) w (c .marks) }
+
+module _ (left : ℕ) (s : List ℕ) (at : ℕ) (a : AcceptedAt left s at) where
+  pub kids-are : kidsOf (treeAt left s at) ≡ readAll (treeAt (left - 1) s) (endAt (left - 1) s) (countAt s at) (bodyAt s at)
+  kids-are = ap kidsOf (tree-is left s at a)
+
+  -- the child i, and what stands for one that is not there
+  pub kid-is : (i : ℕ) → i < countAt s at → kid i (kidsOf (treeAt left s at)) ≡ treeAt (left - 1) s (childAt left s at i)
+  kid-is i h = ap (kid i) kids-are ∙ kid-read (treeAt (left - 1) s) (endAt (left - 1) s) (countAt s at) (bodyAt s at) i h
+
+  pub kid-none : (i : ℕ) → countAt s at ≤ i → kid i (kidsOf (treeAt left s at)) ≡ absent
+  kid-none i h = ap (kid i) kids-are ∙ kid-read-none (treeAt (left - 1) s) (endAt (left - 1) s) (countAt s at) (bodyAt s at) i h
+
+  -- a record with the mark m has as many children as its row asks: `at-least m e n refl`
+  pub at-least : (m : ℕ) → markAt s at ≡ m → (n : ℕ) → least (slotsOf m) ≡ n → n ≤ countAt s at
+  at-least m e n l = let z : least (slotsOf (markAt s at)) ≡ n = rw e l in omega (arith, itself left s at a .enough, z)
+
+  apart : Accepted (left - 1) s at (a .slots) (a .past)
+  apart = accepted (left - 1) s at (a .slots) (a .past) (subst (λ (k : ℕ). checkAt k s at (a .slots) ≡ fine (a .past)) (some-left left s at a) (a .checked))
+
+  slot-in : (qs : List Part) → inside (a .slots) (markAt s at) ≡ qs → (i : ℕ) (S : String) → fixed qs i ≡ some S → i < countAt s at → Child left s at i S
+  slot-in qs q i S f h =
+      let p : ℕ = childAt left s at i in
+      let c : AcceptedAt (left - 1) s p = record {
+        slots = slotsAt (endAt (left - 1) s) s (inside (a .slots) (markAt s at)) (bodyAt s at) i;
+        past = endOfAll (endAt (left - 1) s) (suc i) (bodyAt s at);
+        checked = child-accepted (left - 1) s (countAt s at) (bodyAt s at) (inside (a .slots) (markAt s at)) (a .past) (apart .all) i h;
+      } in
+      record {
+        there = h;
+        accepted = c;
+        tree = kid-is i h;
+        marks = fixed-allowed (endAt (left - 1) s) s qs (bodyAt s at) i (markAt s p) S f (rw (sym q) (itself (left - 1) s p c .slot));
+      }
+
+  -- the child at a slot that the row of its mark fixes: `child-in (mark "Ro") e refl 0 type refl`, with the line
+  -- `unfolding grammar known slots place fixed`
+  pub child-in : (m : ℕ) → markAt s at ≡ m → eqb m (mark "Ag") ≡ false → (i : ℕ) (S : String) → fixed (slotsOf m) i ≡ some S → Child left s at i S
+  child-in m e n i S f =
+      slot-in (slotsOf m) (ap (inside (a .slots)) e ∙ inside-plain (a .slots) m (eqb-false m (mark "Ag") n)) i S f
+      (let l = fixed-least (slotsOf m) i S f in let k = at-least m e (least (slotsOf m)) refl in omega (arith, l, k))
+
+  -- the same for an Ag, wherever it stands: its left side and its right side
+  pub left-of : markAt s at ≡ mark "Ag" → Child left s at 0 pattern
+  unfolding grammar known slots place fixed least marks member
+  left-of e = ⊎-elim
+      (λ q. wider (slot-in undestructured (ap (inside (a .slots)) e ∙ q) 0 "Bd Rs Ag Pe Pi" refl (omega (arith, at-least (mark "Ag") e 2 refl))) pattern refl)
+      (λ q. slot-in (slotsOf (mark "Ag")) (ap (inside (a .slots)) e ∙ q) 0 pattern refl (omega (arith, at-least (mark "Ag") e 2 refl)))
+      (inside-ag (a .slots))
+
+  pub right-of : markAt s at ≡ mark "Ag" → Child left s at 1 expression
+  unfolding grammar known slots place fixed least
+  right-of e = ⊎-elim
+      (λ q. slot-in undestructured (ap (inside (a .slots)) e ∙ q) 1 expression refl (omega (arith, at-least (mark "Ag") e 2 refl)))
+      (λ q. slot-in (slotsOf (mark "Ag")) (ap (inside (a .slots)) e ∙ q) 1 expression refl (omega (arith, at-least (mark "Ag") e 2 refl)))
+      (inside-ag (a .slots))
+
+  -- ---- its text
+
+  pub text-length : length (textAt s at) ≡ lengthAt s at
+  text-length = part-length s (at + headSize) (lengthAt s at) (itself left s at a .fits)
+
+  -- it has the form of its mark's row: `form-is m e f refl`, with the line `unfolding grammar known forms place`
+  pub form-is : (m : ℕ) → markAt s at ≡ m → (f : Form) → formOf m ≡ f → hasForm f (flagsAt s at) (textAt s at) ≡ true
+  form-is m e f q = rw (sym q, sym e) (itself left s at a .form)
+
+  -- a text that is empty; the context of an Id; the bytes of a Nu; the sign and the digits of a Bi
+  pub no-text : (m : ℕ) → markAt s at ≡ m → formOf m ≡ empty → lengthAt s at ≡ 0
+  unfolding hasForm
+  no-text m e q = sym text-length ∙ eqb-true _ 0 (form-is m e empty q)
+
+  pub id-text : markAt s at ≡ mark "Id" → 4 ≤ lengthAt s at
+  unfolding grammar known forms place hasForm
+  id-text e = let l = leb-true 4 (length (textAt s at)) (form-is (mark "Id") e identifier refl) in omega (arith, text-length)
+
+  pub nu-text : markAt s at ≡ mark "Nu" → lengthAt s at ≡ 8
+  unfolding grammar known forms place hasForm
+  nu-text e = sym text-length ∙ eqb-true _ 8 (form-is (mark "Nu") e eight refl)
+
+  pub bi-text : markAt s at ≡ mark "Bi" → isInteger (textAt s at) ≡ true
+  unfolding grammar known forms place hasForm
+  bi-text e = form-is (mark "Bi") e integer refl
