@@ -1,11 +1,16 @@
 -- Laws of `sets`, a run of stores that is clipped at the end of a list, and the bytes of heads and diagnostics as such runs. Assumes nothing.
 use mathlib.Core.Path.{_≡_, refl, sym, _∙_, ap}
-use mathlib.Core.List.{List, [], _∷_, _++_}
-use Prim.Native.Nat.{ℕ, zero, suc, _+_, _-_, _≤_, _<_}
-use native.Mathlib.Nat.{add-zero}
+use mathlib.Core.List.{List, [], _∷_, _++_, append-assoc}
+use Prim.Native.Nat.{ℕ, zero, suc, _+_, _-_, _%_, _≤_, _<_}
+use native.Mathlib.Nat.{add-zero, zero-add}
+use native.Mathlib.Numerals.{add-one}
 use native.Mathlib.Omega.{arith}
-use lib.ListN.{length, getD, set, length-set}
-use lib.Seq.{sets, set-out, getD-set-same, getD-set-other}
+use lib.ListN.{length, getD, set, take, drop, length-set, take-append-drop}
+use lib.Seq.{sets, sets-eq, length-sets, set-out, getD-set-same, getD-set-other, take-suc, length-take-le, drop-drop, ext-getD}
+use Rattle.definition.specs.Tree
+use Rattle.definition.specs.Tree.{headSize, le2, le4, headBytes}
+use Rattle.records.specs.Fields.{fieldBytes, diagSize, diagBytes}
+use Rattle.records.specs.declared.Head.{Head}
 
 -- a run in two parts
 pub sets-append : (o : List ℕ) (p : ℕ) (E F : List ℕ) → sets o p (E ++ F) ≡ sets (sets o p E) (p + length E) F
@@ -33,3 +38,82 @@ sets-in a p (x ∷ E) (suc j) h g =
 pub sets-out : (a : List ℕ) (p : ℕ) (E : List ℕ) → length a ≤ p → sets a p E ≡ a
 sets-out a p [] h = refl
 sets-out a p (x ∷ E) h = sets-out (set a p x) (suc p) E (simp length-set (omega arith)) ∙ set-out a p x h
+
+-- ---- the bytes of a head, part by part
+
+-- a byte is its own remainder
+byte-mod : (b : ℕ) → b < 256 → b ≡ b % 256
+byte-mod b h = omega arith
+
+pub head-sets : (o : List ℕ) {o1 o2 o3 o4 o5 o6 : List ℕ} (p : ℕ) (h : Head) → h .flags < 256
+    → o1 ≡ sets o p (le2 (h .mark)) → o2 ≡ set o1 (p + 2) (h .flags) → o3 ≡ sets o2 (p + 3) (le4 (h .start)) → o4 ≡ sets o3 (p + 7) (le4 (h .end))
+    → o5 ≡ sets o4 (p + 11) (le2 (h .text)) → o6 ≡ sets o5 (p + 13) (le2 (h .count)) → o6 ≡ sets o p (fieldBytes h)
+unfolding fieldBytes
+head-sets o {o1} {o2} {o3} {o4} {o5} {o6} p h f e1 e2 e3 e4 e5 e6 =
+    let x1 : List ℕ = le2 (h .mark) in
+    let x2 : List ℕ = x1 ++ ((h .flags % 256) ∷ []) in
+    let x3 : List ℕ = x2 ++ le4 (h .start) in
+    let x4 : List ℕ = x3 ++ le4 (h .end) in
+    let x5 : List ℕ = x4 ++ le2 (h .text) in
+    let s1 : o1 ≡ sets o p x1 = e1 in
+    let s2 : o2 ≡ sets o p x2 =
+    e2 ∙ ap (λ (b : ℕ). set o1 (p + 2) b) (byte-mod (h .flags) f) ∙ ap (λ (l : List ℕ). set l (p + 2) (h .flags % 256)) s1 ∙ sym (sets-append o p x1 ((h .flags % 256) ∷ [])) in
+    let s3 : o3 ≡ sets o p x3 = e3 ∙ ap (λ (l : List ℕ). sets l (p + 3) (le4 (h .start))) s2 ∙ sym (sets-append o p x2 (le4 (h .start))) in
+    let s4 : o4 ≡ sets o p x4 = e4 ∙ ap (λ (l : List ℕ). sets l (p + 7) (le4 (h .end))) s3 ∙ sym (sets-append o p x3 (le4 (h .end))) in
+    let s5 : o5 ≡ sets o p x5 = e5 ∙ ap (λ (l : List ℕ). sets l (p + 11) (le2 (h .text))) s4 ∙ sym (sets-append o p x4 (le2 (h .text))) in
+    e6 ∙ ap (λ (l : List ℕ). sets l (p + 13) (le2 (h .count))) s5 ∙ sym (sets-append o p x5 (le2 (h .count)))
+
+-- the head of a record of the definition with n children, by its fields
+abbrev pub fieldsOf : Tree.Head → ℕ → Head
+fieldsOf h n = record { mark = h .mark; flags = h .flags; start = h .start; end = h .end; text = length (h .text); count = n }
+
+pub head-bytes : (h : Tree.Head) (n : ℕ) → fieldBytes (fieldsOf h n) ≡ headBytes h n
+unfolding fieldBytes headBytes
+head-bytes h n = refl
+
+pub length-fieldBytes : (h : Head) → length (fieldBytes h) ≡ headSize
+unfolding fieldBytes
+length-fieldBytes h = refl
+
+-- ---- the bytes of a diagnostic
+
+pub diag-sets : (o : List ℕ) {o1 o2 o3 : List ℕ} (d m s e : ℕ)
+    → o1 ≡ sets o d (le2 m) → o2 ≡ sets o1 (d + 2) (le4 s) → o3 ≡ sets o2 (d + 6) (le4 e) → o3 ≡ sets o d (diagBytes m s e)
+unfolding diagBytes
+diag-sets o d m s e e1 e2 e3 =
+    e3 ∙ ap (λ (l : List ℕ). sets l (d + 6) (le4 e)) (e2 ∙ ap (λ (l : List ℕ). sets l (d + 2) (le4 s)) e1 ∙ sym (sets-append o d (le2 m) (le4 s)))
+    ∙ sym (sets-append o d (le2 m ++ le4 s) (le4 e))
+
+pub length-diagBytes : (m s e : ℕ) → length (diagBytes m s e) ≡ diagSize
+unfolding diagBytes
+length-diagBytes m s e = refl
+
+-- ---- a copy
+
+-- one byte more of a copy
+pub copy-more : (o : List ℕ) {o1 : List ℕ} (p i : ℕ) (t : List ℕ) → i < length t → o1 ≡ sets o p (take i t) → set o1 (p + i) (getD t i 0) ≡ sets o p (take (i + 1) t)
+copy-more o {o1} p i t h e =
+    let l : length (take i t) ≡ i = length-take-le i t (omega arith) in
+    ap (λ (s : List ℕ). set s (p + i) (getD t i 0)) e ∙ ap (λ (k : ℕ). set (sets o p (take i t)) (p + k) (getD t i 0)) (sym l)
+    ∙ sym (sets-append o p (take i t) (getD t i 0 ∷ [])) ∙ ap (λ (s : List ℕ). sets o p s) (sym (ap (λ (k : ℕ). take k t) (add-one i) ∙ take-suc t i 0 h))
+
+-- a copy over a list of the same length is what was copied
+pub copy-all : (o t : List ℕ) → length o ≡ length t → sets o 0 t ≡ t
+copy-all o t h = ext-getD 0 (sets o 0 t) t (length-sets o 0 t ∙ h) (λ i l. let n = length-sets o 0 t in ap (λ (k : ℕ). getD (sets o 0 t) k 0) (sym (zero-add i)) ∙ sets-in o 0 t i (omega arith) (omega arith))
+
+-- a text that fits, written as a part of the list
+pub part-sets : (o : List ℕ) (p : ℕ) (t : List ℕ) → p + length t ≤ length o → take p o ++ (t ++ drop (length t) (drop p o)) ≡ sets o p t
+part-sets o p t h = rw (sets-eq t o p h, drop-drop, append-assoc)
+
+-- a text that is cut after n bytes, where the list ends
+sets-cut : (o : List ℕ) (p n : ℕ) (t : List ℕ) → p + n ≡ length o → n ≤ length t → sets o p t ≡ sets o p (take n t)
+sets-cut o p n t h k =
+    let l : length (take n t) ≡ n = length-take-le n t k in
+    let m : length (sets o p (take n t)) ≡ length o = length-sets o p (take n t) in
+    ap (λ (s : List ℕ). sets o p s) (sym (take-append-drop n t)) ∙ sets-append o p (take n t) (drop n t)
+    ∙ sets-out (sets o p (take n t)) (p + length (take n t)) (drop n t) (omega arith)
+
+pub cut-sets : (o : List ℕ) (p n : ℕ) (t : List ℕ) → p + n ≡ length o → n ≤ length t → take p o ++ (take n t ++ drop n (drop p o)) ≡ sets o p t
+cut-sets o p n t h k =
+    let l : length (take n t) ≡ n = length-take-le n t k in
+    ap (λ (m : ℕ). take p o ++ (take n t ++ drop m (drop p o))) (sym l) ∙ part-sets o p (take n t) (omega arith) ∙ sym (sets-cut o p n t h k)

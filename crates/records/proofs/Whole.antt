@@ -1,33 +1,32 @@
 -- Laws of `Whole`: a record that lies in the bytes, its children, where it ends; and that an accepted record is whole. Assumes nothing.
 use mathlib.Core.Path.{_≡_, refl, sym, _∙_, ap, subst}
 use mathlib.Core.List.{List}
-use mathlib.Core.Bool.{Bool, true, false, cond}
 use Prim.Native.Nat.{ℕ, zero, suc, _+_, _-_, _≤_, _<_}
 use native.Mathlib.Omega.{arith}
-use borrow.Author.Tests.{ltb-false}
 use lib.ListN.{length}
-use lib.Dec.{ltb, leb}
-use Rattle.definition.specs.Tree.{headSize, headAt, markAt, startAt, lastAt, lengthAt, countAt, bodyAt, Rec, rec, Recs, nil, cons, readAll, endOfAll, endAt, treeAt}
-use Rattle.definition.specs.Grammar.{Part, known, place, allowed, after, least}
-use Rattle.definition.specs.Check.{
-  formOf,
-  slotsOf,
-  hasForm,
-  inside,
-  Opening,
-  Opening.opened,
-  Opening.stopped,
-  openBody,
-  openAt,
-  Checked,
-  Checked.fine,
-  Checked.refused,
-  checkAll,
-  within,
-  onward,
-  checkAt,
+use Rattle.definition.specs.Tree.{
+  headSize,
+  headAt,
+  markAt,
+  countAt,
+  bodyAt,
+  Bytes,
+  Rec,
+  rec,
+  Recs,
+  nil,
+  cons,
+  encode,
+  readAll,
+  endOfAll,
+  endAt,
+  treeAt,
 }
-use Rattle.records.specs.Whole.{Each, Whole}
+use Rattle.definition.specs.Grammar.{Part, after}
+use Rattle.definition.specs.Check.{inside, Checked.fine, checkAll, checkAt}
+use Rattle.definition.proofs.Accepted.{accepted, accepted-left, first-accepted, check-ends}
+use Rattle.definition.proofs.Converse.{encode-treeAt}
+use Rattle.records.specs.Whole.{Each, Whole, partAt}
 
 one-less : (n : ℕ) → n ≡ suc n - 1
 one-less n = omega arith
@@ -151,72 +150,24 @@ module _ (left : ℕ) (s : List ℕ) (at n c : ℕ) (i : Siblings left s at n c)
   pub siblings-done : n ≤ 0 → c ≡ endAt left s at
   siblings-done h = sym (ends-none n (endAt (left - 1) s) c h) ∙ i .rest
 
--- ---- an accepted record is whole
+-- ---- an accepted record
 
-not-opened : {k b n : ℕ} {qs : List Part} → stopped k ≡ opened b n qs → ⊥
-not-opened e = let z : _≡_ {A = ℕ} 0 1 = cc in omega arith
+accepted-each : (left : ℕ) (s : List ℕ) → ((a : ℕ) (ps : List Part) (e : ℕ) → checkAt left s a ps ≡ fine e → Whole left s a) →
+    (n a : ℕ) (ps : List Part) (e : ℕ) → checkAll (checkAt left s) s n a ps ≡ fine e → Each (Whole left s) (endAt left s) n a
+unfolding Each
+accepted-each left s whole zero a ps e f = tt
+accepted-each left s whole (suc n) a ps e f =
+    let u = first-accepted left s n a ps e f in
+    (whole a ps (endAt left s a) (u .0), accepted-each left s whole n (endAt left s a) (after ps (markAt s a)) e (u .1))
 
-not-fine : {k p e : ℕ} → refused k p ≡ fine e → ⊥
-not-fine e = let z : _≡_ {A = ℕ} 0 1 = cc in omega arith
+-- it is whole
+pub accepted-whole : (left : ℕ) (s : List ℕ) (at : ℕ) (ps : List Part) (e : ℕ) → checkAt left s at ps ≡ fine e → Whole left s at
+unfolding Whole
+accepted-whole zero s at ps e f = absurd (let z = accepted-left zero s at ps e f in omega (arith, z))
+accepted-whole (suc left) s at ps e f =
+    let a = accepted left s at ps e f in
+    (a .itself .fits, accepted-each left s (λ b qs x. accepted-whole left s b qs x) (countAt s at) (bodyAt s at) (inside ps (markAt s at)) e (a .all))
 
--- a test that did not refuse
-failed : (t : Bool) (k : ℕ) (o : Opening) {b n : ℕ} {qs : List Part} → cond t (stopped k) o ≡ opened b n qs → (t ≡ false) × (o ≡ opened b n qs)
-failed true k o e = absurd (not-opened e)
-failed false k o e = (refl, e)
-
-held : (t : Bool) (k : ℕ) (o : Opening) {b n : ℕ} {qs : List Part} → cond t o (stopped k) ≡ opened b n qs → o ≡ opened b n qs
-held true k o e = e
-held false k o e = absurd (not-opened e)
-
-record Opened (s : List ℕ) (at b n : ℕ) : Type 0 where
-  body : b ≡ bodyAt s at
-  count : n ≡ countAt s at
-  fits : bodyAt s at ≤ length s
-
-opens : (s : List ℕ) (at : ℕ) (ps : List Part) {b n : ℕ} {qs : List Part} → openAt s at ps ≡ opened b n qs → Opened s at b n
-unfolding openAt openBody
-opens s at ps {b} {n} {qs} e =
-    let m = markAt s at in
-    let e1 = failed (ltb (length s - at) headSize) 3 _ e in
-    let e2 = failed (leb (length known) (place known m)) 4 _ (e1 .1) in
-    let e3 = held (allowed ps m) 5 _ (e2 .1) in
-    let e4 = failed (ltb (lastAt s at) (startAt s at)) 6 _ e3 in
-    let e5 = failed (ltb (length s - (at + headSize)) (lengthAt s at)) 3 _ (e4 .1) in
-    let e6 = held (hasForm (formOf m) _ _) 5 _ (e5 .1) in
-    let e7 = failed (ltb (countAt s at) (least (slotsOf m))) 5 _ e6 in
-    let l1 : headSize ≤ length s - at = ltb-false _ _ (e1 .0) in
-    let l2 : lengthAt s at ≤ length s - (at + headSize) = ltb-false _ _ (e5 .0) in
-    let same : opened (bodyAt s at) (countAt s at) (inside ps m) ≡ opened b n qs = e7 .1 in
-    record { body = cc; count = cc; fits = omega arith }
-
--- children that are accepted, where `f` says what an accepted one is
-checked-each : (check : ℕ → List Part → Checked) (P : ℕ → Type 0) (end : ℕ → ℕ) (s : List ℕ) → ((a : ℕ) (ps : List Part) (e : ℕ) → check a ps ≡ fine e → P a × (end a ≡ e))
-    → (n at : ℕ) (ps : List Part) (e : ℕ) → checkAll check s n at ps ≡ fine e → Each P end n at × (endOfAll end n at ≡ e)
-unfolding checkAll Each endOfAll
-checked-each check P end s f zero at ps e h = (tt, cc)
-checked-each check P end s f (suc n) at ps e h = go (check at ps) refl (λ a. checked-each check P end s f n a (after ps (markAt s at)) e) h
-  where
-    go : (x : Checked) → check at ps ≡ x
-        → ((a : ℕ) → checkAll check s n a (after ps (markAt s at)) ≡ fine e → Each P end n a × (endOfAll end n a ≡ e))
-        → onward x (λ a. checkAll check s n a (after ps (markAt s at))) ≡ fine e
-        → (P at × Each P end n (end at)) × (endOfAll end n (end at) ≡ e)
-    go (refused k p) x r g = absurd (not-fine g)
-    go (fine a) x r g =
-        let p = f at ps a x in
-        ((p .0, subst (λ (i : ℕ). Each P end n i) (sym (p .1)) (r a g .0)), ap (λ (i : ℕ). endOfAll end n i) (p .1) ∙ r a g .1)
-
--- what `checkAt` accepts is whole, and ends where it says
-pub checked-whole : (left : ℕ) (s : List ℕ) (at : ℕ) (ps : List Part) (e : ℕ) → checkAt left s at ps ≡ fine e → Whole left s at × (endAt left s at ≡ e)
-unfolding checkAt Whole endAt
-checked-whole zero s at ps e h = absurd (not-fine h)
-checked-whole (suc left) s at ps e h = go (openAt s at ps) refl (checked-each (checkAt left s) (Whole left s) (endAt left s) s (λ a qs f. checked-whole left s a qs f)) h
-  where
-    go : (o : Opening) → openAt s at ps ≡ o
-        → ((n b : ℕ) (qs : List Part) (e : ℕ) → checkAll (checkAt left s) s n b qs ≡ fine e → Each (Whole left s) (endAt left s) n b × (endOfAll (endAt left s) n b ≡ e))
-        → within o at (λ b n qs. checkAll (checkAt left s) s n b qs) ≡ fine e
-        → ((bodyAt s at ≤ length s) × Each (Whole left s) (endAt left s) (countAt s at) (bodyAt s at)) × (endOfAll (endAt left s) (countAt s at) (bodyAt s at) ≡ e)
-    go (stopped k) o r g = absurd (not-fine g)
-    go (opened b n qs) o r g =
-        let i = opens s at ps o in
-        let q = rw (i .body, i .count) at (r n b qs e g) in
-        ((i .fits, q .0), q .1)
+-- the part of the tree that it fills is the encoding of what is read there
+pub accepted-part : (left : ℕ) (s : List ℕ) (at : ℕ) (ps : List Part) (e : ℕ) → Bytes s → checkAt left s at ps ≡ fine e → partAt left s at ≡ encode (treeAt left s at)
+accepted-part left s at ps e bytes f = rw (check-ends left s at ps e f) (encode-treeAt s bytes left at ps e f)

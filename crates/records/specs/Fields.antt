@@ -1,5 +1,5 @@
 -- The head of a record as a value of the code, and its bytes; the bytes of a diagnostic. Assumes nothing: these are definitions.
-use Prim.Native.Nat.{ℕ, _+_, _%_}
+use Prim.Native.Nat.{ℕ, _%_}
 use mathlib.Core.List.{List, _∷_, _++_}
 use Rattle.definition.specs.Tree.{le2, le4, markAt, flagsAt, startAt, lastAt, lengthAt, countAt}
 use Rattle.records.specs.declared.Head.{Head}
@@ -24,6 +24,6 @@ fieldBytes h =
 abbrev pub diagSize : ℕ
 diagSize = 10
 
--- the diagnostic of the number kind: 100 is `d`, and 48 + kind its digit
+-- a diagnostic's mark, `d1` to `d5`, and the range that it is at
 unfoldable pub diagBytes : ℕ → ℕ → ℕ → List ℕ
-diagBytes kind start end = 100 ∷ (48 + kind) ∷ (le4 start ++ le4 end)
+diagBytes mark start end = le2 mark ++ (le4 start ++ le4 end)

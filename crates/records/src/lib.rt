@@ -27,6 +27,11 @@ const COUNT: usize = 13;
 // "A diagnostic is 10 bytes"
 pub const DIAGNOSTIC_SIZE: usize = 10;
 
+// The places of a diagnostic's range in it; its mark is at 0.
+const DIAGNOSTIC_START: usize = 2;
+
+const DIAGNOSTIC_END: usize = 6;
+
 // The largest position.
 const TOP: usize = 0xffff_ffff_ffff_ffff;
 
@@ -147,4 +152,153 @@ pub fn record_at(tree: &[u8], at: usize, left: usize) -> &[u8]
 {
     let end = record_end(tree, at, left);
     &tree[at..end]
+}
+
+// The position n past p, or the largest one.
+pub fn advance(p: usize, n: usize) -> usize
+    ensures { λ r. ⌜ r ≡ sat p n ⌝ }
+{
+    if n <= TOP - p { p + n } else { TOP }
+}
+
+// One byte at p, dropped past the end.
+pub fn put(out: &mut [u8], p: usize, b: u8)
+    ensures { λ _. ⌜ now (out .exit) ≡ set (now (out .entry)) p b ⌝ }
+{
+    if p < out.len() {
+        out[p] = b;
+    }
+}
+
+// A number in two bytes, "little-endian", as far as there is room.
+pub fn put2(out: &mut [u8], p: usize, v: usize)
+    ensures { λ _. ⌜ now (out .exit) ≡ sets (now (out .entry)) p (le2 v) ⌝ }
+{
+    if p < out.len() {
+        put(out, p, (v % 256) as u8);
+        put(out, p + 1, (v / 256 % 256) as u8);
+    }
+}
+
+// A number in four bytes, as far as there is room.
+pub fn put4(out: &mut [u8], p: usize, v: u32)
+    ensures { λ _. ⌜ now (out .exit) ≡ sets (now (out .entry)) p (le4 v) ⌝ }
+{
+    if p < out.len() {
+        put(out, p, (v % 256) as u8);
+        put(out, p + 1, (v / 256 % 256) as u8);
+        put(out, p + 2, (v / 65536 % 256) as u8);
+        put(out, p + 3, (v / 16777216 % 256) as u8);
+    }
+}
+
+// The same two where there is room for all of it.
+fn set2(out: &mut [u8], p: usize, v: usize)
+    requires { ⌜ p + 2 ≤ length (now out) ⌝ }
+    ensures { λ _. ⌜ now (out .exit) ≡ sets (now (out .entry)) p (le2 v) ⌝ }
+{
+    out[p] = (v % 256) as u8;
+    out[p + 1] = (v / 256 % 256) as u8;
+}
+
+fn set4(out: &mut [u8], p: usize, v: u32)
+    requires { ⌜ p + 4 ≤ length (now out) ⌝ }
+    ensures { λ _. ⌜ now (out .exit) ≡ sets (now (out .entry)) p (le4 v) ⌝ }
+{
+    out[p] = (v % 256) as u8;
+    out[p + 1] = (v / 256 % 256) as u8;
+    out[p + 2] = (v / 65536 % 256) as u8;
+    out[p + 3] = (v / 16777216 % 256) as u8;
+}
+
+// A head where there is room for all of it.
+fn set_head(out: &mut [u8], p: usize, h: Head)
+    requires { ⌜ p + headSize ≤ length (now out) ⌝ }
+    ensures { λ _. ⌜ now (out .exit) ≡ sets (now (out .entry)) p (fieldBytes h) ⌝ }
+{
+    set2(out, p, h.mark as usize);
+    out[p + FLAGS] = h.flags;
+    set4(out, p + START, h.start);
+    set4(out, p + END, h.end);
+    set2(out, p + LENGTH, h.text);
+    set2(out, p + COUNT, h.count);
+}
+
+// A head that is cut: byte by byte.
+fn put_cut_head(out: &mut [u8], p: usize, h: Head)
+    ensures { λ _. ⌜ now (out .exit) ≡ sets (now (out .entry)) p (fieldBytes h) ⌝ }
+{
+    if p < out.len() {
+        put2(out, p, h.mark as usize);
+        put(out, p + FLAGS, h.flags);
+        put4(out, p + START, h.start);
+        put4(out, p + END, h.end);
+        put2(out, p + LENGTH, h.text);
+        put2(out, p + COUNT, h.count);
+    }
+}
+
+// A head, as far as there is room, and the position behind it.
+pub fn put_head(out: &mut [u8], p: usize, h: Head) -> usize
+    ensures { λ r. ⌜ Put (now (out .entry)) (now (out .exit)) p (fieldBytes h) r ⌝ }
+{
+    let end = advance(p, HEAD_SIZE);
+    if end <= out.len() {
+        set_head(out, p, h);
+        return end;
+    }
+    put_cut_head(out, p, h);
+    end
+}
+
+// A copy between parts of equal length.
+fn copy(to: &mut [u8], from: &[u8])
+    requires { ⌜ length (now to) ≡ length (now from) ⌝ }
+    ensures { λ _. ⌜ now (to .exit) ≡ now (from .entry) ⌝ }
+{
+    let mut i = 0;
+    while i < from.len() {
+        to[i] = from[i];
+        i += 1;
+    }
+}
+
+// The bytes of a text or of a part of the tree, as far as there is room, and the position behind them.
+pub fn put_text(out: &mut [u8], p: usize, text: &[u8]) -> usize
+    ensures { λ r. ⌜ Put (now (out .entry)) (now (out .exit)) p (now (text .entry)) r ⌝ }
+{
+    let end = advance(p, text.len());
+    if end <= out.len() {
+        copy(&mut out[p..end], text);
+        return end;
+    }
+    if out.len() <= p {
+        return end;
+    }
+    let room = out.len() - p;
+    copy(&mut out[p..], &text[..room]);
+    end
+}
+
+// The record at `at` of the tree, copied whole as far as there is room, and the position behind it.
+pub fn put_record(tree: &[u8], at: usize, left: usize, out: &mut [u8], p: usize) -> usize
+    requires { ⌜ Whole left (now tree) at ⌝ }
+    ensures { λ r. ⌜ Put (now (out .entry)) (now (out .exit)) p (partAt left (now (tree .entry)) at) r ⌝ }
+{
+    let part = record_at(tree, at, left);
+    put_text(out, p, part)
+}
+
+// A diagnostic with one of the marks `d1` to `d5` at a range, as far as there is room, and the position behind it.
+pub fn put_diagnostic(diagnostics: &mut [u8], d: usize, mark: u16, start: u32, end: u32) -> usize
+    ensures { λ r. ⌜ Put (now (diagnostics .entry)) (now (diagnostics .exit)) d (diagBytes mark start end) r ⌝ }
+{
+    let next = advance(d, DIAGNOSTIC_SIZE);
+    if diagnostics.len() <= d {
+        return next;
+    }
+    put2(diagnostics, d, mark as usize);
+    put4(diagnostics, d + DIAGNOSTIC_START, start);
+    put4(diagnostics, d + DIAGNOSTIC_END, end);
+    next
 }

@@ -172,7 +172,18 @@ pub const CT: u16 = 0x7443; // "Ct"
 
 pub const OT: u16 = 0x744f; // "Ot"
 
-// How many marks there are.
+// "`d1` to `d5`", the marks of diagnostics: "the cases of `FastCheckDtsDiagnostic`, in order".
+pub const D1: u16 = 0x3164; // UnableToInferType
+
+pub const D2: u16 = 0x3264; // UnableToInferTypeFallbackAny
+
+pub const D3: u16 = 0x3364; // UnableToInferTypeFromProp
+
+pub const D4: u16 = 0x3464; // UnableToInferTypeFromSpread
+
+pub const D5: u16 = 0x3564; // UnsupportedUsing
+
+// How many marks of records there are.
 pub const KNOWN: usize = 85;
 
 // The row of the grammar that a mark has, and KNOWN where it is "unknown mark".
