@@ -4,3 +4,4 @@ pub mod Accepted
 pub mod Converse
 pub mod Children
 pub mod Kids
+pub mod Samples

@@ -6,3 +6,8 @@ pub mod Record
 pub mod Helpers
 pub mod Prescan
 pub mod Names
+pub mod Typing
+pub mod Classes
+pub mod Enums
+pub mod Items
+pub mod Transform

@@ -8,8 +8,9 @@ use native.Mathlib.Omega.{arith}
 use lib.ListN.{length, getD, set, take, drop, length-set, take-append-drop}
 use lib.Seq.{sets, sets-eq, length-sets, set-out, getD-set-same, getD-set-other, take-suc, length-take-le, drop-drop, ext-getD}
 use Rattle.definition.specs.Tree
-use Rattle.definition.specs.Tree.{headSize, le2, le4, headBytes}
-use Rattle.records.specs.Fields.{fieldBytes, diagSize, diagBytes}
+use Rattle.definition.specs.Tree.{headSize, le2, le4, headBytes, headAt, lengthAt, countAt, bodyAt}
+use Rattle.definition.proofs.Places.{part-length}
+use Rattle.records.specs.Fields.{fieldsAt, fieldsOf, fieldBytes, diagSize, diagBytes}
 use Rattle.records.specs.declared.Head.{Head}
 
 -- a run in two parts
@@ -63,13 +64,15 @@ head-sets o {o1} {o2} {o3} {o4} {o5} {o6} p h f e1 e2 e3 e4 e5 e6 =
     let s5 : o5 ≡ sets o p x5 = e5 ∙ ap (λ (l : List ℕ). sets l (p + 11) (le2 (h .text))) s4 ∙ sym (sets-append o p x4 (le2 (h .text))) in
     e6 ∙ ap (λ (l : List ℕ). sets l (p + 13) (le2 (h .count))) s5 ∙ sym (sets-append o p x5 (le2 (h .count)))
 
--- the head of a record of the definition with n children, by its fields
-abbrev pub fieldsOf : Tree.Head → ℕ → Head
-fieldsOf h n = record { mark = h .mark; flags = h .flags; start = h .start; end = h .end; text = length (h .text); count = n }
-
+-- they are the bytes of the definition's head
 pub head-bytes : (h : Tree.Head) (n : ℕ) → fieldBytes (fieldsOf h n) ≡ headBytes h n
 unfolding fieldBytes headBytes
 head-bytes h n = refl
+
+-- a head that was read is the definition's, with as many children
+pub fields-head : (s : List ℕ) (at : ℕ) → bodyAt s at ≤ length s → fieldsAt s at ≡ fieldsOf (headAt s at) (countAt s at)
+unfolding headAt
+fields-head s at h = rw (part-length s (at + headSize) (lengthAt s at) h)
 
 pub length-fieldBytes : (h : Head) → length (fieldBytes h) ≡ headSize
 unfolding fieldBytes

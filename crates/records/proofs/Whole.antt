@@ -3,7 +3,9 @@ use mathlib.Core.Path.{_≡_, refl, sym, _∙_, ap, subst}
 use mathlib.Core.List.{List}
 use Prim.Native.Nat.{ℕ, zero, suc, _+_, _-_, _≤_, _<_}
 use native.Mathlib.Omega.{arith}
-use lib.ListN.{length}
+use lib.ListN.{length, getD}
+use mir.Syntax.{w8}
+use mir.Val.{Fits}
 use Rattle.definition.specs.Tree.{
   headSize,
   headAt,
@@ -27,6 +29,7 @@ use Rattle.definition.specs.Check.{inside, Checked.fine, checkAll, checkAt}
 use Rattle.definition.proofs.Accepted.{accepted, accepted-left, first-accepted, check-ends}
 use Rattle.definition.proofs.Converse.{encode-treeAt}
 use Rattle.records.specs.Whole.{Each, Whole, partAt}
+use Rattle.records.specs.Wrote.{Put}
 
 one-less : (n : ℕ) → n ≡ suc n - 1
 one-less n = omega arith
@@ -171,3 +174,13 @@ accepted-whole (suc left) s at ps e f =
 -- the part of the tree that it fills is the encoding of what is read there
 pub accepted-part : (left : ℕ) (s : List ℕ) (at : ℕ) (ps : List Part) (e : ℕ) → Bytes s → checkAt left s at ps ≡ fine e → partAt left s at ≡ encode (treeAt left s at)
 accepted-part left s at ps e bytes f = rw (check-ends left s at ps e f) (encode-treeAt s bytes left at ps e f)
+
+-- so that is what a copy of it writes
+pub accepted-put : (left : ℕ) (s : List ℕ) (at : ℕ) (ps : List Part) (e : ℕ) → Bytes s → checkAt left s at ps ≡ fine e → {a b : List ℕ} {p q : ℕ}
+    → Put a b p (partAt left s at) q → Put a b p (encode (treeAt left s at)) q
+accepted-put left s at ps e bytes f w = rw (← (accepted-part left s at ps e bytes f)) w
+
+-- the contents of a `&[u8]` are bytes, as `shared-slice-known` has it
+pub slice-bytes : (s : List ℕ) → ((i : ℕ) → Fits w8 (getD s i 0)) → Bytes s
+unfolding Bytes
+slice-bytes s f i = f i .fits

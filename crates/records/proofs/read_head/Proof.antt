@@ -1,64 +1,47 @@
+-- `records::read_head` meets its contract: each field is what its reader ensures. Assumes nothing.
 use borrow.Author.Needs.{needs}
 use Rattle.records.proofs.read_head.Statement.{statement}
 use Rattle.records.proofs.read_head.Tie as tie
-use Rattle.records.proofs.read_head.Reads as reads
-use Rattle.records.proofs.read_head.Lts as lts
-use Rattle.records.proofs.u16_at.Reads as u16-at-reads
-use Rattle.records.proofs.u32_at.Reads as u32-at-reads
 
--- src/lib.rt:96:9
 u16-at-requires : tie.Need-u16-at-requires
 u16-at-requires c κs = search needs
 
--- src/lib.rt:97:22
 add-flags : tie.Need-add-flags
 add-flags c = search needs
 
--- src/lib.rt:97:17
 shared-slice-read-flags : tie.Need-shared-slice-read-flags
 shared-slice-read-flags c = search needs
 
--- src/lib.rt:98:30
 add-u32-at : tie.Need-add-u32-at
 add-u32-at c = search needs
 
--- src/lib.rt:98:9
 u32-at-requires : tie.Need-u32-at-requires
 u32-at-requires c κs = search needs
 
--- src/lib.rt:99:28
 add-u32-at-2 : tie.Need-add-u32-at-2
 add-u32-at-2 c = search needs
 
--- src/lib.rt:99:9
 u32-at-requires-2 : tie.Need-u32-at-requires-2
 u32-at-requires-2 c κs = search needs
 
--- src/lib.rt:100:29
 add-u16-at : tie.Need-add-u16-at
 add-u16-at c = search needs
 
--- src/lib.rt:100:16
 u16-at-requires-2 : tie.Need-u16-at-requires-2
 u16-at-requires-2 c κs = search needs
 
--- src/lib.rt:100:16
 cast-text : tie.Need-cast-text
 cast-text c = search needs
 
--- src/lib.rt:101:30
 add-u16-at-2 : tie.Need-add-u16-at-2
 add-u16-at-2 c = search needs
 
--- src/lib.rt:101:17
 u16-at-requires-3 : tie.Need-u16-at-requires-3
 u16-at-requires-3 c κs = search needs
 
--- src/lib.rt:101:17
 cast-count : tie.Need-cast-count
 cast-count c = search needs
 
--- src/lib.rt:92:1
 returns : tie.Need-returns
 returns c =
     cc (c .before .before .before .before .before .u16-at .ensures .0, c .before .before .before .u32-at .ensures .0, c .before .before .u32-at2 .ensures .0, c .before .u16-at2 .ensures .0, c .u16-at3 .ensures .0)

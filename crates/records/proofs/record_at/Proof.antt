@@ -12,16 +12,24 @@ record-end-requires : tie.Need-record-end-requires
 record-end-requires c κs = search needs
 
 sub-result : tie.Need-sub-result
-sub-result c = omega (arith, c .record-end .ensures, whole-span (c .before .before .args .left) (c .before .before .args .tree .now) (c .before .before .args .at) (c .before .before .pre))
+sub-result c =
+    let a = c .before .before .args in
+    omega (arith, c .record-end .ensures, whole-span (a .left) (a .tree .now) (a .at) (c .before .before .pre))
 
 part-result-start : tie.Need-part-result-start
-part-result-start c = omega (arith, c .record-end .ensures, whole-span (c .before .before .args .left) (c .before .before .args .tree .now) (c .before .before .args .at) (c .before .before .pre))
+part-result-start c =
+    let a = c .before .before .args in
+    omega (arith, c .record-end .ensures, whole-span (a .left) (a .tree .now) (a .at) (c .before .before .pre))
 
 part-result-end : tie.Need-part-result-end
-part-result-end c = omega (arith, c .record-end .ensures, whole-span (c .before .before .args .left) (c .before .before .args .tree .now) (c .before .before .args .at) (c .before .before .pre))
+part-result-end c =
+    let a = c .before .before .args in
+    omega (arith, c .record-end .ensures, whole-span (a .left) (a .tree .now) (a .at) (c .before .before .pre))
 
 returns : tie.Need-returns
-returns c = ap (λ (e : ℕ). take (e - c .before .before .before .args .at) (drop (c .before .before .before .args .at) (c .before .before .before .args .tree .now))) (c .before .record-end .ensures)
+returns c =
+    let a = c .before .before .before .args in
+    ap (λ (e : ℕ). take (e - a .at) (drop (a .at) (a .tree .now))) (c .before .record-end .ensures)
 
 pub record-at-spec : {M : Type 1} → statement M
 record-at-spec =

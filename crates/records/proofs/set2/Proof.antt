@@ -1,37 +1,29 @@
+-- `records::set2` meets its contract: two stores in a row. Assumes nothing.
 use native.Mathlib.Numerals.{add-one}
 use native.Mathlib.Omega.{arith}
 use lib.ListN.{length-set}
 use borrow.Author.Needs.{needs}
 use Rattle.records.proofs.set2.Statement.{statement}
 use Rattle.records.proofs.set2.Tie as tie
-use Rattle.records.proofs.set2.Reads as reads
-use Rattle.records.proofs.set2.Lts as lts
 
--- src/lib.rt:199:14
 cast-out : tie.Need-cast-out
 cast-out c = search needs
 
--- src/lib.rt:199:5
 slice-write-out : tie.Need-slice-write-out
 slice-write-out c = search needs
 
--- src/lib.rt:200:18
 cast-out-2 : tie.Need-cast-out-2
 cast-out-2 c = search needs
 
--- src/lib.rt:200:9
 add-out : tie.Need-add-out
 add-out c = search needs
 
--- src/lib.rt:200:5
 slice-write-out-2 : tie.Need-slice-write-out-2
 slice-write-out-2 c = simp length-set (omega arith)
 
--- src/lib.rt:195:1
 same-length : tie.Need-same-length
 same-length c = search needs
 
--- src/lib.rt:195:1
 returns : tie.Need-returns
 returns c = rw add-one
 

@@ -1,61 +1,47 @@
+-- `records::set4` meets its contract: four stores in a row. Assumes nothing.
 use native.Mathlib.Numerals.{add-one, add-two, add-three}
 use native.Mathlib.Omega.{arith}
 use lib.ListN.{length-set}
 use borrow.Author.Needs.{needs}
 use Rattle.records.proofs.set4.Statement.{statement}
 use Rattle.records.proofs.set4.Tie as tie
-use Rattle.records.proofs.set4.Reads as reads
-use Rattle.records.proofs.set4.Lts as lts
 
--- src/lib.rt:207:14
 cast-out : tie.Need-cast-out
 cast-out c = search needs
 
--- src/lib.rt:207:5
 slice-write-out : tie.Need-slice-write-out
 slice-write-out c = search needs
 
--- src/lib.rt:208:18
 cast-out-2 : tie.Need-cast-out-2
 cast-out-2 c = search needs
 
--- src/lib.rt:208:9
 add-out : tie.Need-add-out
 add-out c = search needs
 
--- src/lib.rt:208:5
 slice-write-out-2 : tie.Need-slice-write-out-2
 slice-write-out-2 c = simp length-set (omega arith)
 
--- src/lib.rt:209:18
 cast-out-3 : tie.Need-cast-out-3
 cast-out-3 c = search needs
 
--- src/lib.rt:209:9
 add-out-2 : tie.Need-add-out-2
 add-out-2 c = search needs
 
--- src/lib.rt:209:5
 slice-write-out-3 : tie.Need-slice-write-out-3
 slice-write-out-3 c = simp length-set (omega arith)
 
--- src/lib.rt:210:18
 cast-out-4 : tie.Need-cast-out-4
 cast-out-4 c = search needs
 
--- src/lib.rt:210:9
 add-out-3 : tie.Need-add-out-3
 add-out-3 c = search needs
 
--- src/lib.rt:210:5
 slice-write-out-4 : tie.Need-slice-write-out-4
 slice-write-out-4 c = simp length-set (omega arith)
 
--- src/lib.rt:203:1
 same-length : tie.Need-same-length
 same-length c = search needs
 
--- src/lib.rt:203:1
 returns : tie.Need-returns
 returns c = rw (add-one, add-two, add-three)
 

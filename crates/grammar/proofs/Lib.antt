@@ -1,0 +1,7 @@
+mod Lookups
+mod Places
+mod Forms
+mod Openings
+mod Children
+mod Entries
+mod Trees

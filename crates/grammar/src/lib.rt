@@ -1,0 +1,56 @@
+// The check of a tree and of an overload list: refusals 1 to 8 of document 01's table, in its order and with its places.
+ghost use mathlib.Core.Path.{_≡_};
+ghost use Rattle.definition.specs.Check.{checkTree};
+ghost use Rattle.grammar.specs.Answers.{checked};
+
+pub mod overloads;
+mod record;
+mod tables;
+mod text;
+
+// The refusals of document 01's table, 1 to 10 in its order; `number` of specs/Answers.antt gives each its number.
+pub enum Refusal {
+    TreeTooLong,
+    BadOverloads,
+    CutShort,
+    UnknownMark,
+    Misplaced,
+    BackwardRange,
+    TooDeep,
+    TrailingBytes,
+    OutputFull,
+    DiagnosticsFull,
+}
+
+// What a check finds: no refusal and the offset past what was checked, or the first refusal and its place.
+pub enum Checked {
+    Fine(usize),
+    Refused(Refusal, usize),
+}
+
+// "tree over 524,288 bytes"
+const LONGEST_TREE: usize = 524288;
+
+// "depth over 64 (root is 1)"
+const DEEPEST: usize = 64;
+
+// Refusals 1 to 8 of a tree and an overload list, for every two byte strings.
+pub fn check_tree(tree: &[u8], list: &[u8]) -> Checked
+    ensures { λ r. ⌜ checked r ≡ checkTree (now (tree .entry)) (now (list .entry)) ⌝ }
+{
+    if LONGEST_TREE < tree.len() {
+        return Checked::Refused(Refusal::TreeTooLong, 0);
+    }
+    let good = overloads::list_fine(list);
+    if !good {
+        return Checked::Refused(Refusal::BadOverloads, 0);
+    }
+    let found = record::check_record(tree, 0, DEEPEST, tables::ROOT);
+    let Checked::Fine(end) = found else {
+        return found;
+    };
+    if end < tree.len() {
+        return Checked::Refused(Refusal::TrailingBytes, end);
+    }
+    found
+}
