@@ -39,8 +39,8 @@ put-put {a} {b} {c} {p} {E} {q} {F} {r} h v w =
     let l : length b ≡ length a = ap length (v .bytes) ∙ length-sets a p E in
     record {
       bytes =
-        w .bytes ∙ ap (λ (k : ℕ). sets b k F) (v .position) ∙ sets-sat b p (length E) F (omega arith)
-        ∙ ap (λ (o : List ℕ). sets o (p + length E) F) (v .bytes) ∙ sym (sets-append a p E F);
+          w .bytes ∙ ap (λ (k : ℕ). sets b k F) (v .position) ∙ sets-sat b p (length E) F (omega arith)
+          ∙ ap (λ (o : List ℕ). sets o (p + length E) F) (v .bytes) ∙ sym (sets-append a p E F);
       position = omega (arith, v .position, w .position, length-append E F);
     }
 

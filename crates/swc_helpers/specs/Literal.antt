@@ -48,6 +48,16 @@ literalBy lJsxText at r = JsxText
 abbrev pub literalOf : ℕ → Rec → Literal
 literalOf at r = literalBy (litKind (markOf r)) at r
 
+-- the kind of a literal that was read
+abbrev pub kindOf : Literal → Lit
+kindOf (Str at) = lStr
+kindOf (Num v) = lNum
+kindOf (BigInt at) = lBigInt
+kindOf (Bool b) = lBool
+kindOf Null = lNull
+kindOf Regex = lRegex
+kindOf JsxText = lJsxText
+
 -- the type of the literal at `at` with another text of the same length, before that text
 abbrev pub litFront : List ℕ → ℕ → List ℕ
 litFront s at = headBytes (fresh "Tl" 0 []) 1 ++ headBytes (headAt s at) 0

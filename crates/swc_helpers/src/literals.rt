@@ -12,10 +12,15 @@ ghost use Rattle.definition.specs.Helpers.{tsLitType};
 ghost use Rattle.definition.specs.Typing.{turned, turnedInteger, respelled};
 ghost use Rattle.records.specs.Wrote.{Put};
 ghost use Rattle.swc_helpers.specs.Literal.{u64At, le8, turnedBits, turnedSign, numberOf, literalOf, litFront};
-
 use crate::put_front;
 use records::Head;
-use records::marks::{BI, BL, NL, NU, RE, SS, TL};
+use records::marks::BI;
+use records::marks::BL;
+use records::marks::NL;
+use records::marks::NU;
+use records::marks::RE;
+use records::marks::SS;
+use records::marks::TL;
 
 // `Lit`: "A literal is a string, a number, a big integer, a boolean, null or a regex; also `Jt` (JSX text)". A string and a big integer are
 // the offsets of their records.
