@@ -2,3 +2,4 @@ pub mod Known
 pub mod Stores
 pub mod Whole
 pub mod Wrote
+pub mod Texts

@@ -1,3 +1,4 @@
 pub mod Fields
 pub mod Whole
 pub mod Wrote
+pub mod Texts

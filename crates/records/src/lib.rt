@@ -10,6 +10,7 @@ ghost use Rattle.records.specs.Whole.{Whole, partAt};
 ghost use Rattle.records.specs.Wrote.{sat, Put};
 
 pub mod marks;
+pub mod text;
 
 // "15-byte head"
 pub const HEAD_SIZE: usize = 15;

@@ -1,0 +1,63 @@
+// Texts: whether two are equal, and the context and the symbol of an Id.
+ghost use mathlib.Core.Path.{_≡_};
+ghost use Prim.Native.Nat.{_+_, _<_, _≤_};
+ghost use lib.ListN.{length, drop};
+ghost use Rattle.definition.specs.Tree.{lengthAt, bodyAt, textAt, u32At, treeAt};
+ghost use Rattle.definition.specs.Children.{AcceptedAt};
+ghost use Rattle.definition.specs.Record.{sameText};
+ghost use Rattle.records.specs.Texts.{isGlobalName};
+use crate::mark_at;
+use crate::marks::ID;
+use crate::text_at;
+use crate::u32_at;
+
+// "`Id`: 4-byte context, symbol"
+const CONTEXT_SIZE: usize = 4;
+
+// Whether two texts are equal.
+pub fn same_text(a: &[u8], b: &[u8]) -> bool
+    ensures { λ r. ⌜ r ≡ sameText (now (a .entry)) (now (b .entry)) ⌝ }
+{
+    if a.len() != b.len() {
+        return false;
+    }
+    let mut i: usize = 0;
+    while i < a.len() {
+        if a[i] != b[i] {
+            return false;
+        }
+        i += 1;
+    }
+    true
+}
+
+// The symbol of the Id at `at`, as the part of the tree that it fills.
+pub fn symbol_at(tree: &[u8], at: usize) -> &[u8]
+    requires { ⌜ (bodyAt (now tree) at ≤ length (now tree)) × (4 ≤ lengthAt (now tree) at) ⌝ }
+    ensures { λ r. ⌜ now r ≡ drop 4 (textAt (now (tree .entry)) at) ⌝ }
+{
+    let text = text_at(tree, at);
+    &text[CONTEXT_SIZE..]
+}
+
+// The context of the Id at `at`.
+pub fn context_at(tree: &[u8], at: usize) -> u32
+    requires { ⌜ (bodyAt (now tree) at ≤ length (now tree)) × (4 ≤ lengthAt (now tree) at) ⌝ }
+    ensures { λ r. ⌜ r ≡ u32At (textAt (now (tree .entry)) at) 0 ⌝ }
+{
+    u32_at(text_at(tree, at), 0)
+}
+
+// Whether the record at `at` is an Id with this symbol and the unresolved context: `ident.sym == name && ident.ctxt == unresolved_context`.
+pub fn is_global(tree: &[u8], at: usize, left: usize, unresolved: u32, name: &[u8]) -> bool
+    requires { ⌜ AcceptedAt left (now tree) at ⌝ }
+    ensures { λ r. ⌜ r ≡ isGlobalName unresolved (now (name .entry)) (treeAt left (now (tree .entry)) at) ⌝ }
+{
+    if mark_at(tree, at) != ID {
+        return false;
+    }
+    if same_text(symbol_at(tree, at), name) {
+        return context_at(tree, at) == unresolved;
+    }
+    false
+}
