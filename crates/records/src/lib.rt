@@ -15,6 +15,9 @@ pub mod text;
 // "15-byte head"
 pub const HEAD_SIZE: usize = 15;
 
+// "depth over 64 (root is 1)": the levels that a tree's root is read with.
+pub const DEEPEST: usize = 64;
+
 // The places of a head's fields in it; the mark is at 0.
 const FLAGS: usize = 2;
 
