@@ -5,3 +5,6 @@ pub mod Converse
 pub mod Children
 pub mod Kids
 pub mod Samples
+pub mod Stable
+pub mod StableMembers
+pub mod Twice

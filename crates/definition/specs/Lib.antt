@@ -11,3 +11,4 @@ pub mod Classes
 pub mod Enums
 pub mod Items
 pub mod Transform
+pub mod Demand3
