@@ -8,3 +8,6 @@ pub mod Samples
 pub mod Stable
 pub mod StableMembers
 pub mod Twice
+pub mod There
+pub mod Reread
+pub mod Calls
