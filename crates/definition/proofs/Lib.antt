@@ -11,3 +11,7 @@ pub mod Twice
 pub mod There
 pub mod Reread
 pub mod Calls
+pub mod Texts
+pub mod Fit
+pub mod FitTypes
+pub mod FitTyping
