@@ -10,13 +10,14 @@ use Prim.Native.String.{String}
 use native.Mathlib.Omega.{arith}
 use lib.Dec.{eqb, ltb}
 use lib.ListN.{length, drop, length-drop}
-use borrow.Author.Tests.{eqb-false, ltb-true}
+use borrow.Author.Tests.{ltb-true}
 use Rattle.definition.specs.Tree.{Head, Rec, Recs, rec, nil, cons, count, le4, Bytes}
 use Rattle.definition.specs.Grammar.{mark}
 use Rattle.definition.specs.Record.{text, headOf, kidsOf, textOf, isNo, symbolOf, fresh, ranged, absent, ident, identAt, withFlags, flag1, flagged, kid, setKid, one, join, given, present, gone, Diag, Out, pure, ifM, onValue, wrap, each, flat, atKid, second}
 use Rattle.definition.specs.Helpers.{tsKeywordType, anyTypeAnn}
 use Rattle.definition.specs.Names.{genUniqueName}
 use Rattle.definition.specs.Typing.{orAny}
+use Rattle.definition.specs.Widths.{KeysUpTo, AllKeysUpTo}
 use Rattle.definition.proofs.Texts.{bytes-none, bytes-append, bytes-drop, allBytes, written, name-length, name-bytes}
 
 -- ---- the names that a tree can ask for
@@ -37,6 +38,13 @@ kid-names i nil = omega arith
 kid-names zero (cons r rs) = omega arith
 kid-names (suc i) (cons r rs) = omega (arith, kid-names i rs)
 
+-- the keys that the slack x allows
+abbrev pub Keys : ℕ → Rec → Type 0
+Keys x r = KeysUpTo (65531 + x) r
+
+abbrev pub AllKeys : ℕ → Recs → Type 0
+AllKeys x rs = AllKeysUpTo (65531 + x) rs
+
 -- with the counter at n, the text of a name fits after w more
 abbrev pub Room : ℕ → ℕ → Type 0
 Room n w = n + w + 10 < 65536
@@ -44,7 +52,6 @@ Room n w = n + w + 10 < 65536
 -- ---- what fits
 
 pub record Sound (x : ℕ) (h : Head) (n : ℕ) : Type 0 where
-  pub key : h .mark ≡ mark "Ki" → 4 + length (h .text) < 65536 + x
   pub mark : h .mark < 65536
   pub flags : h .flags < 256
   pub start : h .start < 4294967296
@@ -77,27 +84,15 @@ pub record Makes {A : Type 0} (P : A → Type 0) (n w : ℕ) (o : Out A) : Type 
 
 -- ---- heads
 
--- a mark that is none of a Ki, and has two bytes
+-- a mark has two bytes
 abbrev pub plain : String → Bool
-plain s = ltb (mark s) 65536 && not (eqb (mark s) (mark "Ki"))
-
-both : (a b : Bool) → (a && not b) ≡ true → (a ≡ true) × (b ≡ false)
-both true true e = absurd (let z : _≡_ {A = ℕ} 0 1 = cc in omega arith)
-both true false e = (refl, refl)
-both false b e = absurd (let z : _≡_ {A = ℕ} 0 1 = cc in omega arith)
-
-plain-mark : (s : String) → plain s ≡ true → mark s < 65536
-plain-mark s e = ltb-true (mark s) 65536 (both (ltb (mark s) 65536) (eqb (mark s) (mark "Ki")) e .0)
-
-plain-key : (s : String) → plain s ≡ true → mark s ≡ mark "Ki" → ⊥
-plain-key s e = eqb-false (mark s) (mark "Ki") (both (ltb (mark s) 65536) (eqb (mark s) (mark "Ki")) e .1)
+plain s = ltb (mark s) 65536
 
 module _ (x : ℕ) where
   pub fresh-sound : (s : String) → plain s ≡ true → (f : ℕ) → f < 256 → (t : List ℕ) → length t < 65536 + x → Bytes t → (n : ℕ) → n < 65536 →
       Sound x (fresh s f t) n
   fresh-sound s e f fl t tl tb n nl = record {
-    key = λ k. absurd (plain-key s e k);
-    mark = plain-mark s e;
+    mark = ltb-true (mark s) 65536 e;
     flags = fl;
     start = omega arith;
     end = omega arith;
@@ -109,8 +104,7 @@ module _ (x : ℕ) where
   pub ranged-sound : (s : String) → plain s ≡ true → (h : Head) (m : ℕ) → Sound x h m → (t : List ℕ) → length t < 65536 + x → Bytes t → (n : ℕ) → n < 65536 →
       Sound x (ranged s h t) n
   ranged-sound s e h m g t tl tb n nl = record {
-    key = λ k. absurd (plain-key s e k);
-    mark = plain-mark s e;
+    mark = ltb-true (mark s) 65536 e;
     flags = omega arith;
     start = g .start;
     end = g .end;
@@ -122,7 +116,6 @@ module _ (x : ℕ) where
   -- another count, other flags
   pub recount : (h : Head) (m n : ℕ) → Sound x h m → n < 65536 → Sound x h n
   recount h m n g l = record {
-    key = g .key;
     mark = g .mark;
     flags = g .flags;
     start = g .start;
@@ -134,7 +127,6 @@ module _ (x : ℕ) where
 
   pub reflag : (h : Head) (f n : ℕ) → f < 256 → Sound x h n → Sound x (withFlags h f) n
   reflag h f n l g = record {
-    key = g .key;
     mark = g .mark;
     flags = l;
     start = g .start;
@@ -201,6 +193,11 @@ module _ (x : ℕ) where
   kid-fits zero (cons r rs) g = g .0
   kid-fits (suc i) (cons r rs) g = kid-fits i rs (g .1)
 
+  pub kid-keys : (i : ℕ) (ks : Recs) → AllKeys x ks → Keys x (kid i ks)
+  kid-keys i nil q = (λ e f. absurd (omega (arith, e)), tt)
+  kid-keys zero (cons r rs) q = q .0
+  kid-keys (suc i) (cons r rs) q = kid-keys i rs (q .1)
+
   pub setKid-fits : (i : ℕ) (v : Rec) (ks : Recs) (m : ℕ) → Fit x v → Few x m ks → Few x m (setKid i v ks)
   setKid-fits i v nil m k g = g
   setKid-fits zero v (cons r rs) m k g = ((k, g .0 .1), g .1)
@@ -255,26 +252,26 @@ module _ (x : ℕ) where
 
   -- a step on a record, by the names that it can ask for
   abbrev pub Step : (Rec → ℕ → Out Rec) → Type 0
-  Step f = (r : Rec) (n : ℕ) → Fit x r → Room n (names r) → Makes (Fit x) n (names r) (f r n)
+  Step f = (r : Rec) (n : ℕ) → Fit x r → Keys x r → Room n (names r) → Makes (Fit x) n (names r) (f r n)
 
-  pub each-makes : (f : ℕ → Rec → ℕ → Out Rec) → ((i : ℕ) → Step (f i)) → (i : ℕ) (ks : Recs) (n : ℕ) → FitAll x ks → Room n (allNames ks) →
+  pub each-makes : (f : ℕ → Rec → ℕ → Out Rec) → ((i : ℕ) → Step (f i)) → (i : ℕ) (ks : Recs) (n : ℕ) → FitAll x ks → AllKeys x ks → Room n (allNames ks) →
       Makes (Few x (count ks)) n (allNames ks) (each f i ks n)
   unfolding each
-  each-makes f st i nil n g l = record { value = (tt, omega arith); counter = omega arith }
-  each-makes f st i (cons r rs) n g l =
-      let a = st i r n (g .0) (omega arith) in
-      let b = each-makes f st (suc i) rs (f i r n .2) (g .1) (omega (arith, a .counter)) in
+  each-makes f st i nil n g q l = record { value = (tt, omega arith); counter = omega arith }
+  each-makes f st i (cons r rs) n g q l =
+      let a = st i r n (g .0) (q .0) (omega arith) in
+      let b = each-makes f st (suc i) rs (f i r n .2) (g .1) (q .1) (omega (arith, a .counter)) in
       record { value = ((a .value, b .value .0), omega (arith, b .value .1)); counter = omega (arith, a .counter, b .counter) }
 
   -- at most one record for each
   pub flat-makes : (f : Rec → ℕ → Out Recs) →
-      ((r : Rec) (n : ℕ) → Fit x r → Room n (names r) → Makes (Few x 1) n (names r) (f r n)) → (ks : Recs) (n : ℕ) → FitAll x ks → Room n (allNames ks) →
+      ((r : Rec) (n : ℕ) → Fit x r → Keys x r → Room n (names r) → Makes (Few x 1) n (names r) (f r n)) → (ks : Recs) (n : ℕ) → FitAll x ks → AllKeys x ks → Room n (allNames ks) →
       Makes (Few x (count ks)) n (allNames ks) (flat f ks n)
   unfolding flat
-  flat-makes f st nil n g l = record { value = (tt, omega arith); counter = omega arith }
-  flat-makes f st (cons r rs) n g l =
-      let a = st r n (g .0) (omega arith) in
-      let b = flat-makes f st rs (f r n .2) (g .1) (omega (arith, a .counter)) in
+  flat-makes f st nil n g q l = record { value = (tt, omega arith); counter = omega arith }
+  flat-makes f st (cons r rs) n g q l =
+      let a = st r n (g .0) (q .0) (omega arith) in
+      let b = flat-makes f st rs (f r n .2) (g .1) (q .1) (omega (arith, a .counter)) in
       let j : Few x (1 + count rs) (join (f r n .0) (flat f rs (f r n .2) .0)) = join-fits (f r n .0) _ 1 (count rs) (a .value) (b .value) in
       record { value = (j .0, omega (arith, j .1)); counter = omega (arith, a .counter, b .counter) }
 
@@ -288,6 +285,6 @@ module _ (x : ℕ) where
 
   pub second-makes : (f : Rec → ℕ → Out Rec) → Step f → Step (second f)
   unfolding second
-  second-makes f st (rec h ks) n g l =
+  second-makes f st (rec h ks) n g q l =
       wrap-makes h (count ks) n _ (atKid 1 f ks n) (g .0)
-      (atKid-makes 1 f ks n _ (g .1) (more (st (kid 1 ks) n (kid-fits 1 ks (g .1)) (omega (arith, kid-names 1 ks))) (omega (arith, kid-names 1 ks))))
+      (atKid-makes 1 f ks n _ (g .1) (more (st (kid 1 ks) n (kid-fits 1 ks (g .1)) (kid-keys 1 ks (q .1)) (omega (arith, kid-names 1 ks))) (omega (arith, kid-names 1 ks))))

@@ -218,7 +218,6 @@ module _ (x : ℕ) where
   respelled-fits : (r : Rec) (t : List ℕ) → length t ≡ length (textOf r) → Bytes t → Fit x r → Fit x (respelled r t)
   respelled-fits (rec h ks) t e b g = (
     record {
-      key = λ k. omega (arith, g .0 .key k);
       mark = g .0 .mark;
       flags = g .0 .flags;
       start = g .0 .start;
@@ -344,14 +343,14 @@ module _ (x : ℕ) where
 
   -- ---- properties
 
-  key-fits : (k : Key) (r : Rec) → keyKind (markOf r) ≡ k → Fit x r → Fit x (keyExpr k r)
+  key-fits : (k : Key) (r : Rec) → keyKind (markOf r) ≡ k → Fit x r → (markOf r ≡ mark "Ki" → length (textOf r) ≤ 65531 + x) → Fit x (keyExpr k r)
   unfolding keyExpr
-  key-fits kIdent r e g =
+  key-fits kIdent r e g q =
       let h = head-sound r g in
-      identAt-fits x (headOf r) (count (kidsOf r)) h (textOf r) (h .key (key-mark (markOf r) e)) (h .bytes)
-  key-fits kStr r e g = g
-  key-fits kNum r e g = g
-  key-fits kComputed r e g = kid-fits x 0 (kidsOf r) (kids-fit r g)
+      identAt-fits x (headOf r) (count (kidsOf r)) h (textOf r) (omega (arith, q (key-mark (markOf r) e))) (h .bytes)
+  key-fits kStr r e g q = g
+  key-fits kNum r e g q = g
+  key-fits kComputed r e g q = kid-fits x 0 (kidsOf r) (kids-fit r g)
 
   flag-fits : (r : Bool) (k : Key) → cond r 1 0 + keyFlag k < 256
   flag-fits true kIdent = omega arith
@@ -366,12 +365,13 @@ module _ (x : ℕ) where
   signature-fits : (key : Rec) (r : Bool) (f : ℕ) (t : Rec) → cond r 1 0 + f < 256 → Fit x key → Fit x t → Few x 1 (one (propertySignature key r f t))
   signature-fits key r f t l g h = ((over-two x "Ps" refl (cond r 1 0 + f) l key t g h, tt), omega arith)
 
-  pub keyValue-makes : (ks : Recs) (r : Bool) (n w : ℕ) (o : Out (Option Rec)) → FitAll x ks → Makes (Given (Fit x)) n w o → Makes (Few x 1) n w (keyValue ks r o)
-  keyValue-makes ks r n w o g m =
+  pub keyValue-makes : (ks : Recs) (r : Bool) (n w : ℕ) (o : Out (Option Rec)) → FitAll x ks → (markOf (kid 0 ks) ≡ mark "Ki" → length (textOf (kid 0 ks)) ≤ 65531 + x) →
+      Makes (Given (Fit x)) n w o → Makes (Few x 1) n w (keyValue ks r o)
+  keyValue-makes ks r n w o g q m =
       let k : Rec = kid 0 ks in
       let e : Key = keyKind (markOf k) in
       onValue-makes x (λ t. one (propertySignature (keyExpr e k) r (keyFlag e) t))
-      (λ t v. signature-fits (keyExpr e k) r (keyFlag e) t (flag-fits r e) (key-fits e k refl (kid-fits x 0 ks g)) v)
+      (λ t v. signature-fits (keyExpr e k) r (keyFlag e) t (flag-fits r e) (key-fits e k refl (kid-fits x 0 ks g) q) v)
       (orAny-makes x o (diag "d2" (headOf (kid 1 ks)) ∷ []) m)
 
   pub shorthand-makes : (h : Head) (i : Rec) (r : Bool) (o : Option Rec) (n w : ℕ) → Fit x i → Given (Fit x) o → Makes (Few x 1) n w (shorthand h i r o n)

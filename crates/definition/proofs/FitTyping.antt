@@ -6,6 +6,7 @@ use mathlib.Core.Option.{Option, none, some}
 use Prim.Native.Nat.{ℕ, zero, suc, _+_, _-_, _≤_, _<_}
 use native.Mathlib.Omega.{arith}
 use lib.Dec.{eqb}
+use borrow.Author.Tests.{eqb-true}
 use Rattle.definition.specs.Tree.{Head, Rec, Recs, rec, nil, cons, count}
 use Rattle.definition.specs.Grammar.{mark}
 use Rattle.definition.specs.Record.{text, sameText, headOf, markOf, textOf, is, isNo, contextOf, symbolOf, ranged, kid, join, given, present, Out, pure, ifM, onValue}
@@ -73,8 +74,19 @@ use Rattle.definition.specs.Typing.{
   arrowParams,
   patToTsFnParam,
 }
-use Rattle.definition.proofs.Fit.{names, allNames, Room, Fit, FitAll, Few, Given, Makes, keyword-fits, over-one, kid-fits, join-fits, pure-makes, more, onValue-makes, ifM-makes}
+use Rattle.definition.proofs.Fit.{names, allNames, Keys, AllKeys, Room, Fit, FitAll, Few, Given, Makes, keyword-fits, over-one, kid-fits, join-fits, pure-makes, more, onValue-makes, ifM-makes}
 use Rattle.definition.proofs.FitTypes.{given-cond, reference-fits, lit-fits, minus-fits, template-fits, frozen-fits, ranged-fits, tuples-fit, elementBy-makes, keyValue-makes, shorthand-makes, paramBy-makes, fnType-fits}
+
+kv-mark : (m : ℕ) → propKind m ≡ pKeyValue → m ≡ mark "Kv"
+unfolding propKind
+kv-mark m e = eqb-true m (mark "Kv") (go (eqb m (mark "Kv")) (eqb m (mark "Sh")) (eqb m (mark "Sp")) (eqb m (mark "Op")) e)
+  where
+    go : (a b c d : Bool) → cond a pKeyValue (cond b pShorthand (cond c pSpread (cond d pOp pOther))) ≡ pKeyValue → a ≡ true
+    go true b c d e = refl
+    go false true c d e = cc
+    go false false true d e = cc
+    go false false false true e = cc
+    go false false false false e = cc
 
 module _ (x : ℕ) (ids : PrescannedModuleIds) (ctx : ℕ) where
   -- ---- names
@@ -104,15 +116,15 @@ module _ (x : ℕ) (ids : PrescannedModuleIds) (ctx : ℕ) where
   spreadBy-makes sArray i typed n w g m = m
   spreadBy-makes sOther i typed n w g m = pure-makes x tt
 
-  propBy-makes : (k : Prop) (h : Head) (ks : Recs) (c r : Bool) (value : ℕ → Out (Option Rec)) (n w : ℕ) → FitAll x ks → Makes (Given (Fit x)) n w (value n) →
-      Makes (Few x 1) n w (propBy ids ctx k h ks c r value n)
+  propBy-makes : (k : Prop) (h : Head) (ks : Recs) (c r : Bool) (value : ℕ → Out (Option Rec)) (n w : ℕ) → propKind (h .mark) ≡ k → Fit x (rec h ks) → Keys x (rec h ks) →
+      Makes (Given (Fit x)) n w (value n) → Makes (Few x 1) n w (propBy ids ctx k h ks c r value n)
   unfolding propBy
-  propBy-makes pKeyValue h ks c r value n w g m = keyValue-makes x ks r n w (value n) g m
-  propBy-makes pShorthand h ks c r value n w g m =
-      shorthand-makes x h (kid 0 ks) r (identToTsType ids ctx (kid 0 ks) c) n w (kid-fits x 0 ks g) (ident-fits (kid 0 ks) c (kid-fits x 0 ks g))
-  propBy-makes pSpread h ks c r value n w g m = record { value = (tt, omega arith); counter = omega arith }
-  propBy-makes pOther h ks c r value n w g m = record { value = (tt, omega arith); counter = omega arith }
-  propBy-makes pOp h ks c r value n w g m = record { value = (tt, omega arith); counter = omega arith }
+  propBy-makes pKeyValue h ks c r value n w e g q m = keyValue-makes x ks r n w (value n) (g .1) (q .0 (kv-mark (h .mark) e)) m
+  propBy-makes pShorthand h ks c r value n w e g q m =
+      shorthand-makes x h (kid 0 ks) r (identToTsType ids ctx (kid 0 ks) c) n w (kid-fits x 0 ks (g .1)) (ident-fits (kid 0 ks) c (kid-fits x 0 ks (g .1)))
+  propBy-makes pSpread h ks c r value n w e g q m = record { value = (tt, omega arith); counter = omega arith }
+  propBy-makes pOther h ks c r value n w e g q m = record { value = (tt, omega arith); counter = omega arith }
+  propBy-makes pOp h ks c r value n w e g q m = record { value = (tt, omega arith); counter = omega arith }
 
   -- ---- the arms
 
@@ -170,91 +182,92 @@ module _ (x : ℕ) (ids : PrescannedModuleIds) (ctx : ℕ) where
   mutual
     unfolding exprToTsType
 
-    pub expr-makes : (e : Rec) (c r : Bool) (n : ℕ) → Fit x e → Room n (names e) → Makes (Given (Fit x)) n (names e) (exprToTsType ids ctx e c r n)
-    expr-makes (rec h ks) c r n g l =
+    pub expr-makes : (e : Rec) (c r : Bool) (n : ℕ) → Fit x e → Keys x e → Room n (names e) → Makes (Given (Fit x)) n (names e) (exprToTsType ids ctx e c r n)
+    expr-makes (rec h ks) c r n g q l =
         more x
         (exprBy-makes (exprKind (h .mark)) h ks c r _ n g
         (record {
-          first = λ c r n l. first-makes ks c r n (g .1) l;
-          second = λ c r n l. second-makes ks c r n (g .1) l;
-          elements = λ c r n l. elements-makes ks c r n (g .1) l;
-          props = λ c r n l. props-makes ks c r n (g .1) l;
-          fn = λ n l. fnSecond-makes ks n (g .1) l;
-          params = λ n l. arrowParams-makes ks 2 n (g .1) l;
+          first = λ c r n l. first-makes ks c r n (g .1) (q .1) l;
+          second = λ c r n l. second-makes ks c r n (g .1) (q .1) l;
+          elements = λ c r n l. elements-makes ks c r n (g .1) (q .1) l;
+          props = λ c r n l. props-makes ks c r n (g .1) (q .1) l;
+          fn = λ n l. fnSecond-makes ks n (g .1) (q .1) l;
+          params = λ n l. arrowParams-makes ks 2 n (g .1) (q .1) l;
         }) (omega arith))
         (omega arith)
 
-    first-makes : (es : Recs) (c r : Bool) (n : ℕ) → FitAll x es → Room n (allNames es) → Makes (Given (Fit x)) n (allNames es) (typeFirst ids ctx es c r n)
-    first-makes nil c r n g l = pure-makes x tt
-    first-makes (cons e es) c r n g l = more x (expr-makes e c r n (g .0) (omega arith)) (omega arith)
+    first-makes : (es : Recs) (c r : Bool) (n : ℕ) → FitAll x es → AllKeys x es → Room n (allNames es) → Makes (Given (Fit x)) n (allNames es) (typeFirst ids ctx es c r n)
+    first-makes nil c r n g q l = pure-makes x tt
+    first-makes (cons e es) c r n g q l = more x (expr-makes e c r n (g .0) (q .0) (omega arith)) (omega arith)
 
-    second-makes : (es : Recs) (c r : Bool) (n : ℕ) → FitAll x es → Room n (allNames es) → Makes (Given (Fit x)) n (allNames es) (typeSecond ids ctx es c r n)
-    second-makes nil c r n g l = pure-makes x tt
-    second-makes (cons e es) c r n g l = more x (first-makes es c r n (g .1) (omega arith)) (omega arith)
+    second-makes : (es : Recs) (c r : Bool) (n : ℕ) → FitAll x es → AllKeys x es → Room n (allNames es) → Makes (Given (Fit x)) n (allNames es) (typeSecond ids ctx es c r n)
+    second-makes nil c r n g q l = pure-makes x tt
+    second-makes (cons e es) c r n g q l = more x (first-makes es c r n (g .1) (q .1) (omega arith)) (omega arith)
 
-    elements-makes : (es : Recs) (c r : Bool) (n : ℕ) → FitAll x es → Room n (allNames es) → Makes (Given (Few x (count es))) n (allNames es) (elements ids ctx es c r n)
-    elements-makes nil c r n g l = pure-makes x (tt, omega arith)
-    elements-makes (cons e es) c r n g l =
-        elementBy-makes x (elementKind (markOf e)) (headOf e) _ _ _ (count es) n (names e) (allNames es) (expr-makes e c r n (g .0) (omega arith))
-        (spread-makes e c n (g .0) (omega arith)) (λ n l. elements-makes es c r n (g .1) l) l
+    elements-makes : (es : Recs) (c r : Bool) (n : ℕ) → FitAll x es → AllKeys x es → Room n (allNames es) → Makes (Given (Few x (count es))) n (allNames es) (elements ids ctx es c r n)
+    elements-makes nil c r n g q l = pure-makes x (tt, omega arith)
+    elements-makes (cons e es) c r n g q l =
+        elementBy-makes x (elementKind (markOf e)) (headOf e) _ _ _ (count es) n (names e) (allNames es) (expr-makes e c r n (g .0) (q .0) (omega arith))
+        (spread-makes e c n (g .0) (q .0) (omega arith)) (λ n l. elements-makes es c r n (g .1) (q .1) l) l
 
-    spread-makes : (e : Rec) (c : Bool) (n : ℕ) → Fit x e → Room n (names e) → Makes (Given (Fit x)) n (names e) (spreadType ids ctx e c n)
-    spread-makes (rec h ks) c n g l = more x (spreadFirst-makes ks c n (g .1) (omega arith)) (omega arith)
+    spread-makes : (e : Rec) (c : Bool) (n : ℕ) → Fit x e → Keys x e → Room n (names e) → Makes (Given (Fit x)) n (names e) (spreadType ids ctx e c n)
+    spread-makes (rec h ks) c n g q l = more x (spreadFirst-makes ks c n (g .1) (q .1) (omega arith)) (omega arith)
 
-    spreadFirst-makes : (es : Recs) (c : Bool) (n : ℕ) → FitAll x es → Room n (allNames es) → Makes (Given (Fit x)) n (allNames es) (spreadFirst ids ctx es c n)
-    spreadFirst-makes nil c n g l = pure-makes x tt
-    spreadFirst-makes (cons e es) c n g l =
-        spreadBy-makes (spreadKind (markOf e)) e _ n _ (g .0) (more x (expr-makes e c false n (g .0) (omega arith)) (omega arith))
+    spreadFirst-makes : (es : Recs) (c : Bool) (n : ℕ) → FitAll x es → AllKeys x es → Room n (allNames es) → Makes (Given (Fit x)) n (allNames es) (spreadFirst ids ctx es c n)
+    spreadFirst-makes nil c n g q l = pure-makes x tt
+    spreadFirst-makes (cons e es) c n g q l =
+        spreadBy-makes (spreadKind (markOf e)) e _ n _ (g .0) (more x (expr-makes e c false n (g .0) (q .0) (omega arith)) (omega arith))
 
-    props-makes : (ps : Recs) (c r : Bool) (n : ℕ) → FitAll x ps → Room n (allNames ps) → Makes (Few x (count ps)) n (allNames ps) (props ids ctx ps c r n)
-    props-makes nil c r n g l = no-params 0 n 0
-    props-makes (cons p ps) c r n g l =
-        let a = prop-makes p c r n (g .0) (omega arith) in
+    props-makes : (ps : Recs) (c r : Bool) (n : ℕ) → FitAll x ps → AllKeys x ps → Room n (allNames ps) → Makes (Few x (count ps)) n (allNames ps) (props ids ctx ps c r n)
+    props-makes nil c r n g q l = no-params 0 n 0
+    props-makes (cons p ps) c r n g q l =
+        let a = prop-makes p c r n (g .0) (q .0) (omega arith) in
         at-most
-        (joined 1 (count ps) n (names p) (allNames ps) (prop ids ctx p c r n) (λ n. props ids ctx ps c r n) a (props-makes ps c r _ (g .1) (omega (arith, a .counter))))
+        (joined 1 (count ps) n (names p) (allNames ps) (prop ids ctx p c r n) (λ n. props ids ctx ps c r n) a (props-makes ps c r _ (g .1) (q .1) (omega (arith, a .counter))))
         (omega arith) (omega arith)
 
-    prop-makes : (p : Rec) (c r : Bool) (n : ℕ) → Fit x p → Room n (names p) → Makes (Few x 1) n (names p) (prop ids ctx p c r n)
-    prop-makes (rec h ks) c r n g l = more x (propBy-makes (propKind (h .mark)) h ks c r _ n (allNames ks) (g .1) (second-makes ks c r n (g .1) (omega arith))) (omega arith)
+    prop-makes : (p : Rec) (c r : Bool) (n : ℕ) → Fit x p → Keys x p → Room n (names p) → Makes (Few x 1) n (names p) (prop ids ctx p c r n)
+    prop-makes (rec h ks) c r n g q l =
+        more x (propBy-makes (propKind (h .mark)) h ks c r _ n (allNames ks) refl g q (second-makes ks c r n (g .1) (q .1) (omega arith))) (omega arith)
 
-    fnSecond-makes : (es : Recs) (n : ℕ) → FitAll x es → Room n (allNames es) → Makes (Given (Fit x)) n (allNames es) (fnSecond ids ctx es n)
-    fnSecond-makes nil n g l = pure-makes x tt
-    fnSecond-makes (cons e es) n g l = more x (fnFirst-makes es n (g .1) (omega arith)) (omega arith)
+    fnSecond-makes : (es : Recs) (n : ℕ) → FitAll x es → AllKeys x es → Room n (allNames es) → Makes (Given (Fit x)) n (allNames es) (fnSecond ids ctx es n)
+    fnSecond-makes nil n g q l = pure-makes x tt
+    fnSecond-makes (cons e es) n g q l = more x (fnFirst-makes es n (g .1) (q .1) (omega arith)) (omega arith)
 
-    fnFirst-makes : (es : Recs) (n : ℕ) → FitAll x es → Room n (allNames es) → Makes (Given (Fit x)) n (allNames es) (fnFirst ids ctx es n)
-    fnFirst-makes nil n g l = pure-makes x tt
-    fnFirst-makes (cons f es) n g l = more x (function-makes f n (g .0) (omega arith)) (omega arith)
+    fnFirst-makes : (es : Recs) (n : ℕ) → FitAll x es → AllKeys x es → Room n (allNames es) → Makes (Given (Fit x)) n (allNames es) (fnFirst ids ctx es n)
+    fnFirst-makes nil n g q l = pure-makes x tt
+    fnFirst-makes (cons f es) n g q l = more x (function-makes f n (g .0) (q .0) (omega arith)) (omega arith)
 
-    function-makes : (f : Rec) (n : ℕ) → Fit x f → Room n (names f) → Makes (Given (Fit x)) n (names f) (functionType ids ctx f n)
-    function-makes (rec h ks) n g l =
+    function-makes : (f : Rec) (n : ℕ) → Fit x f → Keys x f → Room n (names f) → Makes (Given (Fit x)) n (names f) (functionType ids ctx f n)
+    function-makes (rec h ks) n g q l =
         onValue-makes x (λ (ps : Recs). some (fnType h ks ps)) (λ ps m. fnType-fits x h ks ps g (m .0, omega (arith, m .1)))
-        (more x (fnParams-makes ks 3 n (g .1) (omega arith)) (omega arith))
+        (more x (fnParams-makes ks 3 n (g .1) (q .1) (omega arith)) (omega arith))
 
-    fnParams-makes : (ps : Recs) (skip n : ℕ) → FitAll x ps → Room n (allNames ps) → Makes (Few x (count ps - skip)) n (allNames ps) (fnParams ids ctx ps skip n)
-    fnParams-makes nil skip n g l = no-params (0 - skip) n 0
-    fnParams-makes (cons p ps) (suc skip) n g l = at-most (fnParams-makes ps skip n (g .1) (omega arith)) (omega arith) (omega arith)
-    fnParams-makes (cons p ps) zero n g l =
-        let a = fnParam-makes p n (g .0) (omega arith) in
+    fnParams-makes : (ps : Recs) (skip n : ℕ) → FitAll x ps → AllKeys x ps → Room n (allNames ps) → Makes (Few x (count ps - skip)) n (allNames ps) (fnParams ids ctx ps skip n)
+    fnParams-makes nil skip n g q l = no-params (0 - skip) n 0
+    fnParams-makes (cons p ps) (suc skip) n g q l = at-most (fnParams-makes ps skip n (g .1) (q .1) (omega arith)) (omega arith) (omega arith)
+    fnParams-makes (cons p ps) zero n g q l =
+        let a = fnParam-makes p n (g .0) (q .0) (omega arith) in
         at-most
-        (joined 1 (count ps - 0) n (names p) (allNames ps) (fnParam ids ctx p n) (λ n. fnParams ids ctx ps 0 n) a (fnParams-makes ps 0 _ (g .1) (omega (arith, a .counter))))
+        (joined 1 (count ps - 0) n (names p) (allNames ps) (fnParam ids ctx p n) (λ n. fnParams ids ctx ps 0 n) a (fnParams-makes ps 0 _ (g .1) (q .1) (omega (arith, a .counter))))
         (omega arith) (omega arith)
 
-    fnParam-makes : (p : Rec) (n : ℕ) → Fit x p → Room n (names p) → Makes (Few x 1) n (names p) (fnParam ids ctx p n)
-    fnParam-makes (rec h ks) n g l =
-        ifM-makes x (eqb (h .mark) (mark "Pa")) (λ n. paramFirst ids ctx ks n) (pure nil) (more x (paramFirst-makes ks n (g .1) (omega arith)) (omega arith)) (no-params 1 n _)
+    fnParam-makes : (p : Rec) (n : ℕ) → Fit x p → Keys x p → Room n (names p) → Makes (Few x 1) n (names p) (fnParam ids ctx p n)
+    fnParam-makes (rec h ks) n g q l =
+        ifM-makes x (eqb (h .mark) (mark "Pa")) (λ n. paramFirst ids ctx ks n) (pure nil) (more x (paramFirst-makes ks n (g .1) (q .1) (omega arith)) (omega arith)) (no-params 1 n _)
 
-    paramFirst-makes : (ps : Recs) (n : ℕ) → FitAll x ps → Room n (allNames ps) → Makes (Few x 1) n (allNames ps) (paramFirst ids ctx ps n)
-    paramFirst-makes nil n g l = no-params 1 n 0
-    paramFirst-makes (cons p ps) n g l = more x (pattern-makes p n (g .0) (omega arith)) (omega arith)
+    paramFirst-makes : (ps : Recs) (n : ℕ) → FitAll x ps → AllKeys x ps → Room n (allNames ps) → Makes (Few x 1) n (allNames ps) (paramFirst ids ctx ps n)
+    paramFirst-makes nil n g q l = no-params 1 n 0
+    paramFirst-makes (cons p ps) n g q l = more x (pattern-makes p n (g .0) (q .0) (omega arith)) (omega arith)
 
-    arrowParams-makes : (ps : Recs) (skip n : ℕ) → FitAll x ps → Room n (allNames ps) → Makes (Few x (count ps - skip)) n (allNames ps) (arrowParams ids ctx ps skip n)
-    arrowParams-makes nil skip n g l = no-params (0 - skip) n 0
-    arrowParams-makes (cons p ps) (suc skip) n g l = at-most (arrowParams-makes ps skip n (g .1) (omega arith)) (omega arith) (omega arith)
-    arrowParams-makes (cons p ps) zero n g l =
-        let a = pattern-makes p n (g .0) (omega arith) in
+    arrowParams-makes : (ps : Recs) (skip n : ℕ) → FitAll x ps → AllKeys x ps → Room n (allNames ps) → Makes (Few x (count ps - skip)) n (allNames ps) (arrowParams ids ctx ps skip n)
+    arrowParams-makes nil skip n g q l = no-params (0 - skip) n 0
+    arrowParams-makes (cons p ps) (suc skip) n g q l = at-most (arrowParams-makes ps skip n (g .1) (q .1) (omega arith)) (omega arith) (omega arith)
+    arrowParams-makes (cons p ps) zero n g q l =
+        let a = pattern-makes p n (g .0) (q .0) (omega arith) in
         at-most
-        (joined 1 (count ps - 0) n (names p) (allNames ps) (patToTsFnParam ids ctx p n) (λ n. arrowParams ids ctx ps 0 n) a (arrowParams-makes ps 0 _ (g .1) (omega (arith, a .counter))))
+        (joined 1 (count ps - 0) n (names p) (allNames ps) (patToTsFnParam ids ctx p n) (λ n. arrowParams ids ctx ps 0 n) a (arrowParams-makes ps 0 _ (g .1) (q .1) (omega (arith, a .counter))))
         (omega arith) (omega arith)
 
-    pattern-makes : (p : Rec) (n : ℕ) → Fit x p → Room n (names p) → Makes (Few x 1) n (names p) (patToTsFnParam ids ctx p n)
-    pattern-makes (rec h ks) n g l = paramBy-makes x (paramKind (h .mark)) h ks _ n (allNames ks) refl g (second-makes ks false false n (g .1) (omega arith)) l
+    pattern-makes : (p : Rec) (n : ℕ) → Fit x p → Keys x p → Room n (names p) → Makes (Few x 1) n (names p) (patToTsFnParam ids ctx p n)
+    pattern-makes (rec h ks) n g q l = paramBy-makes x (paramKind (h .mark)) h ks _ n (allNames ks) refl g (second-makes ks false false n (g .1) (q .1) (omega arith)) l

@@ -15,3 +15,4 @@ pub mod Texts
 pub mod Fit
 pub mod FitTypes
 pub mod FitTyping
+pub mod FitClasses

@@ -12,3 +12,4 @@ pub mod Enums
 pub mod Items
 pub mod Transform
 pub mod Demand3
+pub mod Widths
