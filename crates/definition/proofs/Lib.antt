@@ -16,3 +16,4 @@ pub mod Fit
 pub mod FitTypes
 pub mod FitTyping
 pub mod FitClasses
+pub mod FitItems
