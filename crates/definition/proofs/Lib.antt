@@ -17,3 +17,5 @@ pub mod FitTypes
 pub mod FitTyping
 pub mod FitClasses
 pub mod FitItems
+pub mod Widths
+pub mod Demand3

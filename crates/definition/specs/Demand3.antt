@@ -2,12 +2,12 @@
 use Prim.Native.Nat.{ℕ, _≤_}
 use mathlib.Core.Path.{_≡_}
 use mathlib.Core.List.{List}
-use lib.ListN.{length}
+use lib.ListN.{length, take}
 use Rattle.definition.specs.Tree.{Rec, Recs, rec, nil, cons, encode, treeAt}
 use Rattle.definition.specs.Grammar.{mark}
 use Rattle.definition.specs.Check.{deepest}
 use Rattle.definition.specs.Record.{markOf, kid, diagsBytes}
-use Rattle.definition.specs.Transform.{transform}
+use Rattle.definition.specs.Transform.{transform, call}
 
 -- "An expression exported as default is what an Xe holds, at any depth": every one in a tree is an Id
 abbrev mutual
@@ -31,3 +31,7 @@ abbrev mutual
 pub record LongEnough (tree list : List ℕ) (ctx : ℕ) (out diags : List ℕ) : Type 0 where
   pub output : length (encode (transform list ctx (treeAt deepest tree 0) .0)) ≤ length out
   pub diagnostics : length (diagsBytes (transform list ctx (treeAt deepest tree 0) .1)) ≤ length diags
+
+-- "the bytes that the first wrote": the first n bytes of the output buffer, after a call that wrote n
+abbrev pub writtenBy : List ℕ → List ℕ → ℕ → List ℕ → List ℕ → ℕ → List ℕ
+writtenBy tree list ctx out diags n = take n (call tree list ctx out diags .out)
