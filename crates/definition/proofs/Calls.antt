@@ -1,9 +1,9 @@
 -- What a call does: a refusal leaves both buffers as they were; a success writes the bytes of the tree that is made and leaves every byte beyond
 -- the counts as it was; where nothing is refused it succeeds. Assumes nothing.
 use mathlib.Core.Path.{_≡_, refl, sym, ap, _∙_}
-use mathlib.Core.List.{List, [], _∷_, _++_}
+use mathlib.Core.List.{List, [], _∷_}
 use mathlib.Core.Bool.{Bool, true, false, cond, _&&_}
-use Prim.Native.Nat.{ℕ, _+_, _*_, _≤_}
+use Prim.Native.Nat.{ℕ, _*_, _≤_}
 use native.Mathlib.Omega.{arith}
 use lib.Dec.{leb}
 use lib.ListN.{length, take, drop, length-append, length-drop}
@@ -12,7 +12,7 @@ use borrow.Author.Tests.{leb-true, le-leb}
 use Rattle.definition.specs.Tree.{Rec, encode, treeAt}
 use Rattle.definition.specs.Check.{Checked, fine, refused as rejected, deepest, checkTree}
 use Rattle.definition.specs.Record.{Diag, diagsBytes, Out}
-use Rattle.definition.specs.Transform.{transform, Answer, done, refused, Result, textsFit, over, written, callBy, call}
+use Rattle.definition.specs.Transform.{transform, done, refused, Result, textsFit, over, written, callBy, call}
 use Rattle.definition.specs.Demand3.{LongEnough}
 
 -- ---- what is written over a buffer

@@ -3,7 +3,7 @@ use mathlib.Core.Path.{_≡_, ap, sym, _∙_}
 use mathlib.Core.List.{List}
 use mathlib.Core.Bool.{true}
 use Prim.Native.Nat.{ℕ}
-use lib.ListN.{length, take}
+use lib.ListN.{length}
 use Rattle.definition.specs.Tree.{Rec, encode, treeAt, Bytes, Fits}
 use Rattle.definition.specs.Check.{fine, deepest, checkTree}
 use Rattle.definition.specs.Record.{kidsOf}

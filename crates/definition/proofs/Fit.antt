@@ -1,19 +1,19 @@
 -- What fits the widths of a record, and the laws of it for records made afresh and for the combinators. The length of a text counts up to a slack x:
 -- with the slack 4 every text fits that can be made, with the slack 0 every text fits a head (reading 20). A name that is made is bounded by the
 -- name counter, which rises once at most for each Xe and each Ag. Assumes nothing.
-use mathlib.Core.Path.{_≡_, refl, ap, sym, _∙_}
-use mathlib.Core.List.{List, [], _∷_, _++_}
-use mathlib.Core.Bool.{Bool, true, false, cond, not, _&&_, _||_}
+use mathlib.Core.Path.{_≡_, refl}
+use mathlib.Core.List.{List, [], _++_}
+use mathlib.Core.Bool.{Bool, true, false, cond, _&&_, _||_}
 use mathlib.Core.Option.{Option, none, some}
-use Prim.Native.Nat.{ℕ, zero, suc, _+_, _-_, _*_, _/_, _%_, _≤_, _<_}
+use Prim.Native.Nat.{ℕ, zero, suc, _+_, _-_, _≤_, _<_}
 use Prim.Native.String.{String}
 use native.Mathlib.Omega.{arith}
 use lib.Dec.{eqb, ltb}
-use lib.ListN.{length, drop, length-drop}
+use lib.ListN.{length, length-drop}
 use borrow.Author.Tests.{ltb-true}
 use Rattle.definition.specs.Tree.{Head, Rec, Recs, rec, nil, cons, count, le4, Bytes}
 use Rattle.definition.specs.Grammar.{mark}
-use Rattle.definition.specs.Record.{text, headOf, kidsOf, textOf, isNo, symbolOf, fresh, ranged, absent, ident, identAt, withFlags, flag1, flagged, kid, setKid, one, join, given, present, gone, Diag, Out, pure, ifM, onValue, wrap, each, flat, atKid, second}
+use Rattle.definition.specs.Record.{text, headOf, kidsOf, isNo, symbolOf, fresh, ranged, absent, ident, identAt, withFlags, flag1, flagged, kid, setKid, one, join, given, gone, Diag, Out, pure, ifM, onValue, wrap, each, flat, atKid, second}
 use Rattle.definition.specs.Helpers.{tsKeywordType, anyTypeAnn}
 use Rattle.definition.specs.Names.{genUniqueName}
 use Rattle.definition.specs.Typing.{orAny}
@@ -81,6 +81,22 @@ Given P (some a) = P a
 pub record Makes {A : Type 0} (P : A → Type 0) (n w : ℕ) (o : Out A) : Type 0 where
   pub value : P (o .0)
   pub counter : o .2 ≤ n + w
+
+-- the laws of it for every kind of value
+
+pub pure-makes : {A : Type 0} {P : A → Type 0} {a : A} {n w : ℕ} → P a → Makes P n w (pure a n)
+pure-makes p = record { value = p; counter = omega arith }
+
+pub more : {A : Type 0} {P : A → Type 0} {n w v : ℕ} {o : Out A} → Makes P n w o → w ≤ v → Makes P n v o
+more m l = record { value = m .value; counter = omega (arith, m .counter) }
+
+pub onValue-makes : {A B : Type 0} {P : A → Type 0} {Q : B → Type 0} {n w : ℕ} {o : Out A} (f : A → B) → ((a : A) → P a → Q (f a)) → Makes P n w o →
+    Makes Q n w (onValue f o)
+onValue-makes {o = o} f q m = record { value = q (o .0) (m .value); counter = m .counter }
+
+pub ifM-makes : {A : Type 0} {P : A → Type 0} {n w : ℕ} (b : Bool) (f g : ℕ → Out A) → Makes P n w (f n) → Makes P n w (g n) → Makes P n w (ifM b f g n)
+ifM-makes true f g p q = p
+ifM-makes false f g p q = q
 
 -- ---- heads
 
@@ -227,21 +243,18 @@ module _ (x : ℕ) where
   pub all-few : (ks : Recs) → FitAll x ks → Few x (count ks) ks
   all-few ks g = (g, omega arith)
 
+  -- the parts of a record that is no constructor yet
+  pub head-sound : (r : Rec) → Fit x r → Sound x (headOf r) (count (kidsOf r))
+  head-sound (rec h ks) g = g .0
+
+  pub kids-fit : (r : Rec) → Fit x r → FitAll x (kidsOf r)
+  kids-fit (rec h ks) g = g .1
+
+  pub given-cond : (b : Bool) (s t : Option Rec) → Given (Fit x) s → Given (Fit x) t → Given (Fit x) (cond b s t)
+  given-cond true s t p q = p
+  given-cond false s t p q = q
+
   -- ---- steps
-
-  pub pure-makes : {A : Type 0} {P : A → Type 0} {a : A} {n w : ℕ} → P a → Makes P n w (pure a n)
-  pure-makes p = record { value = p; counter = omega arith }
-
-  pub more : {A : Type 0} {P : A → Type 0} {n w v : ℕ} {o : Out A} → Makes P n w o → w ≤ v → Makes P n v o
-  more m l = record { value = m .value; counter = omega (arith, m .counter) }
-
-  pub onValue-makes : {A B : Type 0} {P : A → Type 0} {Q : B → Type 0} {n w : ℕ} {o : Out A} (f : A → B) → ((a : A) → P a → Q (f a)) → Makes P n w o →
-      Makes Q n w (onValue f o)
-  onValue-makes {o = o} f q m = record { value = q (o .0) (m .value); counter = m .counter }
-
-  pub ifM-makes : {A : Type 0} {P : A → Type 0} {n w : ℕ} (b : Bool) (f g : ℕ → Out A) → Makes P n w (f n) → Makes P n w (g n) → Makes P n w (ifM b f g n)
-  ifM-makes true f g p q = p
-  ifM-makes false f g p q = q
 
   pub orAny-makes : {n w : ℕ} (o : Out (Option Rec)) (ds : List Diag) → Makes (Given (Fit x)) n w o → Makes (Fit x) n w (orAny o ds)
   orAny-makes {n} {w} o ds m = go (o .0) (m .value)
@@ -250,6 +263,16 @@ module _ (x : ℕ) where
       go none p = record { value = any-fits; counter = m .counter }
       go (some t) p = record { value = p; counter = m .counter }
 
+  -- one record, none, and a list that is no longer
+  pub one-made : (r : Rec) → Fit x r → Few x 1 (one r)
+  one-made r g = ((g, tt), omega arith)
+
+  pub none-made : (m n w : ℕ) → Makes (Few x m) n w (pure nil n)
+  none-made m n w = record { value = (tt, omega arith); counter = omega arith }
+
+  pub at-most : {a b n w v : ℕ} {o : Out Recs} → Makes (Few x a) n w o → a ≤ b → w ≤ v → Makes (Few x b) n v o
+  at-most m l k = record { value = (m .value .0, omega (arith, m .value .1)); counter = omega (arith, m .counter) }
+
   -- a step on a record, by the names that it can ask for
   abbrev pub Step : (Rec → ℕ → Out Rec) → Type 0
   Step f = (r : Rec) (n : ℕ) → Fit x r → Keys x r → Room n (names r) → Makes (Fit x) n (names r) (f r n)
@@ -257,7 +280,7 @@ module _ (x : ℕ) where
   pub each-makes : (f : ℕ → Rec → ℕ → Out Rec) → ((i : ℕ) → Step (f i)) → (i : ℕ) (ks : Recs) (n : ℕ) → FitAll x ks → AllKeys x ks → Room n (allNames ks) →
       Makes (Few x (count ks)) n (allNames ks) (each f i ks n)
   unfolding each
-  each-makes f st i nil n g q l = record { value = (tt, omega arith); counter = omega arith }
+  each-makes f st i nil n g q l = none-made 0 n 0
   each-makes f st i (cons r rs) n g q l =
       let a = st i r n (g .0) (q .0) (omega arith) in
       let b = each-makes f st (suc i) rs (f i r n .2) (g .1) (q .1) (omega (arith, a .counter)) in
@@ -268,7 +291,7 @@ module _ (x : ℕ) where
       ((r : Rec) (n : ℕ) → Fit x r → Keys x r → Room n (names r) → Makes (Few x 1) n (names r) (f r n)) → (ks : Recs) (n : ℕ) → FitAll x ks → AllKeys x ks → Room n (allNames ks) →
       Makes (Few x (count ks)) n (allNames ks) (flat f ks n)
   unfolding flat
-  flat-makes f st nil n g q l = record { value = (tt, omega arith); counter = omega arith }
+  flat-makes f st nil n g q l = none-made 0 n 0
   flat-makes f st (cons r rs) n g q l =
       let a = st r n (g .0) (q .0) (omega arith) in
       let b = flat-makes f st rs (f r n .2) (g .1) (q .1) (omega (arith, a .counter)) in

@@ -1,12 +1,12 @@
 -- What is made of parameters, functions, class members and classes fits, for a typing whose types do. Assumes nothing.
-use mathlib.Core.Path.{_≡_, refl}
+use mathlib.Core.Path.{refl}
 use mathlib.Core.List.{List, [], _∷_}
-use mathlib.Core.Bool.{Bool, true, false, cond, not, _&&_, _||_}
+use mathlib.Core.Bool.{Bool, true, false, not, _&&_, _||_}
 use mathlib.Core.Option.{Option, none, some}
-use Prim.Native.Nat.{ℕ, zero, suc, _+_, _*_, _/_, _≤_, _<_}
+use Prim.Native.Nat.{ℕ, zero, suc, _*_, _/_, _≤_, _<_}
 use native.Mathlib.Omega.{arith}
 use Rattle.definition.specs.Tree.{Head, Rec, Recs, rec, nil, cons, count}
-use Rattle.definition.specs.Record.{headOf, kidsOf, markOf, is, isNo, withFlags, flag1, flagged, has1, kid, setKid, one, ends, gone, diag, listed, Out, Typing, pure, ifM, onValue, wrap, each, flat, atKid}
+use Rattle.definition.specs.Record.{headOf, kidsOf, markOf, is, isNo, withFlags, flagged, has1, kid, setKid, one, ends, gone, diag, listed, Out, Typing, pure, wrap, each, atKid}
 use Rattle.definition.specs.Helpers.{anyTypeAnn}
 use Rattle.definition.specs.Names.{isWellKnownSymbolExpr, KeyExpr, xLit, xTpl, xThrough, xIdent, xMember, xOther, keyExprKind, computed, propNameBy, propNameFromExpr, propNameFromFirst, propNameFromOnly, validPropName}
 use Rattle.definition.specs.Typing.{orAny}
@@ -44,8 +44,7 @@ use Rattle.definition.specs.Classes.{
   class,
 }
 use Rattle.definition.proofs.Texts.{bytes-none}
-use Rattle.definition.proofs.Fit.{names, allNames, kid-names, Keys, AllKeys, kid-keys, Room, Sound, Fit, FitAll, Few, Given, Makes, reflag, flag1-fits, flagged-fits, any-fits, kid-fits, setKid-fits, gone-fits, rehead, ranged-sound, pure-makes, more, onValue-makes, ifM-makes, orAny-makes, Step, each-makes, flat-makes, atKid-makes, wrap-makes}
-use Rattle.definition.proofs.FitTypes.{given-cond, kids-fit}
+use Rattle.definition.proofs.Fit.{one-made, none-made, given-cond, kids-fit, names, allNames, kid-names, Keys, AllKeys, kid-keys, Room, Sound, Fit, FitAll, Few, Given, Makes, reflag, flagged-fits, any-fits, kid-fits, setKid-fits, gone-fits, rehead, ranged-sound, pure-makes, more, onValue-makes, ifM-makes, orAny-makes, Step, each-makes, flat-makes, atKid-makes, wrap-makes}
 
 -- a typing whose types fit, and which asks for no more names than there are Xe and Ag
 abbrev pub TypesFit : ℕ → Typing → Type 0
@@ -90,7 +89,7 @@ module _ (x : ℕ) where
   -- ---- parameters
 
   pub typeOr-makes : (F : ℕ → Out Rec) (t : Rec) (n w : ℕ) → Fit x t → Makes (Fit x) n w (F n) → Makes (Fit x) n w (typeOr F t n)
-  typeOr-makes F t n w g m = ifM-makes x (isNo t) F (pure t) m (pure-makes x g)
+  typeOr-makes F t n w g m = ifM-makes (isNo t) F (pure t) m (pure-makes g)
 
   ident-makes : Step x handleFuncParamIdent
   unfolding handleFuncParamIdent
@@ -109,7 +108,7 @@ module _ (x : ℕ) (ty : Typing) (fit : TypesFit x ty) where
       Makes (Fit x) n (names right) (handleFuncParamAssign ty k left right whole n)
   unfolding handleFuncParamAssign
   assign-makes pIdent (rec h ks) right whole n g k q w l =
-      onValue-makes x (λ (ks : Recs). rec h (setKid 0 (flagged (kid 0 ks)) ks))
+      onValue-makes (λ (ks : Recs). rec h (setKid 0 (flagged (kid 0 ks)) ks))
       (λ ks m. rehead x h _ (setKid 0 (flagged (kid 0 ks)) ks) (g .0) (setKid-fits x 0 (flagged (kid 0 ks)) ks _ (flagged-fits x (kid 0 ks) (kid-fits x 0 ks (m .0))) m))
       (atKid-makes x 1 (typeOr F) ks n _ (g .1) (typeOr-makes x F (kid 1 ks) n _ (kid-fits x 1 ks (g .1)) (infer-makes right n k q l)))
     where
@@ -121,44 +120,44 @@ module _ (x : ℕ) (ty : Typing) (fit : TypesFit x ty) where
     where
       F : ℕ → Out Rec
       F = inferExprFallbackAny ty right
-  assign-makes pAssign (rec h ks) right whole n g k q w l = pure-makes x w
-  assign-makes pOther (rec h ks) right whole n g k q w l = pure-makes x w
+  assign-makes pAssign (rec h ks) right whole n g k q w l = pure-makes w
+  assign-makes pOther (rec h ks) right whole n g k q w l = pure-makes w
 
   patternBy-makes : (k : Pattern) → Step x (handlePatternBy ty k)
   unfolding handlePatternBy
   patternBy-makes pIdent p n g q l = ident-makes x p n g q l
   patternBy-makes pAssign (rec h ks) n g q l =
       let s : names (kid 1 ks) ≤ allNames ks = kid-names 1 ks in
-      more x
+      more
       (assign-makes (patternKind (markOf (kid 0 ks))) (kid 0 ks) (kid 1 ks) (rec h ks) n (kid-fits x 0 ks (g .1)) (kid-fits x 1 ks (g .1)) (kid-keys x 1 ks (q .1)) g (omega arith))
       (omega arith)
-  patternBy-makes pBox p n g q l = pure-makes x g
-  patternBy-makes pOther p n g q l = pure-makes x g
+  patternBy-makes pBox p n g q l = pure-makes g
+  patternBy-makes pOther p n g q l = pure-makes g
 
   param-makes : Step x (handleFuncParam ty)
   unfolding handleFuncParam
   param-makes (rec h ks) n g q l =
       let s : names (kid 0 ks) ≤ allNames ks = kid-names 0 ks in
       let p : Rec = rec h ks in
-      ifM-makes x (is "Pa" p || is "Pp" p) (λ n. wrap h (atKid 0 (handlePattern ty) ks n)) (pure p)
+      ifM-makes (is "Pa" p || is "Pp" p) (λ n. wrap h (atKid 0 (handlePattern ty) ks n)) (pure p)
       (wrap-makes x h (count ks) n _ (atKid 0 (handlePattern ty) ks n) (g .0)
-      (atKid-makes x 0 (handlePattern ty) ks n _ (g .1) (more x (patternBy-makes (patternKind (markOf (kid 0 ks))) (kid 0 ks) n (kid-fits x 0 ks (g .1)) (kid-keys x 0 ks (q .1)) (omega arith)) (omega arith))))
-      (pure-makes x g)
+      (atKid-makes x 0 (handlePattern ty) ks n _ (g .1) (more (patternBy-makes (patternKind (markOf (kid 0 ks))) (kid 0 ks) n (kid-fits x 0 ks (g .1)) (kid-keys x 0 ks (q .1)) (omega arith)) (omega arith))))
+      (pure-makes g)
 
   -- ---- functions and constructors
 
   functionPart-makes : (setter : Bool) (i : ℕ) → Step x (functionPart ty setter i)
   unfolding functionPart
-  functionPart-makes setter zero r n g q l = pure-makes x g
-  functionPart-makes true (suc zero) r n g q l = pure-makes x (gone-fits x r g)
-  functionPart-makes false (suc zero) r n g q l = pure-makes x g
-  functionPart-makes setter (suc (suc zero)) r n g q l = pure-makes x (gone-fits x r g)
+  functionPart-makes setter zero r n g q l = pure-makes g
+  functionPart-makes true (suc zero) r n g q l = pure-makes (gone-fits x r g)
+  functionPart-makes false (suc zero) r n g q l = pure-makes g
+  functionPart-makes setter (suc (suc zero)) r n g q l = pure-makes (gone-fits x r g)
   functionPart-makes setter (suc (suc (suc i))) r n g q l = param-makes r n g q l
 
   -- a record whose children go through a step each
   pub eachIn-makes : (f : ℕ → Rec → ℕ → Out Rec) → ((i : ℕ) → Step x (f i)) → Step x (λ r n. wrap (headOf r) (each f 0 (kidsOf r) n))
   eachIn-makes f st (rec h ks) n g q l =
-      wrap-makes x h (count ks) n _ (each f 0 ks n) (g .0) (more x (each-makes x f st 0 ks n (g .1) (q .1) (omega arith)) (omega arith))
+      wrap-makes x h (count ks) n _ (each f 0 ks n) (g .0) (more (each-makes x f st 0 ks n (g .1) (q .1) (omega arith)) (omega arith))
 
   pub function-makes : (setter : Bool) → Step x (handleFunction ty setter)
   unfolding handleFunction
@@ -166,7 +165,7 @@ module _ (x : ℕ) (ty : Typing) (fit : TypesFit x ty) where
 
   constructorPart-makes : (i : ℕ) → Step x (constructorPart ty i)
   unfolding constructorPart
-  constructorPart-makes zero r n g q l = pure-makes x (gone-fits x r g)
+  constructorPart-makes zero r n g q l = pure-makes (gone-fits x r g)
   constructorPart-makes (suc i) r n g q l = param-makes r n g q l
 
   -- ---- members
@@ -175,68 +174,62 @@ module _ (x : ℕ) (ty : Typing) (fit : TypesFit x ty) where
   abbrev Few1 : (Rec → ℕ → Out Recs) → Type 0
   Few1 f = (r : Rec) (n : ℕ) → Fit x r → Keys x r → Room n (names r) → Makes (Few x 1) n (names r) (f r n)
 
-  none-made : (n w : ℕ) → Makes (Few x 1) n w (pure nil n)
-  none-made n w = record { value = (tt, omega arith); counter = omega arith }
-
-  one-made : (r : Rec) → Fit x r → Few x 1 (one r)
-  one-made r g = ((g, tt), omega arith)
-
   -- a record with other children, not more
   remade : (h : Head) (m : ℕ) (ks : Recs) → Sound x h m → Few x m ks → Few x 1 (one (rec h ks))
-  remade h m ks g k = one-made (rec h ks) (rehead x h m ks g k)
+  remade h m ks g k = one-made x (rec h ks) (rehead x h m ks g k)
 
   constructor-makes : Few1 (constructor ty)
   unfolding constructor
-  constructor-makes r n g q l = onValue-makes x one (λ r g. one-made r g) (eachIn-makes (constructorPart ty) constructorPart-makes r n g q l)
+  constructor-makes r n g q l = onValue-makes one (λ r g. one-made x r g) (eachIn-makes (constructorPart ty) constructorPart-makes r n g q l)
 
   method-makes : (o : Option Rec) → Given (Fit x) o → Few1 (λ r. method ty r o)
   unfolding method
-  method-makes none k r n g q l = none-made n _
+  method-makes none k r n g q l = none-made x 1 n _
   method-makes (some key) k (rec h ks) n g q l =
       let s : names (kid 1 ks) ≤ allNames ks = kid-names 1 ks in
-      onValue-makes x (λ (ks : Recs). one (rec h (setKid 0 key ks)))
+      onValue-makes (λ (ks : Recs). one (rec h (setKid 0 key ks)))
       (λ ks m. remade h _ (setKid 0 key ks) (g .0) (setKid-fits x 0 key ks _ k m))
-      (atKid-makes x 1 (handleFunction ty (has1 h)) ks n _ (g .1) (more x (function-makes (has1 h) (kid 1 ks) n (kid-fits x 1 ks (g .1)) (kid-keys x 1 ks (q .1)) (omega arith)) (omega arith)))
+      (atKid-makes x 1 (handleFunction ty (has1 h)) ks n _ (g .1) (more (function-makes (has1 h) (kid 1 ks) n (kid-fits x 1 ks (g .1)) (kid-keys x 1 ks (q .1)) (omega arith)) (omega arith)))
 
   propType-makes : (value t : Rec) (n : ℕ) → Fit x value → Keys x value → Fit x t → Room n (names value) → Makes (Fit x) n (names value) (propType ty value t n)
   propType-makes value t n g q k l =
-      ifM-makes x (isNo value) (pure t) (typeOr (λ n. orAny (ty value false false n) []) t) (pure-makes x k)
+      ifM-makes (isNo value) (pure t) (typeOr (λ n. orAny (ty value false false n) []) t) (pure-makes k)
       (typeOr-makes x (λ n. orAny (ty value false false n) []) t n _ k (orAny-makes x (ty value false false n) [] (fit value false false n g q l)))
 
   prop-makes : (o : Option Rec) → Given (Fit x) o → Few1 (λ r. classProp ty r o)
   unfolding classProp
-  prop-makes none k r n g q l = none-made n _
+  prop-makes none k r n g q l = none-made x 1 n _
   prop-makes (some key) k (rec h ks) n g q l =
       let value : Rec = kid 2 ks in
       let s : names value ≤ allNames ks = kid-names 2 ks in
       let v : Fit x value = kid-fits x 2 ks (g .1) in
       let f : h .flags < 256 = g .0 .flags in
-      onValue-makes x (λ (ks : Recs). one (rec (withFlags h (h .flags / 4 * 4)) (setKid 0 key (setKid 2 (gone value) ks))))
+      onValue-makes (λ (ks : Recs). one (rec (withFlags h (h .flags / 4 * 4)) (setKid 0 key (setKid 2 (gone value) ks))))
       (λ ks m. remade (withFlags h (h .flags / 4 * 4)) _ (setKid 0 key (setKid 2 (gone value) ks)) (reflag x h (h .flags / 4 * 4) _ (omega arith) (g .0))
       (setKid-fits x 0 key (setKid 2 (gone value) ks) _ k (setKid-fits x 2 (gone value) ks _ (gone-fits x value v) m)))
-      (atKid-makes x 1 (propType ty value) ks n _ (g .1) (more x (propType-makes value (kid 1 ks) n v (kid-keys x 2 ks (q .1)) (kid-fits x 1 ks (g .1)) (omega arith)) (omega arith)))
+      (atKid-makes x 1 (propType ty value) ks n _ (g .1) (more (propType-makes value (kid 1 ks) n v (kid-keys x 2 ks (q .1)) (kid-fits x 1 ks (g .1)) (omega arith)) (omega arith)))
 
   module _ (list : List ℕ) (ctx : ℕ) where
     memberBy-makes : (k : Member) → Few1 (memberBy list ctx ty k)
     unfolding memberBy
-    memberBy-makes mConstructor r n g q l = ifM-makes x (listed list (headOf r)) (pure nil) (constructor ty r) (none-made n _) (constructor-makes r n g q l)
+    memberBy-makes mConstructor r n g q l = ifM-makes (listed list (headOf r)) (pure nil) (constructor ty r) (none-made x 1 n _) (constructor-makes r n g q l)
     memberBy-makes mMethod r n g q l =
         let key : Option Rec = validPropName ctx (kid 0 (kidsOf r)) in
-        ifM-makes x (listed list (headOf r)) (pure nil) (method ty r key) (none-made n _)
+        ifM-makes (listed list (headOf r)) (pure nil) (method ty r key) (none-made x 1 n _)
         (method-makes key (key-fits x ctx (kid 0 (kidsOf r)) (kid-fits x 0 (kidsOf r) (kids-fit x r g))) r n g q l)
     memberBy-makes mProp r n g q l =
         prop-makes (validPropName ctx (kid 0 (kidsOf r))) (key-fits x ctx (kid 0 (kidsOf r)) (kid-fits x 0 (kidsOf r) (kids-fit x r g))) r n g q l
-    memberBy-makes mDropped r n g q l = none-made n _
-    memberBy-makes mKept r n g q l = pure-makes x (one-made r g)
+    memberBy-makes mDropped r n g q l = none-made x 1 n _
+    memberBy-makes mKept r n g q l = pure-makes (one-made x r g)
 
     body-makes : (ks : Recs) (n : ℕ) → FitAll x ks → AllKeys x ks → Room n (allNames ks) → Makes (Few x (count ks)) n (allNames ks) (classBodyToType list ctx ty ks n)
     unfolding classBodyToType
-    body-makes nil n g q l = record { value = (tt, omega arith); counter = omega arith }
+    body-makes nil n g q l = none-made x 0 n 0
     body-makes (cons tps members) n g q l =
-        onValue-makes x (cons tps) (λ ms m. ((g .0, m .0), omega (arith, m .1)))
-        (more x (flat-makes x (member list ctx ty) (λ r n g q l. memberBy-makes (memberKind (markOf r)) r n g q l) members n (g .1) (q .1) (omega arith)) (omega arith))
+        onValue-makes (cons tps) (λ ms m. ((g .0, m .0), omega (arith, m .1)))
+        (more (flat-makes x (member list ctx ty) (λ r n g q l. memberBy-makes (memberKind (markOf r)) r n g q l) members n (g .1) (q .1) (omega arith)) (omega arith))
 
     pub class-makes : Step x (class list ctx ty)
     unfolding class
     class-makes (rec h ks) n g q l =
-        wrap-makes x h (count ks) n _ (classBodyToType list ctx ty ks n) (g .0) (more x (body-makes ks n (g .1) (q .1) (omega arith)) (omega arith))
+        wrap-makes x h (count ks) n _ (classBodyToType list ctx ty ks n) (g .0) (more (body-makes ks n (g .1) (q .1) (omega arith)) (omega arith))

@@ -1,5 +1,5 @@
 -- What the transform of a module makes fits: declarations, items, namespaces. Assumes nothing.
-use mathlib.Core.Path.{_≡_, refl, sym, _∙_}
+use mathlib.Core.Path.{_≡_, refl}
 use mathlib.Core.List.{List, [], _∷_, _++_}
 use mathlib.Core.Bool.{Bool, true, false, cond, _||_}
 use mathlib.Core.Option.{Option, none, some}
@@ -7,10 +7,10 @@ use Prim.Native.Nat.{ℕ, zero, suc, _+_, _*_, _≤_, _<_}
 use native.Mathlib.Omega.{arith}
 use lib.Dec.{eqb}
 use lib.ListN.{length, length-append}
-use Rattle.definition.specs.Tree.{Head, Rec, Recs, rec, nil, cons, count, headSize, headBytes, encode, encodes}
+use Rattle.definition.specs.Tree.{Head, Rec, Recs, rec, nil, cons, count, headSize, encode, encodes}
 use Rattle.definition.specs.Grammar.{mark}
 use Rattle.definition.specs.Check.{longestTree}
-use Rattle.definition.specs.Record.{headOf, kidsOf, markOf, is, isNo, fresh, absent, ident, kid, setKid, one, join, given, gone, diag, listed, flag1, Out, Typing, pure, ifM, onValue, single, wrap, each, atKid, second}
+use Rattle.definition.specs.Record.{markOf, is, isNo, fresh, absent, ident, kid, setKid, one, given, gone, diag, listed, flag1, Out, Typing, pure, onValue, single, wrap, each, atKid, second}
 use Rattle.definition.specs.Helpers.{anyTypeAnn}
 use Rattle.definition.specs.Names.{genUniqueName}
 use Rattle.definition.specs.Typing.{orAny}
@@ -89,6 +89,9 @@ use Rattle.definition.proofs.Fit.{
   Few,
   Given,
   Makes,
+  one-made,
+  none-made,
+  at-most,
   fresh-sound,
   recount,
   reflag,
@@ -163,7 +166,7 @@ module _ (x : ℕ) where
 
   enumInit-makes : Step x enumInit
   unfolding enumInit
-  enumInit-makes r n g q l = pure-makes x (go (isNo r || validEnumInitExpr r))
+  enumInit-makes r n g q l = pure-makes (go (isNo r || validEnumInitExpr r))
     where
       go : (b : Bool) → Fit x (cond b r absent)
       go true = g
@@ -171,13 +174,13 @@ module _ (x : ℕ) where
 
   enumMember-makes : Step x enumMember
   unfolding enumMember
-  enumMember-makes r n g q l = ifM-makes x (is "Em" r) (second enumInit r) (pure r) (second-makes x enumInit enumInit-makes r n g q l) (pure-makes x g)
+  enumMember-makes r n g q l = ifM-makes (is "Em" r) (second enumInit r) (pure r) (second-makes x enumInit enumInit-makes r n g q l) (pure-makes g)
 
   bodyPart-makes : (i : ℕ) → Step x (bodyPart i)
-  bodyPart-makes zero r n g q l = pure-makes x g
-  bodyPart-makes (suc zero) r n g q l = pure-makes x g
-  bodyPart-makes (suc (suc zero)) r n g q l = pure-makes x (gone-fits x r g)
-  bodyPart-makes (suc (suc (suc i))) r n g q l = pure-makes x g
+  bodyPart-makes zero r n g q l = pure-makes g
+  bodyPart-makes (suc zero) r n g q l = pure-makes g
+  bodyPart-makes (suc (suc zero)) r n g q l = pure-makes (gone-fits x r g)
+  bodyPart-makes (suc (suc (suc i))) r n g q l = pure-makes g
 
   -- ---- the const of an Xe
 
@@ -204,21 +207,12 @@ module _ (x : ℕ) where
 
   -- ---- lists of one
 
-  one-made : (r : Rec) → Fit x r → Few x 1 (one r)
-  one-made r g = ((g, tt), omega arith)
-
-  none-made : (n w : ℕ) → Makes (Few x 1) n w (pure nil n)
-  none-made n w = record { value = (tt, omega arith); counter = omega arith }
-
-  at-most : {a b n w v : ℕ} {o : Out Recs} → Makes (Few x a) n w o → a ≤ b → w ≤ v → Makes (Few x b) n v o
-  at-most m l k = record { value = (m .value .0, omega (arith, m .value .1)); counter = omega (arith, m .counter) }
-
   stmtOf-makes : (h : Head) (n w : ℕ) (o : Out (Option Rec)) → Makes (Given (Fit x)) n w o → Makes (Few x 1) n w (stmtOf h o)
   stmtOf-makes h n w o m = go (o .0) (m .value)
     where
       go : (d : Option Rec) → Given (Fit x) d → Makes (Few x 1) n w (given d (nil, o .1 ++ (diag "d1" h ∷ []), o .2) (λ d. (one d, o .1, o .2)))
       go none g = record { value = (tt, omega arith); counter = m .counter }
-      go (some d) g = record { value = one-made d g; counter = m .counter }
+      go (some d) g = record { value = one-made x d g; counter = m .counter }
 
   exportOf-makes : (h : Head) (d : Rec) (ops : Recs) (n w : ℕ) (o : Out (Option Rec)) → Fit x (rec h (cons d ops)) → Makes (Given (Fit x)) n w o →
       Makes (Few x 1) n w (exportOf h ops o)
@@ -226,7 +220,7 @@ module _ (x : ℕ) where
     where
       go : (e : Option Rec) → Given (Fit x) e → Makes (Few x 1) n w (given e (nil, o .1 ++ (diag "d1" h ∷ []), o .2) (λ e. (one (rec h (cons e ops)), o .1, o .2)))
       go none f = record { value = (tt, omega arith); counter = m .counter }
-      go (some e) f = record { value = one-made (rec h (cons e ops)) (g .0, (f, g .1 .1)); counter = m .counter }
+      go (some e) f = record { value = one-made x (rec h (cons e ops)) (g .0, (f, g .1 .1)); counter = m .counter }
 
   declared-sound : (top : Bool) (h : Head) (m : ℕ) → Sound x h m → Sound x (declared top h) m
   declared-sound top h m g = reflag x h (flag1 top (h .flags)) m (flag1-fits x top (h .flags) (g .flags)) g
@@ -236,14 +230,14 @@ module _ (x : ℕ) (ty : Typing) (fit : TypesFit x ty) (nothing : (a b : Bool) (
 
   declaratorType-makes : (h : Head) (init : Rec) (n : ℕ) → Fit x init → Keys x init → Room n (names init) → Makes (Fit x) n (names init) (declaratorType ty h init n)
   declaratorType-makes h init n g q l =
-      ifM-makes x (isNo init) (λ n. (anyTypeAnn, diag "d2" h ∷ [], n)) (λ n. orAny (ty init false true n) (diag "d2" h ∷ []))
+      ifM-makes (isNo init) (λ n. (anyTypeAnn, diag "d2" h ∷ [], n)) (λ n. orAny (ty init false true n) (diag "d2" h ∷ []))
       (record { value = any-fits x; counter = omega arith }) (orAny-makes x (ty init false true n) (diag "d2" h ∷ []) (fit init false true n g q l))
 
   declaratorPattern-makes : (h : Head) (init p : Rec) (n : ℕ) → Fit x init → Keys x init → Fit x p → Room n (names init) →
       Makes (Fit x) n (names init) (declaratorPattern ty h init p n)
   unfolding declaratorPattern
   declaratorPattern-makes h init (rec ph ks) n g q k l =
-      ifM-makes x (is "Bd" (rec ph ks)) (λ n. wrap ph (atKid 1 (typeOr F) ks n)) (λ n. (rec ph ks, diag "d1" h ∷ [], n))
+      ifM-makes (is "Bd" (rec ph ks)) (λ n. wrap ph (atKid 1 (typeOr F) ks n)) (λ n. (rec ph ks, diag "d1" h ∷ [], n))
       (wrap-makes x ph (count ks) n _ (atKid 1 (typeOr F) ks n) (k .0)
       (atKid-makes x 1 (typeOr F) ks n _ (k .1) (typeOr-makes x F (kid 1 ks) n _ (kid-fits x 1 ks (k .1)) (declaratorType-makes ph init n g q l))))
       (record { value = k; counter = omega arith })
@@ -257,13 +251,13 @@ module _ (x : ℕ) (ty : Typing) (fit : TypesFit x ty) (nothing : (a b : Bool) (
       let init : Rec = kid 1 ks in
       let s : names init ≤ allNames ks = kid-names 1 ks in
       let i : Fit x init = kid-fits x 1 ks (g .1) in
-      ifM-makes x (is "Vr" (rec h ks))
+      ifM-makes (is "Vr" (rec h ks))
       (λ n. onValue (λ (ks : Recs). rec h (setKid 1 (gone init) ks)) (atKid 0 (declaratorPattern ty h init) ks n)) (pure (rec h ks))
-      (onValue-makes x (λ (ks : Recs). rec h (setKid 1 (gone init) ks))
+      (onValue-makes (λ (ks : Recs). rec h (setKid 1 (gone init) ks))
       (λ ks m. rehead x h _ (setKid 1 (gone init) ks) (g .0) (setKid-fits x 1 (gone init) ks _ (gone-fits x init i) m))
       (atKid-makes x 0 (declaratorPattern ty h init) ks n _ (g .1)
-      (more x (declaratorPattern-makes h init (kid 0 ks) n i (kid-keys x 1 ks (q .1)) (kid-fits x 0 ks (g .1)) (omega arith)) (omega arith))))
-      (pure-makes x g)
+      (more (declaratorPattern-makes h init (kid 0 ks) n i (kid-keys x 1 ks (q .1)) (kid-fits x 0 ks (g .1)) (omega arith)) (omega arith))))
+      (pure-makes g)
 
   withoutBody-makes : Step x withoutBody
   unfolding withoutBody
@@ -277,47 +271,47 @@ module _ (x : ℕ) (ty : Typing) (fit : TypesFit x ty) (nothing : (a b : Bool) (
     unfolding declToTypeDecl
     decl-makes dClass h ks top ns n g q l m =
         let s : names (kid 1 ks) ≤ allNames ks = kid-names 1 ks in
-        onValue-makes x some (λ r g. g)
+        onValue-makes some (λ r g. g)
         (wrap-makes x (declared top h) (count ks) n _ (atKid 1 (class list ctx ty) ks n) (declared-sound x top h (count ks) (g .0))
         (atKid-makes x 1 (class list ctx ty) ks n _ (g .1)
-        (more x (class-makes x ty fit list ctx (kid 1 ks) n (kid-fits x 1 ks (g .1)) (kid-keys x 1 ks q) (omega arith)) s)))
+        (more (class-makes x ty fit list ctx (kid 1 ks) n (kid-fits x 1 ks (g .1)) (kid-keys x 1 ks q) (omega arith)) s)))
     decl-makes dFn h ks top ns n g q l m =
         let s : names (kid 1 ks) ≤ allNames ks = kid-names 1 ks in
-        onValue-makes x some (λ r g. g)
+        onValue-makes some (λ r g. g)
         (wrap-makes x (declared top h) (count ks) n _ (atKid 1 (handleFunction ty false) ks n) (declared-sound x top h (count ks) (g .0))
         (atKid-makes x 1 (handleFunction ty false) ks n _ (g .1)
-        (more x (function-makes x ty fit false (kid 1 ks) n (kid-fits x 1 ks (g .1)) (kid-keys x 1 ks q) (omega arith)) s)))
+        (more (function-makes x ty fit false (kid 1 ks) n (kid-fits x 1 ks (g .1)) (kid-keys x 1 ks q) (omega arith)) s)))
     decl-makes dVar h ks top ns n g q l m =
-        onValue-makes x some (λ r g. g)
+        onValue-makes some (λ r g. g)
         (wrap-makes x (declared top h) (count ks) n _ (each (λ i. declarator ty) 0 ks n) (declared-sound x top h (count ks) (g .0))
         (each-makes x (λ i. declarator ty) (λ i. declarator-makes) 0 ks n (g .1) q l))
     decl-makes dEnum h ks top ns n g q l m =
-        onValue-makes x some (λ r g. g)
+        onValue-makes some (λ r g. g)
         (wrap-makes x (declared top h) (count ks) n _ (each (λ i. enumMember) 0 ks n) (declared-sound x top h (count ks) (g .0))
         (each-makes x (λ i. enumMember) (λ i. enumMember-makes x) 0 ks n (g .1) q l))
     decl-makes dModule h ks top ns n g q l m =
-        onValue-makes x some (λ r g. g) (wrap-makes x (declared top h) (count ks) n _ (ns n) (declared-sound x top h (count ks) (g .0)) m)
+        onValue-makes some (λ r g. g) (wrap-makes x (declared top h) (count ks) n _ (ns n) (declared-sound x top h (count ks) (g .0)) m)
     decl-makes dUsing h ks top ns n g q l m = record { value = tt; counter = omega arith }
-    decl-makes dType h ks top ns n g q l m = pure-makes x g
+    decl-makes dType h ks top ns n g q l m = pure-makes g
 
     stmt-makes : (k : Decl) (h : Head) (ks : Recs) (top : Bool) (ns : ℕ → Out Recs) (n : ℕ) → Fit x (rec h ks) → AllKeys x ks → Room n (allNames ks) →
         Makes (Few x (count ks)) n (allNames ks) (ns n) → Makes (Few x 1) n (allNames ks) (transformModuleStmt list ctx ty k h ks top ns n)
     unfolding transformModuleStmt
     stmt-makes dFn h ks top ns n g q l m =
-        ifM-makes x (listed list h) (pure nil) (λ n. stmtOf h (declToTypeDecl list ctx ty dFn h ks top ns n)) (none-made x n _)
+        ifM-makes (listed list h) (pure nil) (λ n. stmtOf h (declToTypeDecl list ctx ty dFn h ks top ns n)) (none-made x 1 n _)
         (stmtOf-makes x h n _ _ (decl-makes dFn h ks top ns n g q l m))
     stmt-makes dClass h ks top ns n g q l m = stmtOf-makes x h n _ _ (decl-makes dClass h ks top ns n g q l m)
     stmt-makes dVar h ks top ns n g q l m = stmtOf-makes x h n _ _ (decl-makes dVar h ks top ns n g q l m)
     stmt-makes dEnum h ks top ns n g q l m = stmtOf-makes x h n _ _ (decl-makes dEnum h ks top ns n g q l m)
     stmt-makes dModule h ks top ns n g q l m = stmtOf-makes x h n _ _ (decl-makes dModule h ks top ns n g q l m)
-    stmt-makes dUsing h ks top ns n g q l m = pure-makes x (one-made x (rec h ks) g)
-    stmt-makes dType h ks top ns n g q l m = pure-makes x (one-made x (rec h ks) g)
+    stmt-makes dUsing h ks top ns n g q l m = pure-makes (one-made x (rec h ks) g)
+    stmt-makes dType h ks top ns n g q l m = pure-makes (one-made x (rec h ks) g)
 
     export-makes : (k : Decl) (h dh : Head) (ks ops : Recs) (top : Bool) (ns : ℕ → Out Recs) (n : ℕ) → Fit x (rec h (cons (rec dh ks) ops)) → AllKeys x ks →
         Room n (allNames ks) → Makes (Few x (count ks)) n (allNames ks) (ns n) → Makes (Few x 1) n (allNames ks) (exportDecl list ctx ty k h dh ks ops top ns n)
     unfolding exportDecl
     export-makes dFn h dh ks ops top ns n g q l m =
-        ifM-makes x (listed list h) (pure nil) (λ n. exportOf h ops (declToTypeDecl list ctx ty dFn dh ks top ns n)) (none-made x n _)
+        ifM-makes (listed list h) (pure nil) (λ n. exportOf h ops (declToTypeDecl list ctx ty dFn dh ks top ns n)) (none-made x 1 n _)
         (exportOf-makes x h (rec dh ks) ops n _ _ g (decl-makes dFn dh ks top ns n (g .1 .0) q l m))
     export-makes dClass h dh ks ops top ns n g q l m = exportOf-makes x h (rec dh ks) ops n _ _ g (decl-makes dClass dh ks top ns n (g .1 .0) q l m)
     export-makes dVar h dh ks ops top ns n g q l m = exportOf-makes x h (rec dh ks) ops n _ _ g (decl-makes dVar dh ks top ns n (g .1 .0) q l m)
@@ -332,17 +326,17 @@ module _ (x : ℕ) (ty : Typing) (fit : TypesFit x ty) (nothing : (a b : Bool) (
         Makes (Few x 1) n (allNames ks) (single (wrap h (atKid 0 (second f) ks n)))
     held-makes f st h ks n g q l =
         let s : names (kid 0 ks) ≤ allNames ks = kid-names 0 ks in
-        onValue-makes x one (λ r g. one-made x r g)
+        onValue-makes one (λ r g. one-made x r g)
         (wrap-makes x h (count ks) n _ (atKid 0 (second f) ks n) (g .0)
-        (atKid-makes x 0 (second f) ks n _ (g .1) (more x (second-makes x f st (kid 0 ks) n (kid-fits x 0 ks (g .1)) (kid-keys x 0 ks q) (omega arith)) s)))
+        (atKid-makes x 0 (second f) ks n _ (g .1) (more (second-makes x f st (kid 0 ks) n (kid-fits x 0 ks (g .1)) (kid-keys x 0 ks q) (omega arith)) s)))
 
     default-makes : (k : Default) (h : Head) (ks : Recs) (n : ℕ) → Fit x (rec h ks) → AllKeys x ks → Room n (allNames ks) →
         Makes (Few x 1) n (allNames ks) (exportDefaultDecl list ctx ty k h ks n)
     unfolding exportDefaultDecl
     default-makes xClass h ks n g q l = held-makes (class list ctx ty) (class-makes x ty fit list ctx) h ks n g q l
     default-makes xFn h ks n g q l =
-        ifM-makes x (listed list h) (pure nil) (λ n. single (wrap h (atKid 0 (second withoutBody) ks n))) (none-made x n _) (held-makes withoutBody withoutBody-makes h ks n g q l)
-    default-makes xOther h ks n g q l = pure-makes x (one-made x (rec h ks) g)
+        ifM-makes (listed list h) (pure nil) (λ n. single (wrap h (atKid 0 (second withoutBody) ks n))) (none-made x 1 n _) (held-makes withoutBody withoutBody-makes h ks n g q l)
+    default-makes xOther h ks n g q l = pure-makes (one-made x (rec h ks) g)
 
     nothing-held : (ks : Recs) (n : ℕ) → ks ≡ nil → ty (kid 0 ks) false true n .0 ≡ none
     nothing-held nil n e = nothing false true n
@@ -354,8 +348,8 @@ module _ (x : ℕ) (ty : Typing) (fit : TypesFit x ty) (nothing : (a b : Bool) (
     expr-makes h ks n w e g q l =
         let s : names (kid 0 ks) ≤ allNames ks = kid-names 0 ks in
         let t = fit (kid 0 ks) false true (suc n) (kid-fits x 0 ks (g .1)) (kid-keys x 0 ks q) (omega arith) in
-        ifM-makes x (is "Id" (kid 0 ks)) (pure (one (rec h ks))) (λ n. onValue (defaultTyped h ks (suc n)) (ty (kid 0 ks) false true (suc n)))
-        (pure-makes x ((g, tt), omega arith))
+        ifM-makes (is "Id" (kid 0 ks)) (pure (one (rec h ks))) (λ n. onValue (defaultTyped h ks (suc n)) (ty (kid 0 ks) false true (suc n)))
+        (pure-makes ((g, tt), omega arith))
         (record {
           value = typed-fits x h ks (suc n) (ty (kid 0 ks) false true (suc n) .0) g (omega arith) (t .value) (nothing-held ks (suc n));
           counter = omega (arith, t .counter);
@@ -367,8 +361,8 @@ module _ (x : ℕ) (ty : Typing) (fit : TypesFit x ty) (nothing : (a b : Bool) (
         Room n (weight (h .mark) + allNames ks) → Makes (Few x (count ks)) n (allNames ks) (ns n) → Makes (Few x 1) n (allNames ks) (export n) →
         Makes (Few x (suc (sizes ks))) n (weight (h .mark) + allNames ks) (itemBy list ctx ty k h ks top ns export n)
     unfolding itemBy
-    item-makesBy iKept h ks top ns export n e g q l m o = pure-makes x ((g, tt), omega arith)
-    item-makesBy iDropped h ks top ns export n e g q l m o = pure-makes x (tt, omega arith)
+    item-makesBy iKept h ks top ns export n e g q l m o = pure-makes ((g, tt), omega arith)
+    item-makesBy iDropped h ks top ns export n e g q l m o = pure-makes (tt, omega arith)
     item-makesBy iExport h ks top ns export n e g q l m o = at-most x o (omega arith) (omega arith)
     item-makesBy iDefault h ks top ns export n e g q l m o =
         at-most x (default-makes (defaultKind (markOf (kid 0 ks))) h ks n g q (omega arith)) (omega arith) (omega arith)
@@ -383,7 +377,7 @@ module _ (x : ℕ) (ty : Typing) (fit : TypesFit x ty) (nothing : (a b : Bool) (
     unfolding bodyBy
     body-makesBy bBlock h ks items nested n g s m o = wrap-makes x h (sizes ks) n _ (items n) (recount x h (count ks) (sizes ks) (g .0) s) m
     body-makesBy bNested h ks items nested n g s m o = o
-    body-makesBy bOther h ks items nested n g s m o = pure-makes x g
+    body-makesBy bOther h ks items nested n g s m o = pure-makes g
 
     -- ---- all of it
 
@@ -392,7 +386,7 @@ module _ (x : ℕ) (ty : Typing) (fit : TypesFit x ty) (nothing : (a b : Bool) (
 
       items-make : (rs : Recs) (top : Bool) (n : ℕ) → FitAll x rs → AllKeys x rs → sizes rs < 65536 → Room n (allNames rs) →
           Makes (Few x (sizes rs)) n (allNames rs) (transformModuleItems list ctx ty rs top n)
-      items-make nil top n g q s l = record { value = (tt, omega arith); counter = omega arith }
+      items-make nil top n g q s l = none-made x 0 n 0
       items-make (cons r rs) top n g q s l =
           let a = item-makes r top n (g .0) (q .0) (omega arith) (omega arith) in
           let b = items-make rs top (transformModuleItem list ctx ty r top n .2) (g .1) (q .1) (omega arith) (omega (arith, a .counter)) in
@@ -406,7 +400,7 @@ module _ (x : ℕ) (ty : Typing) (fit : TypesFit x ty) (nothing : (a b : Bool) (
 
       exported-makes : (rs : Recs) (h : Head) (top : Bool) (n : ℕ) → Fit x (rec h rs) → AllKeys x rs → sizes rs < 65536 → Room n (allNames rs) →
           Makes (Few x 1) n (allNames rs) (exported list ctx ty rs h top n)
-      exported-makes nil h top n g q s l = pure-makes x (one-made x (rec h nil) g)
+      exported-makes nil h top n g q s l = pure-makes (one-made x (rec h nil) g)
       exported-makes (cons d ops) h top n g q s l = at-most x (exportedDecl-makes d h ops top n g (q .0) (omega arith) (omega arith)) (omega arith) (omega arith)
 
       exportedDecl-makes : (d : Rec) (h : Head) (ops : Recs) (top : Bool) (n : ℕ) → Fit x (rec h (cons d ops)) → Keys x d → size d < 65536 → Room n (names d) →
@@ -418,32 +412,32 @@ module _ (x : ℕ) (ty : Typing) (fit : TypesFit x ty) (nothing : (a b : Bool) (
 
       parts-make : (rs : Recs) (n : ℕ) → FitAll x rs → AllKeys x rs → sizes rs < 65536 → Room n (allNames rs) →
           Makes (Few x (count rs)) n (allNames rs) (nsParts list ctx ty rs n)
-      parts-make nil n g q s l = record { value = (tt, omega arith); counter = omega arith }
+      parts-make nil n g q s l = none-made x 0 n 0
       parts-make (cons name rs) n g q s l =
-          onValue-makes x (cons name) (λ ks m. ((g .0, m .0), omega (arith, m .1))) (more x (bodyFirst-makes rs n (g .1) (q .1) (omega arith) (omega arith)) (omega arith))
+          onValue-makes (cons name) (λ ks m. ((g .0, m .0), omega (arith, m .1))) (more (bodyFirst-makes rs n (g .1) (q .1) (omega arith) (omega arith)) (omega arith))
 
       bodyFirst-makes : (rs : Recs) (n : ℕ) → FitAll x rs → AllKeys x rs → sizes rs < 65536 → Room n (allNames rs) →
           Makes (Few x (count rs)) n (allNames rs) (nsBodyFirst list ctx ty rs n)
-      bodyFirst-makes nil n g q s l = record { value = (tt, omega arith); counter = omega arith }
+      bodyFirst-makes nil n g q s l = none-made x 0 n 0
       bodyFirst-makes (cons b ops) n g q s l =
-          onValue-makes x (λ (b : Rec). cons b ops) (λ b m. ((m, g .1), omega arith)) (more x (body-makes b n (g .0) (q .0) (omega arith) (omega arith)) (omega arith))
+          onValue-makes (λ (b : Rec). cons b ops) (λ b m. ((m, g .1), omega arith)) (more (body-makes b n (g .0) (q .0) (omega arith) (omega arith)) (omega arith))
 
       body-makes : (b : Rec) (n : ℕ) → Fit x b → Keys x b → size b < 65536 → Room n (names b) → Makes (Fit x) n (names b) (transformTsNsBody list ctx ty b n)
       body-makes (rec h ks) n g q s l =
-          more x
+          more
           (body-makesBy (bodyKind (h .mark)) h ks _ _ n g (omega arith) (items-make ks false n (g .1) (q .1) (omega arith) (omega arith))
           (nestedSecond-makes ks n (g .1) (q .1) (omega arith) (omega arith)))
           (omega arith)
 
       nestedSecond-makes : (rs : Recs) (n : ℕ) → FitAll x rs → AllKeys x rs → sizes rs < 65536 → Room n (allNames rs) →
           Makes (Fit x) n (allNames rs) (nestedSecond list ctx ty rs n)
-      nestedSecond-makes nil n g q s l = pure-makes x (absent-fits x)
-      nestedSecond-makes (cons name rs) n g q s l = more x (nestedFirst-makes rs n (g .1) (q .1) (omega arith) (omega arith)) (omega arith)
+      nestedSecond-makes nil n g q s l = pure-makes (absent-fits x)
+      nestedSecond-makes (cons name rs) n g q s l = more (nestedFirst-makes rs n (g .1) (q .1) (omega arith) (omega arith)) (omega arith)
 
       nestedFirst-makes : (rs : Recs) (n : ℕ) → FitAll x rs → AllKeys x rs → sizes rs < 65536 → Room n (allNames rs) →
           Makes (Fit x) n (allNames rs) (nestedFirst list ctx ty rs n)
-      nestedFirst-makes nil n g q s l = pure-makes x (absent-fits x)
-      nestedFirst-makes (cons b ops) n g q s l = more x (body-makes b n (g .0) (q .0) (omega arith) (omega arith)) (omega arith)
+      nestedFirst-makes nil n g q s l = pure-makes (absent-fits x)
+      nestedFirst-makes (cons b ops) n g q s l = more (body-makes b n (g .0) (q .0) (omega arith) (omega arith)) (omega arith)
 
     -- a module of at most 524,288 bytes
     pub transformBy-fits : (r : Rec) → Fit x r → Keys x r → length (encode r) ≤ longestTree → Fit x (transformBy list ctx ty r .0)

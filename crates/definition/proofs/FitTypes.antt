@@ -1,9 +1,9 @@
 -- The parts that the typing of expressions makes fit: types of literals, `readonly_of`, elements, properties, parameters. Assumes nothing.
-use mathlib.Core.Path.{_≡_, refl, ap, sym, _∙_}
+use mathlib.Core.Path.{_≡_, refl}
 use mathlib.Core.List.{List, [], _∷_, _++_}
 use mathlib.Core.Bool.{Bool, true, false, cond, _&&_, _||_}
 use mathlib.Core.Option.{Option, none, some}
-use Prim.Native.Nat.{ℕ, zero, suc, _+_, _-_, _≤_, _<_}
+use Prim.Native.Nat.{ℕ, suc, _+_, _-_, _≤_, _<_}
 use Prim.Native.String.{String}
 use native.Mathlib.Omega.{arith}
 use lib.Dec.{eqb}
@@ -11,144 +11,12 @@ use lib.ListN.{length}
 use borrow.Author.Tests.{eqb-true}
 use Rattle.definition.specs.Tree.{Head, Rec, Recs, rec, nil, cons, count, le4, Bytes}
 use Rattle.definition.specs.Grammar.{mark}
-use Rattle.definition.specs.Record.{text, sameText, headOf, kidsOf, markOf, textOf, is, isNo, contextOf, symbolOf, fresh, ranged, absent, ident, identAt, flagged, kid, one, given, present, Diag, diag, Out, pure, ifM, onValue}
-use Rattle.definition.specs.Helpers.{tsKeywordType, anyTypeAnn, tsReadonly, referenceTo, typeRef, tsLitType, regexType, tsTupleElement, tsTypeQuery, objectFreezeCallArg, noExprs, firstCooked, tplToTsType, Lit, lStr, lBool, lNull, lNum, lBigInt, lRegex, lJsxText, litKind, maybeLitToTsType}
-use Rattle.definition.specs.Prescan.{PrescannedModuleIds}
+use Rattle.definition.specs.Record.{text, headOf, kidsOf, markOf, textOf, is, isNo, symbolOf, fresh, ranged, absent, ident, identAt, flagged, kid, one, given, Diag, diag, Out}
+use Rattle.definition.specs.Helpers.{tsKeywordType, anyTypeAnn, referenceTo, tsLitType, regexType, tsTupleElement, noExprs, firstCooked, tplToTsType, Lit, lStr, lBool, lNull, lNum, lBigInt, lRegex, lJsxText, maybeLitToTsType}
 use Rattle.definition.specs.Names.{genUniqueName}
-use Rattle.definition.specs.Typing.{
-  Frozen,
-  fTypeLit,
-  fArray,
-  fSame,
-  fOther,
-  frozenKind,
-  plainMembers,
-  readonlyMembers,
-  readonlyOfBy,
-  readonlyOf,
-  turned,
-  turnedInteger,
-  respelled,
-  minusBy,
-  tupleOf,
-  element,
-  orAny,
-  tsRestType,
-  Element,
-  eHole,
-  eSpread,
-  eExpr,
-  eOp,
-  elementKind,
-  elementBy,
-  Spread,
-  sIdent,
-  sArray,
-  sOther,
-  spreadKind,
-  Key,
-  kIdent,
-  kStr,
-  kNum,
-  kComputed,
-  keyKind,
-  keyExpr,
-  keyFlag,
-  propertySignature,
-  Prop,
-  pKeyValue,
-  pShorthand,
-  pSpread,
-  pOther,
-  pOp,
-  propKind,
-  keyValue,
-  shorthand,
-  Param,
-  qKeep,
-  qAssign,
-  qExpr,
-  qOther,
-  paramKind,
-  bindingIdent,
-  defaultParam,
-  paramBy,
-  fnType,
-  Expr,
-  xArray,
-  xObject,
-  xLit,
-  xConst,
-  xSatisfies,
-  xAs,
-  xFn,
-  xArrow,
-  xTpl,
-  xIdent,
-  xUnary,
-  xCall,
-  xNew,
-  xOther,
-  exprKind,
-  Below,
-  globalType,
-  identToTsType,
-  newType,
-  spreadBy,
-  propBy,
-  frozen,
-  exprBy,
-  exprToTsType,
-  typeFirst,
-  typeSecond,
-  elements,
-  spreadType,
-  spreadFirst,
-  props,
-  prop,
-  fnSecond,
-  fnFirst,
-  functionType,
-  fnParams,
-  fnParam,
-  paramFirst,
-  arrowParams,
-  patToTsFnParam,
-}
+use Rattle.definition.specs.Typing.{Frozen, fTypeLit, fArray, fSame, fOther, frozenKind, plainMembers, readonlyMembers, readonlyOfBy, readonlyOf, turned, turnedInteger, respelled, minusBy, tupleOf, element, orAny, tsRestType, Element, eHole, eSpread, eExpr, eOp, elementBy, Key, kIdent, kStr, kNum, kComputed, keyKind, keyExpr, keyFlag, propertySignature, keyValue, shorthand, Param, qKeep, qAssign, qExpr, qOther, paramKind, bindingIdent, defaultParam, paramBy, fnType}
 use Rattle.definition.proofs.Texts.{written, turned-length, turned-bytes, turnedInteger-length, turnedInteger-bytes}
-use Rattle.definition.proofs.Fit.{
-  weight,
-  names,
-  allNames,
-  Room,
-  Sound,
-  Fit,
-  FitAll,
-  Few,
-  Given,
-  Makes,
-  plain,
-  fresh-sound,
-  ranged-sound,
-  flagged-fits,
-  absent-fits,
-  keyword-fits,
-  any-fits,
-  over-one,
-  over-two,
-  identAt-fits,
-  symbol-short,
-  symbol-bytes,
-  named-fits,
-  kid-fits,
-  join-fits,
-  rehead,
-  pure-makes,
-  more,
-  onValue-makes,
-  ifM-makes,
-  orAny-makes,
-}
+use Rattle.definition.proofs.Fit.{weight, Room, Sound, Fit, FitAll, Few, Given, Makes, plain, head-sound, kids-fit, given-cond, fresh-sound, ranged-sound, flagged-fits, absent-fits, keyword-fits, any-fits, over-one, over-two, identAt-fits, symbol-short, symbol-bytes, named-fits, kid-fits, rehead, more, onValue-makes, orAny-makes}
 
 -- ---- marks
 
@@ -175,16 +43,6 @@ assign-weight m e = rw (eqb-true m (mark "Ag") (go (eqb m (mark "Bd") || (eqb m 
 
 module _ (x : ℕ) where
   -- ---- small types
-
-  pub head-sound : (r : Rec) → Fit x r → Sound x (headOf r) (count (kidsOf r))
-  head-sound (rec h ks) g = g .0
-
-  pub kids-fit : (r : Rec) → Fit x r → FitAll x (kidsOf r)
-  kids-fit (rec h ks) g = g .1
-
-  pub given-cond : (b : Bool) (s t : Option Rec) → Given (Fit x) s → Given (Fit x) t → Given (Fit x) (cond b s t)
-  given-cond true s t p q = p
-  given-cond false s t p q = q
 
   literal-fits : (r : Rec) → Fit x r → Fit x (tsLitType r)
   literal-fits r g = over-one x "Tl" refl r g
@@ -232,11 +90,11 @@ module _ (x : ℕ) where
   pub minus-fits : (l : Lit) (r : Rec) (c : Bool) → Fit x r → Given (Fit x) (minusBy l r c)
   unfolding minusBy
   minus-fits lNum r true g =
-      literal-fits (respelled r (turned (textOf r))) (respelled-fits r (turned (textOf r)) (turned-length (textOf r)) (turned-bytes (textOf r) (head-sound r g .bytes)) g)
+      literal-fits (respelled r (turned (textOf r))) (respelled-fits r (turned (textOf r)) (turned-length (textOf r)) (turned-bytes (textOf r) (head-sound x r g .bytes)) g)
   minus-fits lNum r false g = keyword-fits x "number" refl
   minus-fits lBigInt r true g =
       literal-fits (respelled r (turnedInteger (textOf r)))
-      (respelled-fits r (turnedInteger (textOf r)) (turnedInteger-length (textOf r)) (turnedInteger-bytes (textOf r) (head-sound r g .bytes)) g)
+      (respelled-fits r (turnedInteger (textOf r)) (turnedInteger-length (textOf r)) (turnedInteger-bytes (textOf r) (head-sound x r g .bytes)) g)
   minus-fits lBigInt r false g = keyword-fits x "bigint" refl
   minus-fits lStr r c g = tt
   minus-fits lBool r c g = tt
@@ -250,7 +108,7 @@ module _ (x : ℕ) where
   template-fits ks true g = go (noExprs ks && firstCooked ks)
     where
       quasi : Sound x (headOf (kid 0 ks)) (count (kidsOf (kid 0 ks)))
-      quasi = head-sound (kid 0 ks) (kid-fits x 0 ks g)
+      quasi = head-sound x (kid 0 ks) (kid-fits x 0 ks g)
 
       go : (b : Bool) → Fit x (cond b (tsLitType (rec (fresh "Ss" 0 (textOf (kid 0 ks))) nil)) (tsKeywordType "string"))
       go true =
@@ -275,7 +133,7 @@ module _ (x : ℕ) where
   readonly-fits : (k : Frozen) (t : Rec) → Fit x t → Given (Fit x) (readonlyOfBy k t)
   unfolding readonlyOfBy
   readonly-fits fTypeLit (rec h ks) g =
-      given-cond (plainMembers ks) (some (rec h (readonlyMembers ks))) none
+      given-cond x (plainMembers ks) (some (rec h (readonlyMembers ks))) none
       (rehead x h (count ks) (readonlyMembers ks) (g .0) (readonlyMembers-fit ks (count ks) (g .1, omega arith))) tt
   readonly-fits fArray t g = over-one x "Ro" refl t g
   readonly-fits fSame t g = g
@@ -313,7 +171,7 @@ module _ (x : ℕ) where
       ((n : ℕ) → Room n v → Makes (Given (Few x m)) n v (rest n)) → Room n (w + v) → Makes (Given (Few x (suc m))) n (w + v) (elementBy k h typed spread rest n)
   unfolding elementBy
   elementBy-makes eHole h typed spread rest m n w v p q s l =
-      more x (element-makes anyTypeAnn [] m n v (rest n) (any-fits x) (s n (omega arith))) (omega arith)
+      more (element-makes anyTypeAnn [] m n v (rest n) (any-fits x) (s n (omega arith))) (omega arith)
   elementBy-makes eSpread h typed spread rest m n w v p q s l = go (spread n) q
     where
       go : (o : Out (Option Rec)) → Makes (Given (Fit x)) n w o →
@@ -346,11 +204,11 @@ module _ (x : ℕ) where
   key-fits : (k : Key) (r : Rec) → keyKind (markOf r) ≡ k → Fit x r → (markOf r ≡ mark "Ki" → length (textOf r) ≤ 65531 + x) → Fit x (keyExpr k r)
   unfolding keyExpr
   key-fits kIdent r e g q =
-      let h = head-sound r g in
+      let h = head-sound x r g in
       identAt-fits x (headOf r) (count (kidsOf r)) h (textOf r) (omega (arith, q (key-mark (markOf r) e))) (h .bytes)
   key-fits kStr r e g q = g
   key-fits kNum r e g q = g
-  key-fits kComputed r e g q = kid-fits x 0 (kidsOf r) (kids-fit r g)
+  key-fits kComputed r e g q = kid-fits x 0 (kidsOf r) (kids-fit x r g)
 
   flag-fits : (r : Bool) (k : Key) → cond r 1 0 + keyFlag k < 256
   flag-fits true kIdent = omega arith
@@ -370,7 +228,7 @@ module _ (x : ℕ) where
   keyValue-makes ks r n w o g q m =
       let k : Rec = kid 0 ks in
       let e : Key = keyKind (markOf k) in
-      onValue-makes x (λ t. one (propertySignature (keyExpr e k) r (keyFlag e) t))
+      onValue-makes (λ t. one (propertySignature (keyExpr e k) r (keyFlag e) t))
       (λ t v. signature-fits (keyExpr e k) r (keyFlag e) t (flag-fits r e) (key-fits e k refl (kid-fits x 0 ks g) q) v)
       (orAny-makes x o (diag "d2" (headOf (kid 1 ks)) ∷ []) m)
 
@@ -378,7 +236,7 @@ module _ (x : ℕ) where
   shorthand-makes h i r none n w g t = record { value = (tt, omega arith); counter = omega arith }
   shorthand-makes h i r (some t) n w g k = record {
     value = signature-fits (identAt (headOf i) (symbolOf i)) r 0 t (flag-fits r kIdent)
-        (identAt-fits x (headOf i) (count (kidsOf i)) (head-sound i g) (symbolOf i) (symbol-short x i g) (symbol-bytes x i g)) k;
+        (identAt-fits x (headOf i) (count (kidsOf i)) (head-sound x i g) (symbolOf i) (symbol-short x i g) (symbol-bytes x i g)) k;
     counter = omega arith;
   }
 
@@ -397,7 +255,7 @@ module _ (x : ℕ) where
       i = kid 0 (kidsOf left)
 
       i-fits : Fit x i
-      i-fits = kid-fits x 0 (kidsOf left) (kids-fit left k)
+      i-fits = kid-fits x 0 (kidsOf left) (kids-fit x left k)
 
       go : (b : Bool) → Makes (Few x 1) n 1 (cond b (one (bindingIdent h (symbolOf i) t), ds, n) (one (bindingIdent h (genUniqueName (suc n)) t), ds, suc n))
       go true = record {

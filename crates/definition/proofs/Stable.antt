@@ -5,8 +5,8 @@ use mathlib.Core.List.{List, [], _∷_}
 use mathlib.Core.Bool.{Bool, true, false, _||_}
 use mathlib.Core.Option.{Option, none, some}
 use Prim.Native.Nat.{ℕ, zero, suc}
-use Rattle.definition.specs.Tree.{Head, Rec, Recs, rec, nil, cons}
-use Rattle.definition.specs.Record.{headOf, kidsOf, markOf, is, isNo, flagged, kid, setKid, join, gone, Diag, diag, Out, Typing, ifM, pure, each, flat, atKid, second}
+use Rattle.definition.specs.Tree.{Rec, Recs, rec, nil, cons}
+use Rattle.definition.specs.Record.{headOf, kidsOf, markOf, is, isNo, flagged, kid, setKid, join, gone, Diag, diag, Out, Typing, each, flat, atKid, second}
 use Rattle.definition.specs.Helpers.{anyTypeAnn}
 use Rattle.definition.specs.Typing.{orAny}
 use Rattle.definition.specs.Classes.{typeOr, handleFuncParamIdent, Pattern, pIdent, pAssign, pBox, pOther, patternKind, inferExprFallbackAny, handleFuncParamAssign, handlePatternBy, handlePattern, handleFuncParam, functionPart, handleFunction, constructorPart}

@@ -1,7 +1,7 @@
 -- A second pass changes nothing: keys, class members, classes. Assumes nothing.
 use mathlib.Core.Path.{_≡_, refl, ap, ap₂, subst}
 use mathlib.Core.List.{List}
-use mathlib.Core.Bool.{Bool, true, false, cond, not, _&&_, _||_}
+use mathlib.Core.Bool.{Bool, true, false, cond, not, _&&_}
 use mathlib.Core.Option.{Option, none, some}
 use Prim.Native.Nat.{ℕ, _*_, _/_}
 use native.Mathlib.Omega.{arith}
@@ -9,10 +9,10 @@ use lib.Dec.{eqb}
 use borrow.Author.Tests.{eqb-true}
 use Rattle.definition.specs.Tree.{Head, Rec, Recs, rec, nil, cons}
 use Rattle.definition.specs.Grammar.{mark}
-use Rattle.definition.specs.Record.{headOf, kidsOf, markOf, is, isNo, absent, withFlags, has1, kid, setKid, one, ends, gone, listed, Out, Typing, pure, ifM, each, flat}
+use Rattle.definition.specs.Record.{headOf, kidsOf, markOf, is, isNo, withFlags, has1, kid, setKid, one, ends, gone, listed, Out, Typing, pure, ifM, flat}
 use Rattle.definition.specs.Names.{isWellKnownSymbolExpr, KeyExpr, xLit, xTpl, xThrough, xIdent, xMember, xOther, keyExprKind, computed, propNameBy, propNameFromExpr, propNameFromFirst, propNameFromOnly, validPropName}
 use Rattle.definition.specs.Classes.{handleFunction, constructorPart, constructor, method, propType, classProp, Member, mConstructor, mMethod, mProp, mDropped, mKept, memberKind, memberBy, member, classBodyToType, class}
-use Rattle.definition.proofs.Stable.{Stable, Typed, orAny-there, each-stable, flat-stable, gone-gone, function-stable, constructorPart-stable}
+use Rattle.definition.proofs.Stable.{Stable, Typed, each-stable, flat-stable, gone-gone, function-stable, constructorPart-stable}
 
 -- ---- keys
 

@@ -1,12 +1,12 @@
 -- Texts: that they are byte strings, and how long they are. For texts that are written out, that are made of others, and for names that are made.
 -- Assumes nothing.
-use mathlib.Core.Path.{_≡_, refl, ap, sym, _∙_}
+use mathlib.Core.Path.{_≡_, refl, ap}
 use mathlib.Core.List.{List, [], _∷_, _++_}
 use mathlib.Core.Bool.{Bool, true, false, cond, _&&_}
 use Prim.Native.Nat.{ℕ, zero, suc, _+_, _/_, _%_, _≤_, _<_}
 use native.Mathlib.Omega.{arith}
 use lib.Dec.{eqb, ltb}
-use lib.ListN.{length, drop, length-append, length-drop}
+use lib.ListN.{length, drop, length-append}
 use borrow.Author.Tests.{ltb-true}
 use Rattle.definition.specs.Tree.{le4, Bytes}
 use Rattle.definition.specs.Record.{text, sameText}

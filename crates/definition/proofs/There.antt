@@ -7,52 +7,10 @@ use Prim.Native.Nat.{ℕ}
 use lib.Dec.{eqb}
 use Rattle.definition.specs.Tree.{Head, Rec, Recs, rec, nil, cons}
 use Rattle.definition.specs.Grammar.{mark, marks, member}
-use Rattle.definition.specs.Record.{text, sameText, headOf, kidsOf, markOf, textOf, is, isNo, contextOf, symbolOf, fresh, absent, kid, given, present, Out, pure, ifM}
+use Rattle.definition.specs.Record.{text, sameText, headOf, kidsOf, markOf, textOf, is, isNo, contextOf, symbolOf, fresh, absent, kid, given, present, pure, ifM}
 use Rattle.definition.specs.Helpers.{tsKeywordType, tsLitType, noExprs, firstCooked, tplToTsType, objectFreezeCallArg, Lit, lStr, lBool, lNull, lNum, lBigInt, lRegex, lJsxText, litKind, maybeLitToTsType}
 use Rattle.definition.specs.Prescan.{PrescannedModuleIds}
-use Rattle.definition.specs.Typing.{
-  Frozen,
-  fTypeLit,
-  fArray,
-  fSame,
-  fOther,
-  frozenKind,
-  plainMembers,
-  readonlyMembers,
-  readonlyOfBy,
-  readonlyOf,
-  minusBy,
-  tupleOf,
-  fnType,
-  Expr,
-  xArray,
-  xObject,
-  xLit,
-  xConst,
-  xSatisfies,
-  xAs,
-  xFn,
-  xArrow,
-  xTpl,
-  xIdent,
-  xUnary,
-  xCall,
-  xNew,
-  xOther,
-  exprKind,
-  Below,
-  globalType,
-  identToTsType,
-  newType,
-  frozen,
-  exprBy,
-  exprToTsType,
-  typeFirst,
-  typeSecond,
-  fnSecond,
-  fnFirst,
-  functionType,
-}
+use Rattle.definition.specs.Typing.{Frozen, fTypeLit, fArray, fSame, fOther, frozenKind, plainMembers, readonlyMembers, readonlyOfBy, readonlyOf, minusBy, tupleOf, Expr, xArray, xObject, xLit, xConst, xSatisfies, xAs, xFn, xArrow, xTpl, xIdent, xUnary, xCall, xNew, xOther, exprKind, Below, globalType, identToTsType, newType, frozen, exprBy, exprToTsType, typeFirst, typeSecond, fnSecond, fnFirst, functionType}
 use Rattle.definition.proofs.Stable.{Typed}
 
 -- a type, if there is one, is not absent

@@ -1,9 +1,9 @@
 -- Every output of an accepted tree has fields, counts and texts that fit a record, but for reading 20: a text is too long only if a Kv of the tree
 -- has a Ki of more than 65,531 bytes. Assumes nothing.
 use mathlib.Core.Path.{_≡_, refl, ap}
-use mathlib.Core.List.{List, []}
+use mathlib.Core.List.{List}
 use mathlib.Core.Bool.{Bool, true, false, _&&_}
-use Prim.Native.Nat.{ℕ, zero, suc, _+_, _≤_, _<_}
+use Prim.Native.Nat.{ℕ, _≤_, _<_}
 use native.Mathlib.Omega.{arith}
 use lib.Dec.{ltb}
 use lib.ListN.{length}
@@ -14,8 +14,8 @@ use Rattle.definition.specs.Check.{fine, longestTree, deepest, checkTree
 use Rattle.definition.specs.Record.{textOf, kidsOf, kid}
 use Rattle.definition.specs.Prescan.{PrescannedModuleIds, prescanModuleIds}
 use Rattle.definition.specs.Typing.{exprToTsType}
-use Rattle.definition.specs.Transform.{transformBy, transform, textsFit, allTextsFit}
-use Rattle.definition.specs.Widths.{KeysUpTo, AllKeysUpTo}
+use Rattle.definition.specs.Transform.{transform, textsFit, allTextsFit}
+use Rattle.definition.specs.Widths.{KeysUpTo}
 use Rattle.definition.proofs.Accepted.{accepted-tree}
 use Rattle.definition.proofs.Converse.{read-accepted}
 use Rattle.definition.proofs.There.{nothing-typed}
