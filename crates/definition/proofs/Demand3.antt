@@ -37,7 +37,7 @@ module _ (t : Rec) (list : List ℕ) (ctx : ℕ) (s : List ℕ) (e : ℕ) (made 
 -- ---- demand 3
 
 -- a call on a tree with the buffers out and diags, and a second one with the buffers out′ and diags′, of any contents
-pub record Twice (tree list : List ℕ) (ctx : ℕ) (out diags : List ℕ) (n k : ℕ) (out′ diags′ : List ℕ) : Type 0 where
+pub record SecondCall (tree list : List ℕ) (ctx : ℕ) (out diags : List ℕ) (n k : ℕ) (out′ diags′ : List ℕ) : Type 0 where
   -- the tree is a byte string, as it always is in the code
   pub bytes : Bytes tree
   -- the first call succeeds, with n bytes and k diagnostics
@@ -53,7 +53,7 @@ pub record Twice (tree list : List ℕ) (ctx : ℕ) (out diags : List ℕ) (n k 
 
 -- "The second call reads exactly the bytes that the first wrote, and what it writes has the same length and the same bytes. Its diagnostics may
 -- differ."
-pub demand3 : (tree list : List ℕ) (ctx : ℕ) (out diags : List ℕ) (n k : ℕ) (out′ diags′ : List ℕ) → Twice tree list ctx out diags n k out′ diags′ →
+pub demand3 : (tree list : List ℕ) (ctx : ℕ) (out diags : List ℕ) (n k : ℕ) (out′ diags′ : List ℕ) → SecondCall tree list ctx out diags n k out′ diags′ →
     let first : List ℕ = writtenBy tree list ctx out diags n in
     (k′ : ℕ) × (call first list ctx out′ diags′ .answer ≡ done n k′) × (writtenBy first list ctx out′ diags′ n ≡ first)
 demand3 tree list ctx out diags n k out′ diags′ h =

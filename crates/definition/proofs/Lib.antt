@@ -19,3 +19,4 @@ pub mod FitClasses
 pub mod FitItems
 pub mod Widths
 pub mod Demand3
+pub mod Demand3Sample
