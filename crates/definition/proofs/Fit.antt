@@ -22,6 +22,7 @@ use Rattle.definition.proofs.Texts.{bytes-none, bytes-append, bytes-dro
 
 -- ---- the names that a tree can ask for
 
+-- whether a record with the mark m can: an Xe for its const, an Ag for its parameter
 abbrev pub weight : ℕ → ℕ
 weight m = cond (eqb m (mark "Xe") || eqb m (mark "Ag")) 1 0
 
@@ -51,6 +52,7 @@ Room n w = n + w + 10 < 65536
 
 -- ---- what fits
 
+-- the fields of a record over n children
 pub record Sound (x : ℕ) (h : Head) (n : ℕ) : Type 0 where
   pub mark : h .mark < 65536
   pub flags : h .flags < 256
@@ -60,6 +62,7 @@ pub record Sound (x : ℕ) (h : Head) (n : ℕ) : Type 0 where
   pub bytes : Bytes (h .text)
   pub count : n < 65536
 
+-- and of all that it holds
 abbrev mutual
   pub Fit : ℕ → Rec → Type 0
   Fit x (rec h ks) = Sound x h (count ks) × FitAll x ks
@@ -243,7 +246,7 @@ module _ (x : ℕ) where
   pub all-few : (ks : Recs) → FitAll x ks → Few x (count ks) ks
   all-few ks g = (g, omega arith)
 
-  -- the parts of a record that is no constructor yet
+  -- the parts of a record that has not been taken apart
   pub head-sound : (r : Rec) → Fit x r → Sound x (headOf r) (count (kidsOf r))
   head-sound (rec h ks) g = g .0
 
@@ -287,8 +290,10 @@ module _ (x : ℕ) where
       record { value = ((a .value, b .value .0), omega (arith, b .value .1)); counter = omega (arith, a .counter, b .counter) }
 
   -- at most one record for each
-  pub flat-makes : (f : Rec → ℕ → Out Recs) →
-      ((r : Rec) (n : ℕ) → Fit x r → Keys x r → Room n (names r) → Makes (Few x 1) n (names r) (f r n)) → (ks : Recs) (n : ℕ) → FitAll x ks → AllKeys x ks → Room n (allNames ks) →
+  abbrev pub Step1 : (Rec → ℕ → Out Recs) → Type 0
+  Step1 f = (r : Rec) (n : ℕ) → Fit x r → Keys x r → Room n (names r) → Makes (Few x 1) n (names r) (f r n)
+
+  pub flat-makes : (f : Rec → ℕ → Out Recs) → Step1 f → (ks : Recs) (n : ℕ) → FitAll x ks → AllKeys x ks → Room n (allNames ks) →
       Makes (Few x (count ks)) n (allNames ks) (flat f ks n)
   unfolding flat
   flat-makes f st nil n g q l = none-made 0 n 0

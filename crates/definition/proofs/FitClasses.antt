@@ -44,7 +44,7 @@ use Rattle.definition.specs.Classes.{
   class,
 }
 use Rattle.definition.proofs.Texts.{bytes-none}
-use Rattle.definition.proofs.Fit.{one-made, none-made, given-cond, kids-fit, names, allNames, kid-names, Keys, AllKeys, kid-keys, Room, Sound, Fit, FitAll, Few, Given, Makes, reflag, flagged-fits, any-fits, kid-fits, setKid-fits, gone-fits, rehead, ranged-sound, pure-makes, more, onValue-makes, ifM-makes, orAny-makes, Step, each-makes, flat-makes, atKid-makes, wrap-makes}
+use Rattle.definition.proofs.Fit.{one-made, none-made, given-cond, kids-fit, names, allNames, kid-names, Keys, AllKeys, kid-keys, Room, Sound, Fit, FitAll, Few, Given, Makes, reflag, flagged-fits, any-fits, kid-fits, setKid-fits, gone-fits, rehead, ranged-sound, pure-makes, more, onValue-makes, ifM-makes, orAny-makes, Step, Step1, each-makes, flat-makes, atKid-makes, wrap-makes}
 
 -- a typing whose types fit, and which asks for no more names than there are Xe and Ag
 abbrev pub TypesFit : ℕ → Typing → Type 0
@@ -170,19 +170,15 @@ module _ (x : ℕ) (ty : Typing) (fit : TypesFit x ty) where
 
   -- ---- members
 
-  -- a step that makes one record at most
-  abbrev Few1 : (Rec → ℕ → Out Recs) → Type 0
-  Few1 f = (r : Rec) (n : ℕ) → Fit x r → Keys x r → Room n (names r) → Makes (Few x 1) n (names r) (f r n)
-
   -- a record with other children, not more
   remade : (h : Head) (m : ℕ) (ks : Recs) → Sound x h m → Few x m ks → Few x 1 (one (rec h ks))
   remade h m ks g k = one-made x (rec h ks) (rehead x h m ks g k)
 
-  constructor-makes : Few1 (constructor ty)
+  constructor-makes : Step1 x (constructor ty)
   unfolding constructor
   constructor-makes r n g q l = onValue-makes one (λ r g. one-made x r g) (eachIn-makes (constructorPart ty) constructorPart-makes r n g q l)
 
-  method-makes : (o : Option Rec) → Given (Fit x) o → Few1 (λ r. method ty r o)
+  method-makes : (o : Option Rec) → Given (Fit x) o → Step1 x (λ r. method ty r o)
   unfolding method
   method-makes none k r n g q l = none-made x 1 n _
   method-makes (some key) k (rec h ks) n g q l =
@@ -196,7 +192,7 @@ module _ (x : ℕ) (ty : Typing) (fit : TypesFit x ty) where
       ifM-makes (isNo value) (pure t) (typeOr (λ n. orAny (ty value false false n) []) t) (pure-makes k)
       (typeOr-makes x (λ n. orAny (ty value false false n) []) t n _ k (orAny-makes x (ty value false false n) [] (fit value false false n g q l)))
 
-  prop-makes : (o : Option Rec) → Given (Fit x) o → Few1 (λ r. classProp ty r o)
+  prop-makes : (o : Option Rec) → Given (Fit x) o → Step1 x (λ r. classProp ty r o)
   unfolding classProp
   prop-makes none k r n g q l = none-made x 1 n _
   prop-makes (some key) k (rec h ks) n g q l =
@@ -210,7 +206,7 @@ module _ (x : ℕ) (ty : Typing) (fit : TypesFit x ty) where
       (atKid-makes x 1 (propType ty value) ks n _ (g .1) (more (propType-makes value (kid 1 ks) n v (kid-keys x 2 ks (q .1)) (kid-fits x 1 ks (g .1)) (omega arith)) (omega arith)))
 
   module _ (list : List ℕ) (ctx : ℕ) where
-    memberBy-makes : (k : Member) → Few1 (memberBy list ctx ty k)
+    memberBy-makes : (k : Member) → Step1 x (memberBy list ctx ty k)
     unfolding memberBy
     memberBy-makes mConstructor r n g q l = ifM-makes (listed list (headOf r)) (pure nil) (constructor ty r) (none-made x 1 n _) (constructor-makes r n g q l)
     memberBy-makes mMethod r n g q l =

@@ -14,10 +14,12 @@ use Rattle.definition.specs.Check.{fine, longestTree, deepest, checkTree
 use Rattle.definition.specs.Record.{textOf, kidsOf, kid}
 use Rattle.definition.specs.Prescan.{PrescannedModuleIds, prescanModuleIds}
 use Rattle.definition.specs.Typing.{exprToTsType}
-use Rattle.definition.specs.Transform.{transform, textsFit, allTextsFit}
+use Rattle.definition.specs.Transform.{transform, done, textsFit, allTextsFit, call}
+use Rattle.definition.specs.Demand3.{LongEnough}
 use Rattle.definition.specs.Widths.{KeysUpTo}
 use Rattle.definition.proofs.Accepted.{accepted-tree}
 use Rattle.definition.proofs.Converse.{read-accepted}
+use Rattle.definition.proofs.Calls.{succeeds}
 use Rattle.definition.proofs.There.{nothing-typed}
 use Rattle.definition.proofs.Fit.{Sound, Fit, FitAll, Keys, AllKeys}
 use Rattle.definition.proofs.FitTyping.{expr-makes}
@@ -126,3 +128,8 @@ module _ (tree list : List ℕ) (ctx e : ℕ) (bytes : Bytes tree) (accepted : c
   -- and its texts fit, but for reading 20
   pub output-fits-but : KeysUpTo 65531 (treeAt deepest tree 0) → Fits made
   output-fits-but q = fit-fits made (transform-fits 0 list ctx (treeAt deepest tree 0) (fits-fit (treeAt deepest tree 0) 0 fits-read) q short)
+
+  -- so a call on such a tree succeeds once its buffers are long enough
+  pub call-succeeds : KeysUpTo 65531 (treeAt deepest tree 0) → (out diags : List ℕ) → LongEnough tree list ctx out diags →
+      call tree list ctx out diags .answer ≡ done (length (encode made)) (length (transform list ctx (treeAt deepest tree 0) .1))
+  call-succeeds q out diags room = succeeds tree list ctx out diags e accepted (fits-texts made (output-fits-but q)) room
