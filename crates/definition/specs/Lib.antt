@@ -11,3 +11,5 @@ pub mod Classes
 pub mod Enums
 pub mod Items
 pub mod Transform
+pub mod Demand3
+pub mod Widths

@@ -1,9 +1,11 @@
-//! Trees and lists at their limits.
+//! Cases that are not left to chance: trees and lists at their limits, and every
+//! node of swc that shares a mark with others.
 
 use super::Case;
 use super::Rng;
 use super::entry;
 use crate::grammar::MAX_TREE;
+use crate::notation::parse;
 use crate::record::HEAD;
 use crate::record::Rec;
 use crate::record::rec;
@@ -95,7 +97,38 @@ pub fn long_key(length: usize) -> Rec {
   rec("Mo", vec![rec("Xe", vec![object])])
 }
 
-/// The cases at the limits.
+/// Small trees with the marks that stand for several of swc's nodes, where the
+/// flags choose the node (see decode.rs), in each place that asks for its kind.
+fn variants() -> Vec<Rec> {
+  let places: [(usize, &str); 11] = [
+    (6, "Mo(Im+F)"),
+    (18, "Mo(St+F)"),
+    (5, "Mo(Xd(Cx(No Cl(No Dm+F))))"),
+    (4, "Mo(Xe(Ob(Pq+F@1-2)))"),
+    (3, "Mo(Xe(Ca(Oe+F Nl)))"),
+    (20, "Mo(Xe(Ar(Oe+F@1-2)))"),
+    (20, "Mo(En(Id#2\"e\" Em(Op Oe+F)))"),
+    (20, "Mo(Xd(Cx(No Cl(No Cp(Kc(Oe+F) No No)))))"),
+    (
+      12,
+      "Mo(En(Id#2\"e\" Em(Op As(Nl Ot+F)) Em(Op Ta(Nl Ot+F))))",
+    ),
+    (
+      12,
+      "Mo(Xe(Ca(Mb(Id#1\"Object\" Ki\"freeze\") As(Nl Ot+F))))",
+    ),
+    (
+      12,
+      "Mo(Vd+2(Vr(Bd(Id#2\"a\" Ot+F) No)) Xe(Ar(Sp@1-2(Id#2\"a\"))))",
+    ),
+  ];
+  let trees = places.iter().flat_map(|(kinds, tree)| {
+    (0..*kinds).map(move |kind| tree.replace("+F", &format!("+{kind}")))
+  });
+  trees.map(|tree| parse(&tree).unwrap()).collect()
+}
+
+/// The cases at the limits, and the variants.
 pub fn limits() -> Vec<Case> {
   let mut rng = Rng::new(1);
   let mut cases = vec![];
@@ -108,6 +141,9 @@ pub fn limits() -> Vec<Case> {
       diagnostics: MAX_TREE,
     })
   };
+  for tree in variants() {
+    add(tree.encode().unwrap(), vec![]);
+  }
   for depth in [63, 64, 65, 66] {
     for _ in 0..60 {
       let tree = deep(&mut rng, depth).encode().unwrap();
