@@ -89,7 +89,7 @@ fn wide() -> Rec {
 }
 
 /// A tree whose key makes an identifier of one byte more than `Id` can hold,
-/// or just not (document 01's widths; see DIFFERENCES-draft.md).
+/// or just not (document 01's widths; see docs/DIFFERENCES.md).
 pub fn long_key(length: usize) -> Rec {
   let key = rec("Ki", vec![]).with_text(&vec![b'k'; length]);
   let value = rec("Nl", vec![]);
