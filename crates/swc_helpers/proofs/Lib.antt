@@ -3,4 +3,4 @@ mod Sign
 mod Texts
 mod Calls
 mod Templates
-mod Maybe
+pub mod Maybe

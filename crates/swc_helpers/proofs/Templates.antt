@@ -1,14 +1,14 @@
 -- The parts of a template in an accepted tree: whether it has expressions, and its first quasi. Assumes nothing.
 use mathlib.Core.Path.{_≡_, refl, sym, _∙_, ap}
-use mathlib.Core.List.{List, []}
-use mathlib.Core.Bool.{Bool, true, false, cond, _&&_, _||_}
+use mathlib.Core.List.{List}
+use mathlib.Core.Bool.{Bool, true, false, cond, _&&_}
 use mathlib.Core.Logic.{_⊎_, inl, inr, ⊎-elim}
 use Prim.Native.Nat.{ℕ, _-_, _%_, _<_, _≤_}
 use native.Mathlib.Decide.{decLt}
 use native.Mathlib.Omega.{arith}
 use lib.Dec.{eqb}
-use borrow.Author.Tests.{eq-eqb, ne-eqb}
-use Rattle.definition.specs.Tree.{Rec, Recs, rec, nil, markAt, flagsAt, countAt, textAt, bodyAt, readAll, endAt, treeAt, encode, headBytes}
+use borrow.Author.Tests.{ne-eqb}
+use Rattle.definition.specs.Tree.{Rec, Recs, rec, nil, markAt, countAt, textAt, bodyAt, readAll, endAt, treeAt, encode}
 use Rattle.definition.specs.Grammar.{mark}
 use Rattle.definition.specs.Children.{AcceptedAt, AllAccepted, childAt}
 use Rattle.definition.specs.Record.{headOf, kidsOf, textOf, is, has1, kid, fresh}
