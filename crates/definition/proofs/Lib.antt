@@ -4,4 +4,5 @@ pub mod Accepted
 pub mod Converse
 pub mod Children
 pub mod Kids
+pub mod Counting
 pub mod Samples
