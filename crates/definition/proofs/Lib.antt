@@ -5,4 +5,5 @@ pub mod Converse
 pub mod Children
 pub mod Kids
 pub mod Counting
+pub mod CountingItems
 pub mod Samples
