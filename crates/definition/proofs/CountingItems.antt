@@ -1,7 +1,7 @@
 -- What the transform of a module costs, counted in records: "There are never more diagnostics than records read". Assumes nothing.
 use mathlib.Core.Path.{_≡_, refl, ap}
 use mathlib.Core.List.{List, [], _∷_}
-use mathlib.Core.Bool.{Bool, true, false, cond, _&&_, _||_}
+use mathlib.Core.Bool.{Bool, true, false, _&&_, _||_}
 use mathlib.Core.Option.{Option, none, some}
 use Prim.Native.Nat.{ℕ, zero, suc, _*_, _≤_, _<_}
 use native.Mathlib.Omega.{arith}
@@ -99,7 +99,7 @@ use Rattle.definition.specs.Items.{
   nestedSecond,
   nestedFirst,
 }
-use Rattle.definition.specs.Transform.{transformBy, transform, Answer, done, refused, textsFit, written, callBy, call}
+use Rattle.definition.specs.Transform.{transformBy, transform, done, refused, textsFit, written, callBy, call}
 use Rattle.definition.specs.Counting.{records, allRecords, below, Within}
 use Rattle.definition.proofs.Converse.{read-accepted}
 use Rattle.definition.proofs.Counting.{records-below, records-bytes, within-pure, within-value, within-wider, within-if, within-more, within-cons, within-own, within-first, within-others, within-orAny, exprToTsType-within}

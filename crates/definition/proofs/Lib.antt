@@ -6,4 +6,5 @@ pub mod Children
 pub mod Kids
 pub mod Counting
 pub mod CountingItems
+pub mod Silence
 pub mod Samples

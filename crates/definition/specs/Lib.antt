@@ -12,3 +12,4 @@ pub mod Classes
 pub mod Enums
 pub mod Items
 pub mod Transform
+pub mod Silence
