@@ -7,4 +7,5 @@ pub mod Kids
 pub mod Counting
 pub mod CountingItems
 pub mod Silence
+pub mod SilenceModule
 pub mod Samples

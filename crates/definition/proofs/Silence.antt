@@ -69,6 +69,14 @@ piece-of {xs} {ys} {zs} p q =
     let f : ys ≡ p .before ++ (xs ++ p .after) = p .whole in
     record { before = q .before ++ p .before; after = p .after ++ q .after; whole = rw (e, f) (simp append-assoc) }
 
+-- what was told on the way to a type, or to any
+pub orAny-piece : (o : Out (Option Rec)) (ds : List Diag) → Piece (o .1) (orAny o ds .1)
+orAny-piece o ds = go (o .0) (o .1) (o .2)
+  where
+    go : (x : Option Rec) (l : List Diag) (m : ℕ) → Piece l (orAny (x, l, m) ds .1)
+    go none l m = piece-left ds (piece-whole l)
+    go (some t) l m = piece-whole l
+
 -- a mark that is none of the others
 only-other : (m : ℕ) → member m (marks "Kv Sh Pq Sp Op") ≡ true → eqb m (mark "Kv") ≡ false → eqb m (mark "Sh") ≡ false → eqb m (mark "Sp") ≡ false →
     eqb m (mark "Op") ≡ false → m ≡ mark "Pq"
@@ -166,13 +174,6 @@ module _ (ids : PrescannedModuleIds) (ctx : ℕ) where
 
   pub heard-more : {o : Rec} {c r : Bool} {ds es : List Diag} → Heard o c r ds → Piece ds es → Heard o c r es
   heard-more h p = record { counter = h .counter; piece = piece-of (h .piece) p }
-
-  orAny-piece : (o : Out (Option Rec)) (ds : List Diag) → Piece (o .1) (orAny o ds .1)
-  orAny-piece o ds = go (o .0) (o .1) (o .2)
-    where
-      go : (x : Option Rec) (l : List Diag) (m : ℕ) → Piece l (orAny (x, l, m) ds .1)
-      go none l m = piece-left ds (piece-whole l)
-      go (some t) l m = piece-whole l
 
   -- an element, what a Sp spreads, and the elements after
   spread-first : (h : Head) (o : Out (Option Rec)) (rest : ℕ → Out (Option Recs)) →

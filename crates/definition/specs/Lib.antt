@@ -13,3 +13,4 @@ pub mod Enums
 pub mod Items
 pub mod Transform
 pub mod Silence
+pub mod Typed
