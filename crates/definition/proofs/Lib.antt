@@ -8,4 +8,8 @@ pub mod Counting
 pub mod CountingItems
 pub mod Silence
 pub mod SilenceModule
+pub mod Handbook
+pub mod HandbookDeclarations
+pub mod HandbookOverloads
+pub mod HandbookEnums
 pub mod Samples

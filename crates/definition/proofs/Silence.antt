@@ -266,7 +266,7 @@ module _ (ids : PrescannedModuleIds) (ctx : ℕ) where
   unfolding exprToTsType exprBy exprKind marks member
   object-piece h ks c r n e = rw e
 
-  const-is : (h : Head) (v : Rec) (ks : Recs) (c r : Bool) (n : ℕ) → h .mark ≡ mark "Tc" → exprToTsType ids ctx (rec h (cons v ks)) c r n ≡ exprToTsType ids ctx v true true n
+  pub const-is : (h : Head) (v : Rec) (ks : Recs) (c r : Bool) (n : ℕ) → h .mark ≡ mark "Tc" → exprToTsType ids ctx (rec h (cons v ks)) c r n ≡ exprToTsType ids ctx v true true n
   unfolding exprToTsType exprBy exprKind marks member
   const-is h v ks c r n e = rw e
 

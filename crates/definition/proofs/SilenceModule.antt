@@ -70,7 +70,7 @@ use Rattle.definition.specs.Typed.{InPattern, InParam, InFunction, InMem
 use Rattle.definition.proofs.Silence.{piece-whole, piece-left, piece-right, piece-of, orAny-piece, told-more, no-silence}
 
 -- one of two marks
-either : (m a b : ℕ) → member m (a ∷ b ∷ []) ≡ true → (m ≡ a) ⊎ (m ≡ b)
+pub either : (m a b : ℕ) → member m (a ∷ b ∷ []) ≡ true → (m ≡ a) ⊎ (m ≡ b)
 unfolding member
 either m a b e = go (eqb m a) (eqb m b) refl refl
   where
@@ -87,11 +87,11 @@ param-test : (m : ℕ) → among "Pa Pp" m ≡ true → (eqb m (mark "Pa") || eq
 unfolding marks
 param-test m e = ⊎-elim (λ q. rw q) (λ q. rw q) (either m (mark "Pa") (mark "Pp") e)
 
-member-co : (m : ℕ) → m ≡ mark "Co" → memberKind m ≡ mConstructor
+pub member-co : (m : ℕ) → m ≡ mark "Co" → memberKind m ≡ mConstructor
 unfolding memberKind
 member-co m e = rw e
 
-member-me : (m : ℕ) → m ≡ mark "Me" → memberKind m ≡ mMethod
+pub member-me : (m : ℕ) → m ≡ mark "Me" → memberKind m ≡ mMethod
 unfolding memberKind
 member-me m e = rw e
 
@@ -99,7 +99,7 @@ member-cp : (m : ℕ) → m ≡ mark "Cp" → memberKind m ≡ mProp
 unfolding memberKind
 member-cp m e = rw e
 
-item-ed : (m : ℕ) → m ≡ mark "Ed" → itemKind m ≡ iExport
+pub item-ed : (m : ℕ) → m ≡ mark "Ed" → itemKind m ≡ iExport
 unfolding itemKind
 item-ed m e = rw e
 

@@ -14,3 +14,4 @@ pub mod Items
 pub mod Transform
 pub mod Silence
 pub mod Typed
+pub mod Handbook
