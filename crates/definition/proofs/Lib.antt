@@ -12,4 +12,5 @@ pub mod Handbook
 pub mod HandbookDeclarations
 pub mod HandbookOverloads
 pub mod HandbookEnums
+pub mod Differences
 pub mod Samples
