@@ -152,6 +152,11 @@ angle-brackets : (becomes (const 2 "a" absent (node "Ta" (two number (keyword "n
 unfolding becomes handbook
 angle-brackets = (refl, refl)
 
+-- `const a = undefined;` is any, with d2
+undefined-constant : becomes (const 2 "a" absent (leaf "Id" (le4 1 ++ text "undefined"))) ≡ (const 3 "a" (keyword "any") absent, told "d2" ∷ [])
+unfolding becomes
+undefined-constant = refl
+
 -- `const a = { b() {} };` has no b, with d3
 method-left-out : becomes (const 2 "a" absent (node "Ob" (one (node "Pq" nil)))) ≡ (const 3 "a" (node "Li" nil) absent, told "d3" ∷ [])
 unfolding becomes

@@ -114,7 +114,7 @@ mark-of m k e n = ⊎-elim (λ q. absurd (n (sym e ∙ q))) (λ q. q ∙ ap code
 
 -- ---- options
 
-no-some : {A : Type 0} {a : A} {B : Type 0} → _≡_ {A = Option A} none (some a) → B
+pub no-some : {A : Type 0} {a : A} {B : Type 0} → _≡_ {A = Option A} none (some a) → B
 no-some e = absurd (let z : _≡_ {A = ℕ} 0 1 = cc in omega arith)
 
 -- a value that was given
@@ -186,7 +186,7 @@ minus-widened l t e = go (is "Nu" l) (is "Bi" l) refl refl
 
 -- ---- templates
 
-and-true : (a b : Bool) → (a && b) ≡ true → (a ≡ true) × (b ≡ true)
+pub and-true : (a b : Bool) → (a && b) ≡ true → (a ≡ true) × (b ≡ true)
 and-true true b e = (refl, e)
 and-true false b e = absurd (let z : _≡_ {A = ℕ} 0 1 = cc in omega arith)
 

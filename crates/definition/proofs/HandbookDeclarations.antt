@@ -2,10 +2,9 @@
 use mathlib.Core.Path.{_≡_, refl, sym, ap, _∙_, subst}
 use mathlib.Core.List.{List, []}
 use mathlib.Core.Bool.{Bool, true, false, _||_}
-use mathlib.Core.Option.{Option, none, some}
+use mathlib.Core.Option.{Option, some}
 use mathlib.Core.Logic.{⊎-elim}
 use Prim.Native.Nat.{ℕ}
-use native.Mathlib.Omega.{arith}
 use lib.Dec.{eqb}
 use borrow.Author.Tests.{eqb-true, eq-eqb}
 use Rattle.definition.specs.Tree.{Head, Rec, Recs, rec, nil, cons}
@@ -16,13 +15,11 @@ use Rattle.definition.specs.Prescan.{PrescannedModuleIds}
 use Rattle.definition.specs.Typing.{xAs, xArrow, exprKind, exprBy, exprToTsType, arrowParams, fnType}
 use Rattle.definition.specs.Classes.{pIdent, pBox, patternKind, handleFuncParamIdent, handleFuncParamAssign, handlePatternBy, handlePattern, handleFuncParam, functionPart, handleFunction, propType, classProp}
 use Rattle.definition.specs.Items.{iDecl, itemKind, dType, declKind, declaratorPattern, declarator, transformModuleStmt, itemBy, transformModuleItem}
+use Rattle.definition.proofs.Handbook.{no-some}
 use Rattle.definition.proofs.SilenceModule.{either}
 use Rattle.definition.specs.Handbook.{Annotated, aFirst, aSecond, aPattern, annotatedKind, annotationBy, annotation, annotationFirst}
 
 -- ---- written types stay as written
-
-no-some : {A : Type 0} {a : A} {B : Type 0} → _≡_ {A = Option A} none (some a) → B
-no-some e = absurd (let z : _≡_ {A = ℕ} 0 1 = cc in omega arith)
 
 -- a part that is there
 there : (r t : Rec) → present r ≡ some t → (r ≡ t) × (isNo r ≡ false)

@@ -11,6 +11,7 @@ use Rattle.definition.specs.Grammar.{mark, marks, member}
 use Rattle.definition.specs.Record.{one, Typing, onValue}
 use Rattle.definition.specs.Enums.{initKind, validBy, validEnumInitExpr, validFirst, validBoth, validAll}
 use Rattle.definition.specs.Items.{iDecl, itemKind, dModule, declKind, bBlock, bNested, bodyKind, declared, declToTypeDecl, transformModuleStmt, itemBy, bodyBy, transformModuleItems, transformModuleItem}
+use Rattle.definition.proofs.Handbook.{and-true}
 use Rattle.definition.specs.Handbook.{
   enumKind,
   constantBy,
@@ -30,10 +31,6 @@ use Rattle.definition.specs.Handbook.{
 
 never : {A : Type 0} → _≡_ {A = Bool} false true → A
 never z = absurd (let y : _≡_ {A = ℕ} 0 1 = cc in omega arith)
-
-and-true : (a b : Bool) → (a && b) ≡ true → (a ≡ true) × (b ≡ true)
-and-true true b e = (refl, e)
-and-true false b e = never e
 
 -- by the mark that a number is, or is not
 by-mark : {G : Type 0} (m x : ℕ) → (m ≡ x → G) → (eqb m x ≡ false → G) → G

@@ -27,14 +27,11 @@ use Rattle.definition.specs.Items.{
   transformModuleItems,
   transformModuleItem,
 }
+use Rattle.definition.proofs.Handbook.{and-true}
 use Rattle.definition.proofs.SilenceModule.{member-co, member-me, item-ed}
 use Rattle.definition.specs.Handbook.{functionIn, bodyOf, sameName, implements, implementsMethod, implementsConstructor, implementsMember, visible, Names}
 
 -- ---- tests
-
-and-true : (a b : Bool) → (a && b) ≡ true → (a ≡ true) × (b ≡ true)
-and-true true b e = (refl, e)
-and-true false b e = absurd (let z : _≡_ {A = ℕ} 0 1 = cc in omega arith)
 
 or-true : {A : Type 0} (a b : Bool) → (a ≡ true → A) → (b ≡ true → A) → (a || b) ≡ true → A
 or-true true b f g e = f refl

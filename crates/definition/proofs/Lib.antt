@@ -7,6 +7,7 @@ pub mod Kids
 pub mod Counting
 pub mod CountingItems
 pub mod Silence
+pub mod Properties
 pub mod SilenceModule
 pub mod Handbook
 pub mod HandbookDeclarations
