@@ -37,7 +37,7 @@ two a b = cons a (one b)
 abbrev three : Rec → Rec → Rec → Recs
 three a b c = cons a (two b c)
 
--- names, opaque parts, the number 1, keywords
+-- names, opaque parts, the numbers 1 and 2, keywords
 abbrev id : String → Rec
 id s = leaf "Id" (le4 2 ++ text s)
 
@@ -49,6 +49,9 @@ op s = leaf "Op" (text s)
 
 abbrev number : Rec
 number = leaf "Nu" (0 ∷ 0 ∷ 0 ∷ 0 ∷ 0 ∷ 0 ∷ 240 ∷ 63 ∷ [])
+
+abbrev number-2 : Rec
+number-2 = leaf "Nu" (0 ∷ 0 ∷ 0 ∷ 0 ∷ 0 ∷ 0 ∷ 0 ∷ 64 ∷ [])
 
 abbrev keyword : String → Rec
 keyword s = leaf "Kw" (text s)
@@ -120,8 +123,8 @@ tuple = node "Tu" (two (node "Tm" (two absent (keyword "number"))) (node "Tm" (t
 abbrev in-class : ℕ → Rec → Rec → Rec
 in-class f t e = module-of (flags f (node "Cd" (two (id "A") (node "Cl" (two absent (node "Cp" (three (leaf "Ki" (text "a")) t e)))))))
 
-array-literal : (becomes (const 2 "a" absent (node "Ar" (two number number))) ≡ (const 3 "a" (node "Ro" (one tuple)) absent, []))
-    × (becomes (in-class 0 absent (node "Ar" (two number number))) ≡ (in-class 1 tuple absent, []))
+array-literal : (becomes (const 2 "a" absent (node "Ar" (two number number-2))) ≡ (const 3 "a" (node "Ro" (one tuple)) absent, []))
+    × (becomes (in-class 0 absent (node "Ar" (two number number-2))) ≡ (in-class 1 tuple absent, []))
     × (isArray (node "Ro" (one tuple)) ≡ false)
     × (isArray tuple ≡ false)
 unfolding becomes handbook

@@ -9,11 +9,11 @@ use native.Mathlib.Omega.{arith}
 use lib.Dec.{eqb}
 use borrow.Author.Tests.{eqb-true, ne-eqb}
 use mathlib.Core.Logic.{_⊎_, inl, inr, ⊎-elim}
-use Rattle.definition.specs.Tree.{Head, Rec, Recs, rec, cons}
+use Rattle.definition.specs.Tree.{Head, Rec, Recs, rec, nil, cons}
 use Rattle.definition.specs.Grammar.{mark, marks, member}
-use Rattle.definition.specs.Record.{headOf, kidsOf, markOf, among, isNo, Diag, diag, listed, Out, Typing, each, flat, second}
+use Rattle.definition.specs.Record.{headOf, kidsOf, markOf, among, isNo, Diag, diag, listed, Out, Typing, each, flat, second, text, fresh, ident, absent, one}
 use Rattle.definition.specs.Prescan.{prescanModuleIds}
-use Rattle.definition.specs.Typing.{exprToTsType}
+use Rattle.definition.specs.Typing.{elementKind, exprToTsType}
 use Rattle.definition.specs.Classes.{
   pBox,
   patternKind,
@@ -65,7 +65,7 @@ use Rattle.definition.specs.Items.{
   transformTsNsBody,
 }
 use Rattle.definition.specs.Transform.{transformBy, transform}
-use Rattle.definition.specs.Silence.{_∈_, here, there, Piece, Told, Meets}
+use Rattle.definition.specs.Silence.{_∈_, here, there, Piece, Given, Told, now, Meets}
 use Rattle.definition.specs.Typed.{InPattern, InParam, InFunction, InMember, InClass, InDecl, InBody, InItem}
 use Rattle.definition.proofs.Silence.{piece-whole, piece-left, piece-right, piece-of, orAny-piece, told-more, no-silence}
 
@@ -334,3 +334,23 @@ no-silence-in-module list ctx h items m i oh ks o w =
     let p = items-piece (exprToTsType (prescanModuleIds items) ctx) list ctx m true 0 in
     let a = in-item (exprToTsType (prescanModuleIds items) ctx) list ctx i true (p .0) in
     told-more (prescanModuleIds items) ctx (no-silence (prescanModuleIds items) ctx oh ks o w (a .counter)) (piece-of (a .piece) (p .1))
+
+-- an example: `const a = [{ ...b }] as const;`, with the spread at 12 to 16, tells of it
+abbrev example-spread : Rec
+example-spread = rec (record { mark = mark "Sp"; flags = 0; start = 12; end = 16; text = [] }) (one (ident (text "b")))
+
+abbrev example-value : Rec
+example-value = rec (fresh "Tc" 0 []) (one (rec (fresh "Ar" 0 []) (one (rec (fresh "Ob" 0 []) (one example-spread)))))
+
+abbrev example-items : Recs
+example-items =
+    one (rec (fresh "Vd" 2 []) (one (rec (fresh "Vr" 0 []) (cons (rec (fresh "Bd" 0 []) (cons (ident (text "a")) (one absent))) (one example-value)))))
+
+example : (list : List ℕ) (ctx : ℕ) (h : Head) → Given (diag "d4" (headOf example-spread)) (transform list ctx (rec h example-items) .1)
+unfolding elementKind
+example list ctx h =
+    no-silence-in-module list ctx h example-items here
+    (InItem.declaration (λ e. absurd (omega arith)) (InDecl.variable (fresh "Vr" 0 []) (fresh "Bd" 0 []) (ident (text "a")) absent nil nil refl here refl refl refl refl))
+    (fresh "Ob" 0 []) (one example-spread) refl
+    (Meets.const refl (Meets.element (rec (fresh "Ob" 0 []) (one example-spread)) refl now refl Meets.itself))
+    .spreads example-spread here refl

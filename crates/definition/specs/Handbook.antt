@@ -23,20 +23,23 @@ keyword s = rec (fresh "Kw" 0 (text s)) nil
 abbrev pub literalType : Rec → Rec
 literalType l = rec (fresh "Tl" 0 []) (one l)
 
--- "Tuple Types", and "readonly Tuple Types", of an array literal with the head h
+-- "Tuple Types", of an array literal with the head h
 abbrev pub tuple : Head → Recs → Rec
 tuple h ts = rec (ranged "Tu" h []) ts
 
+-- an element of a tuple, with no label
 abbrev pub tupleElement : Rec → Rec
 tupleElement t = rec (fresh "Tm" 0 []) (cons (rec (fresh "No" 0 []) nil) (one t))
 
+-- "readonly Tuple Types"
 abbrev pub readonlyTuple : Head → Recs → Rec
 readonlyTuple h ts = rec (fresh "Ro" 0 []) (one (tuple h ts))
 
--- "Object Types", of an object literal with the head h; a property with its key, "readonly Properties" where the flag is set
+-- "Object Types", of an object literal with the head h
 abbrev pub objectType : Head → Recs → Rec
 objectType h ms = rec (ranged "Li" h []) ms
 
+-- a property with its key and its type: one of the "readonly Properties" where the flag is set
 abbrev pub property : Bool → Rec → Rec → Rec
 property readonly key t = rec (fresh "Ps" (cond readonly 1 0) []) (cons key (one t))
 
@@ -58,12 +61,13 @@ unfoldable pub plainTemplate : Recs → Option (List ℕ)
 plainTemplate nil = none
 plainTemplate (cons q ops) = cond ((is "Qu" q && has1 (headOf q)) && onlyOps ops) (some (textOf q)) none
 
--- the bytes of -x for an f64 x, of which the last holds the sign; the sign and the digits of -x for a big integer x, where zero has no sign
+-- the bytes of -x for an f64 x, of which the last holds the sign
 unfoldable pub negatedNumber : List ℕ → Option (List ℕ)
 negatedNumber [] = none
 negatedNumber (a ∷ []) = some ((a + 128) % 256 ∷ [])
 negatedNumber (a ∷ b ∷ bs) = given (negatedNumber (b ∷ bs)) none (λ cs. some (a ∷ cs))
 
+-- the sign and the digits of -x for a big integer x, where zero has no sign
 unfoldable pub negatedInteger : List ℕ → Option (List ℕ)
 negatedInteger [] = none
 negatedInteger (sign ∷ ds) = some (cond (sameText ds (text "0")) 0 (cond (eqb sign 1) 0 1) ∷ ds)
@@ -84,9 +88,11 @@ negatedKeyword l = cond (is "Nu" l) (some (keyword "number")) (cond (is "Bi" l) 
 
 -- ---- expressions of the fragment
 
+-- what an expression is, as far as the fragment goes
 pub data Literal : Type 0 where
   hString hNumber hInteger hBoolean hNull hNegated hTemplate hArray hObject hElse : Literal
 
+-- by its mark
 unfoldable pub literalKind : ℕ → Literal
 literalKind m =
     cond (eqb m (mark "Ss")) hString
@@ -107,7 +113,8 @@ andThen x xs = given x none (λ a. given xs none (λ bs. some (cons a bs)))
 
 -- "const assertions", where the flag is set: "no literal types in that expression should be widened", "array literals become readonly tuples",
 -- "object literals get readonly properties". "Literal Inference", where it is not: for what can be changed the type is widened, and "TypeScript
--- assumes that the properties of that object might change values later"; the type of an array has no record of its own for its elements
+-- assumes that the properties of that object might change values later"; the type of an array has no record of its own for its elements. `null` is
+-- its own type, as `strictNullChecks` has it
 unfoldable pub typeBy : Literal → Bool → Rec → Option Recs → Option Recs → Option Rec
 typeBy hString true e elements members = some (literalType e)
 typeBy hNumber true e elements members = some (literalType e)
@@ -131,6 +138,7 @@ typeBy hObject false e elements members = given members none (λ ms. some (objec
 typeBy hElse false e elements members = none
 
 unfoldable mutual
+  -- the type of an expression of the fragment
   pub literalExpr : Rec → Bool → Option Rec
   literalExpr (rec h ks) c = typeBy (literalKind (h .mark)) c (rec h ks) (elementTypes ks c) (memberTypes ks c)
 
@@ -145,10 +153,12 @@ unfoldable mutual
   memberTypes nil c = some nil
   memberTypes (cons p ps) c = cond (is "Op" p) (memberTypes ps c) (andThen (memberType p c) (memberTypes ps c))
 
+  -- a Kv
   pub memberType : Rec → Bool → Option Rec
   memberType (rec h ks) c =
       given (cond (eqb (h .mark) (mark "Kv")) (propertyKey (kid 0 ks)) none) none (λ k. given (secondType ks c) none (λ t. some (property c k t)))
 
+  -- the second child, and the first
   pub secondType : Recs → Bool → Option Rec
   secondType nil c = none
   secondType (cons k vs) c = firstType vs c
@@ -177,13 +187,16 @@ isArray t = is "Ay" t || (is "Rf" t && sameText (drop 4 (textOf (kid 0 (kidsOf t
 
 -- ---- "Type Annotations on Variables", "Parameter Type Annotations", "Return Type Annotations", "Type Assertions"
 
+-- where a record has the type that is written for it
 pub data Annotated : Type 0 where
   aFirst aSecond aPattern aNone : Annotated
 
+-- by its mark
 unfoldable pub annotatedKind : ℕ → Annotated
 annotatedKind m =
     cond (among "Bd Cp Fu Aw Ft As Ta" m) aSecond (cond (among "Pb Po" m) aFirst (cond (among "Vr Pa Pp Ag" m) aPattern aNone))
 
+-- `pattern` is what is written in the first child
 unfoldable pub annotationBy : Annotated → Recs → Option Rec → Option Rec
 annotationBy aFirst ks pattern = present (kid 0 ks)
 annotationBy aSecond ks pattern = present (kid 1 ks)
@@ -221,13 +234,15 @@ unfoldable pub implements : Rec → Rec → Bool
 implements before r =
     sameName (functionIn before) (functionIn r) && (isNo (bodyOf (functionIn before)) && not (isNo (bodyOf (functionIn r))))
 
--- the same of members of a class: methods of one key, or constructors
+-- a method that implements the overload before it: both have one key
 unfoldable pub implementsMethod : Rec → Rec → Bool
 implementsMethod before r = is "Me" r && (is "Me" before && (sameName before r && (isNo (bodyOf before) && not (isNo (bodyOf r)))))
 
+-- "`Co` Op? (body) (Pa|Pp)*"
 unfoldable pub implementsConstructor : Rec → Rec → Bool
 implementsConstructor before r = is "Co" r && (is "Co" before && (isNo (kid 0 (kidsOf before)) && not (isNo (kid 0 (kidsOf r)))))
 
+-- either
 unfoldable pub implementsMember : Rec → Rec → Bool
 implementsMember before r = implementsMethod before r || implementsConstructor before r
 
@@ -243,9 +258,11 @@ Names hides list before (cons r rs) = (hides before r ≡ true → listed list (
 
 -- ---- "Enums", "Computed and constant members"
 
+-- the forms of constant enum expressions
 pub data EnumExpr : Type 0 where
   nLiteral nReference nParenthesized nUnary nBinary nElse : EnumExpr
 
+-- by the mark
 unfoldable pub enumKind : ℕ → EnumExpr
 enumKind m =
     cond (among "Ss Nu" m) nLiteral
@@ -265,6 +282,7 @@ constantBy nBinary member first both = both
 constantBy nElse member first both = false
 
 module _ (member : Rec → Bool) where
+  -- a constant enum expression; whether the first child is one, and whether the first two are
   unfoldable mutual
     pub constantEnum : Rec → Bool
     constantEnum (rec h ks) = constantBy (enumKind (h .mark)) (member (rec h ks)) (constantFirst ks) (constantBoth ks)
@@ -291,11 +309,13 @@ unfoldable mutual
 pub data Ordinary : Type 0 where
   oReference oFirst oBoth oNot oAny : Ordinary
 
+-- by the mark
 unfoldable pub ordinaryKind : ℕ → Ordinary
 ordinaryKind m =
     cond (eqb m (mark "Mb")) oReference
     (cond (eqb m (mark "Pr")) oFirst (cond (eqb m (mark "Bn")) oBoth (cond (among "Mi Oc Te As Ta" m) oNot oAny)))
 
+-- `entity`, `first` and `both` are of the first child, and of the first two
 unfoldable pub ordinaryBy : Ordinary → Bool → Bool → Bool → Bool
 ordinaryBy oReference entity first both = entity
 ordinaryBy oFirst entity first both = first
