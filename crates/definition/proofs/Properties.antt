@@ -95,7 +95,7 @@ module _ (left : ℕ) (s : List ℕ) (at : ℕ) (a : AcceptedAt left s at) (ob :
   -- so in an accepted tree every property of an object literal is a member of its type or is told of, in order
   pub none-missing-accepted : (ids : PrescannedModuleIds) (ctx : ℕ) (c r : Bool) (n : ℕ) →
       (ms : Recs) × (exprToTsType ids ctx (treeAt left s at) c r n .0 ≡ some (rec (ranged "Li" (headAt s at) []) ms))
-      × Ledger ids ctx c r (kidsOf (treeAt left s at)) ms (exprToTsType ids ctx (treeAt left s at) c r n .1)
+      × Ledger ids ctx c r n (kidsOf (treeAt left s at)) ms (exprToTsType ids ctx (treeAt left s at) c r n .1)
   unfolding headAt
   none-missing-accepted ids ctx c r n =
       rw (tree-is left s at a)

@@ -91,17 +91,17 @@ module _ (ids : PrescannedModuleIds) (ctx : ℕ) where
   -- ---- the ledger of an object literal
 
   -- one property, before others
-  module _ (c r : Bool) (n : ℕ) (h : Head) (ks ps ms : Recs) (ds : List Diag) (rest : Ledger ids ctx c r ps ms ds) where
+  module _ (c r : Bool) (n : ℕ) (h : Head) (ks ps ms : Recs) (ds : List Diag) where
     abbrev Entry : Out Recs → Type 0
-    Entry a = Ledger ids ctx c r (cons (rec h ks) ps) (join (a .0) ms) (a .1 ++ ds)
+    Entry a = Ledger ids ctx c r (a .2) ps ms ds → Ledger ids ctx c r n (cons (rec h ks) ps) (join (a .0) ms) (a .1 ++ ds)
 
     value-entry : (x : Option Rec) → h .mark ≡ mark "Kv" → typeSecond ids ctx ks c r n .0 ≡ x → Entry (keyValue ks r (typeSecond ids ctx ks c r n))
-    value-entry none m e = rw e (rw append-assoc (Ledger.any n m e rest))
-    value-entry (some t) m e = rw e (Ledger.keyValue n t m e rest)
+    value-entry none m e = rw e (rw append-assoc (Ledger.any m e))
+    value-entry (some t) m e = rw e (Ledger.keyValue t m e)
 
     shorthand-entry : (x : Option Rec) → h .mark ≡ mark "Sh" → identToTsType ids ctx (kid 0 ks) c ≡ x → Entry (shorthand h (kid 0 ks) r x n)
-    shorthand-entry none m e = Ledger.untyped m e rest
-    shorthand-entry (some t) m e = Ledger.shorthand t m e rest
+    shorthand-entry none m e = Ledger.untyped m e
+    shorthand-entry (some t) m e = Ledger.shorthand t m e
 
     entry : member (h .mark) (marks "Kv Sh Pq Sp Op") ≡ true → Entry (prop ids ctx (rec h ks) c r n)
     unfolding prop propBy propKind
@@ -111,18 +111,18 @@ module _ (ids : PrescannedModuleIds) (ctx : ℕ) where
             Entry (prop ids ctx (rec h ks) c r n)
         go true b d e p q s t = rw p (value-entry (typeSecond ids ctx ks c r n .0) (eqb-true _ _ p) refl)
         go false true d e p q s t = rw (p, q) (shorthand-entry (identToTsType ids ctx (kid 0 ks) c) (eqb-true _ _ q) refl)
-        go false false true e p q s t = rw (p, q, s) (Ledger.spread (eqb-true _ _ s) rest)
-        go false false false true p q s t = rw (p, q, s, t) (Ledger.op (eqb-true _ _ t) rest)
-        go false false false false p q s t = rw (p, q, s, t) (Ledger.other (only-other (h .mark) k p q s t) rest)
+        go false false true e p q s t = rw (p, q, s) (Ledger.spread (eqb-true _ _ s))
+        go false false false true p q s t = rw (p, q, s, t) (Ledger.op (eqb-true _ _ t))
+        go false false false false p q s t = rw (p, q, s, t) (Ledger.other (only-other (h .mark) k p q s t))
 
   -- the whole literal: each property is a member or is told of, in order
   pub ledger : (ks : Recs) → ((p : Rec) → p ∈ ks → member (markOf p) (marks "Kv Sh Pq Sp Op") ≡ true) → (c r : Bool) (n : ℕ) →
-      Ledger ids ctx c r ks (props ids ctx ks c r n .0) (props ids ctx ks c r n .1)
+      Ledger ids ctx c r n ks (props ids ctx ks c r n .0) (props ids ctx ks c r n .1)
   unfolding props
   ledger nil k c r n = Ledger.ends
   ledger (cons (rec h ks) ps) k c r n =
       let m : ℕ = prop ids ctx (rec h ks) c r n .2 in
-      entry c r n h ks ps (props ids ctx ps c r m .0) (props ids ctx ps c r m .1) (ledger ps (λ q i. k q (there i)) c r m) (k (rec h ks) here)
+      entry c r n h ks ps (props ids ctx ps c r m .0) (props ids ctx ps c r m .1) (k (rec h ks) here) (ledger ps (λ q i. k q (there i)) c r m)
 
   -- ---- what is told of the properties of an object literal
 
@@ -336,6 +336,6 @@ module _ (ids : PrescannedModuleIds) (ctx : ℕ) where
 
   -- and every other member is in the type that is made, in order
   pub none-missing : (h : Head) (ks : Recs) → h .mark ≡ mark "Ob" → ((p : Rec) → p ∈ ks → member (markOf p) (marks "Kv Sh Pq Sp Op") ≡ true) → (c r : Bool) (n : ℕ) →
-      (ms : Recs) × (exprToTsType ids ctx (rec h ks) c r n .0 ≡ some (rec (ranged "Li" h []) ms)) × Ledger ids ctx c r ks ms (exprToTsType ids ctx (rec h ks) c r n .1)
+      (ms : Recs) × (exprToTsType ids ctx (rec h ks) c r n .0 ≡ some (rec (ranged "Li" h []) ms)) × Ledger ids ctx c r n ks ms (exprToTsType ids ctx (rec h ks) c r n .1)
   unfolding exprToTsType exprBy exprKind marks member
   none-missing h ks m k c r n = (props ids ctx ks c r n .0, rw m, rw m (ledger ks k c r n))

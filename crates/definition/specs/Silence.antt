@@ -43,30 +43,33 @@ module _ (ids : PrescannedModuleIds) (ctx : ℕ) where
     pub shorthands : (p : Rec) → p ∈ ks → markOf p ≡ mark "Sh" → identToTsType ids ctx (kid 0 (kidsOf p)) c ≡ none → Given (diag "d3" (headOf p)) ds
 
   -- the properties of an object literal one by one, with the members that are made of them and the diagnostics that are given, in order: each is
-  -- a member or is told of, and nothing else is made or given. `c` and `r` are as_const and as_readonly
-  pub data Ledger (c r : Bool) : Recs → Recs → List Diag → Type 0 where
-    ends : Ledger c r nil nil []
+  -- a member or is told of, and nothing else is made or given. `c` and `r` are as_const and as_readonly; the first index is the name counter
+  pub data Ledger (c r : Bool) : ℕ → Recs → Recs → List Diag → Type 0 where
+    ends : {n : ℕ} → Ledger c r n nil nil []
     -- "Sp skipped, d4 at it"
-    spread : {p : Rec} {ps ms : Recs} {ds : List Diag} → markOf p ≡ mark "Sp" → Ledger c r ps ms ds → Ledger c r (cons p ps) ms (diag "d4" (headOf p) ∷ ds)
+    spread : {n : ℕ} {p : Rec} {ps ms : Recs} {ds : List Diag} → markOf p ≡ mark "Sp" → Ledger c r n ps ms ds →
+        Ledger c r n (cons p ps) ms (diag "d4" (headOf p) ∷ ds)
     -- "every Pq skipped, d3 at it"
-    other : {p : Rec} {ps ms : Recs} {ds : List Diag} → markOf p ≡ mark "Pq" → Ledger c r ps ms ds → Ledger c r (cons p ps) ms (diag "d3" (headOf p) ∷ ds)
+    other : {n : ℕ} {p : Rec} {ps ms : Recs} {ds : List Diag} → markOf p ≡ mark "Pq" → Ledger c r n ps ms ds →
+        Ledger c r n (cons p ps) ms (diag "d3" (headOf p) ∷ ds)
     -- "untyped Sh skipped, d3 at it"
-    untyped : {p : Rec} {ps ms : Recs} {ds : List Diag} → markOf p ≡ mark "Sh" → identToTsType ids ctx (kid 0 (kidsOf p)) c ≡ none →
-        Ledger c r ps ms ds → Ledger c r (cons p ps) ms (diag "d3" (headOf p) ∷ ds)
+    untyped : {n : ℕ} {p : Rec} {ps ms : Recs} {ds : List Diag} → markOf p ≡ mark "Sh" → identToTsType ids ctx (kid 0 (kidsOf p)) c ≡ none →
+        Ledger c r n ps ms ds → Ledger c r n (cons p ps) ms (diag "d3" (headOf p) ∷ ds)
     -- a typed Sh is a member of its name
-    shorthand : {p : Rec} {ps ms : Recs} {ds : List Diag} (t : Rec) → markOf p ≡ mark "Sh" → identToTsType ids ctx (kid 0 (kidsOf p)) c ≡ some t →
-        Ledger c r ps ms ds →
-        Ledger c r (cons p ps) (cons (propertySignature (identAt (headOf (kid 0 (kidsOf p))) (symbolOf (kid 0 (kidsOf p)))) r 0 t) ms) ds
+    shorthand : {n : ℕ} {p : Rec} {ps ms : Recs} {ds : List Diag} (t : Rec) → markOf p ≡ mark "Sh" → identToTsType ids ctx (kid 0 (kidsOf p)) c ≡ some t →
+        Ledger c r n ps ms ds →
+        Ledger c r n (cons p ps) (cons (propertySignature (identAt (headOf (kid 0 (kidsOf p))) (symbolOf (kid 0 (kidsOf p)))) r 0 t) ms) ds
     -- a Kv with a typed value is a member of its key
-    keyValue : {p : Rec} {ps ms : Recs} {ds : List Diag} (n : ℕ) (t : Rec) → markOf p ≡ mark "Kv" → typeSecond ids ctx (kidsOf p) c r n .0 ≡ some t →
-        Ledger c r ps ms ds → Ledger c r (cons p ps) (cons (signatureOf p r t) ms) (typeSecond ids ctx (kidsOf p) c r n .1 ++ ds)
+    keyValue : {n : ℕ} {p : Rec} {ps ms : Recs} {ds : List Diag} (t : Rec) → markOf p ≡ mark "Kv" → typeSecond ids ctx (kidsOf p) c r n .0 ≡ some t →
+        Ledger c r (typeSecond ids ctx (kidsOf p) c r n .2) ps ms ds →
+        Ledger c r n (cons p ps) (cons (signatureOf p r t) ms) (typeSecond ids ctx (kidsOf p) c r n .1 ++ ds)
     -- "untyped value any, d2 at it"
-    any : {p : Rec} {ps ms : Recs} {ds : List Diag} (n : ℕ) → markOf p ≡ mark "Kv" → typeSecond ids ctx (kidsOf p) c r n .0 ≡ none →
-        Ledger c r ps ms ds →
-        Ledger c r (cons p ps) (cons (signatureOf p r anyTypeAnn) ms)
+    any : {n : ℕ} {p : Rec} {ps ms : Recs} {ds : List Diag} → markOf p ≡ mark "Kv" → typeSecond ids ctx (kidsOf p) c r n .0 ≡ none →
+        Ledger c r (typeSecond ids ctx (kidsOf p) c r n .2) ps ms ds →
+        Ledger c r n (cons p ps) (cons (signatureOf p r anyTypeAnn) ms)
         (typeSecond ids ctx (kidsOf p) c r n .1 ++ (diag "d2" (headOf (kid 1 (kidsOf p))) ∷ ds))
     -- an Op is no property
-    op : {p : Rec} {ps ms : Recs} {ds : List Diag} → markOf p ≡ mark "Op" → Ledger c r ps ms ds → Ledger c r (cons p ps) ms ds
+    op : {n : ℕ} {p : Rec} {ps ms : Recs} {ds : List Diag} → markOf p ≡ mark "Op" → Ledger c r n ps ms ds → Ledger c r n (cons p ps) ms ds
 
   -- typing comes as far as the element e of an Ar: every Sp before it has a type, where as_const is c
   pub data Reaches (c : Bool) (e : Rec) : Recs → Type 0 where
