@@ -4,6 +4,16 @@ pub mod Accepted
 pub mod Converse
 pub mod Children
 pub mod Kids
+pub mod Counting
+pub mod CountingItems
+pub mod Silence
+pub mod Properties
+pub mod SilenceModule
+pub mod Handbook
+pub mod HandbookDeclarations
+pub mod HandbookOverloads
+pub mod HandbookEnums
+pub mod Differences
 pub mod Samples
 pub mod CheckSamples
 pub mod Stable
