@@ -6,142 +6,26 @@ use mathlib.Core.Option.{Option, none, some}
 use Prim.Native.Nat.{ℕ, zero, suc, _+_, _*_, _≤_, _<_}
 use native.Mathlib.Omega.{arith}
 use lib.Dec.{eqb}
-use lib.ListN.{length, length-append}
-use Rattle.definition.specs.Tree.{Head, Rec, Recs, rec, nil, cons, count, headSize, encode, encodes}
+use lib.ListN.{length}
+use Rattle.definition.specs.Tree.{Head, Rec, Recs, rec, nil, cons, count, headSize, encode}
 use Rattle.definition.specs.Grammar.{mark}
 use Rattle.definition.specs.Check.{longestTree}
+use Rattle.definition.specs.Counting.{records, allRecords}
 use Rattle.definition.specs.Record.{markOf, is, isNo, fresh, absent, ident, kid, setKid, one, given, gone, diag, listed, flag1, Out, Typing, pure, onValue, single, wrap, each, atKid, second}
 use Rattle.definition.specs.Helpers.{anyTypeAnn}
 use Rattle.definition.specs.Names.{genUniqueName}
 use Rattle.definition.specs.Typing.{orAny}
 use Rattle.definition.specs.Classes.{typeOr, handleFunction, class}
 use Rattle.definition.specs.Enums.{validEnumInitExpr, enumInit, enumMember}
-use Rattle.definition.specs.Items.{
-  Item,
-  iKept,
-  iDropped,
-  iExport,
-  iDefault,
-  iDefaultExpr,
-  iDecl,
-  itemKind,
-  Decl,
-  dClass,
-  dFn,
-  dVar,
-  dEnum,
-  dModule,
-  dUsing,
-  dType,
-  declKind,
-  Default,
-  xClass,
-  xFn,
-  xOther,
-  defaultKind,
-  Body,
-  bBlock,
-  bNested,
-  bOther,
-  bodyKind,
-  declaratorType,
-  declaratorPattern,
-  declarator,
-  bodyPart,
-  withoutBody,
-  constOf,
-  defaultTyped,
-  declared,
-  exportOf,
-  stmtOf,
-  declToTypeDecl,
-  transformModuleStmt,
-  exportDecl,
-  exportDefaultDecl,
-  exportDefaultExpr,
-  itemBy,
-  bodyBy,
-  transformModuleItems,
-  transformModuleItem,
-  exported,
-  exportedDecl,
-  nsParts,
-  nsBodyFirst,
-  transformTsNsBody,
-  nestedSecond,
-  nestedFirst,
-}
+use Rattle.definition.specs.Items.{Item, iKept, iDropped, iExport, iDefault, iDefaultExpr, iDecl, itemKind, Decl, dClass, dFn, dVar, dEnum, dModule, dUsing, dType, declKind, Default, xClass, xFn, xOther, defaultKind, Body, bBlock, bNested, bOther, bodyKind, declaratorType, declaratorPattern, declarator, bodyPart, withoutBody, constOf, defaultTyped, declared, exportOf, stmtOf, declToTypeDecl, transformModuleStmt, exportDecl, exportDefaultDecl, exportDefaultExpr, itemBy, bodyBy, transformModuleItems, transformModuleItem, exported, exportedDecl, nsParts, nsBodyFirst, transformTsNsBody, nestedSecond, nestedFirst}
 use Rattle.definition.specs.Transform.{transformBy}
-use Rattle.definition.proofs.Round.{length-headBytes}
 use Rattle.definition.proofs.Texts.{bytes-none}
-use Rattle.definition.proofs.Fit.{
-  weight,
-  names,
-  allNames,
-  kid-names,
-  Keys,
-  AllKeys,
-  kid-keys,
-  Room,
-  Sound,
-  Fit,
-  FitAll,
-  Few,
-  Given,
-  Makes,
-  one-made,
-  none-made,
-  at-most,
-  fresh-sound,
-  recount,
-  reflag,
-  flag1-fits,
-  absent-fits,
-  any-fits,
-  over-two,
-  ident-fits,
-  kid-fits,
-  setKid-fits,
-  join-fits,
-  gone-fits,
-  rehead,
-  all-few,
-  pure-makes,
-  more,
-  onValue-makes,
-  ifM-makes,
-  orAny-makes,
-  Step,
-  each-makes,
-  atKid-makes,
-  wrap-makes,
-  second-makes,
-}
+use Rattle.definition.proofs.Fit.{weight, names, allNames, kid-names, Keys, AllKeys, kid-keys, Room, Sound, Fit, FitAll, Few, Given, Makes, one-made, none-made, at-most, fresh-sound, recount, reflag, flag1-fits, absent-fits, any-fits, over-two, ident-fits, kid-fits, setKid-fits, join-fits, gone-fits, rehead, all-few, pure-makes, more, onValue-makes, ifM-makes, orAny-makes, Step, each-makes, atKid-makes, wrap-makes, second-makes}
 use Rattle.definition.proofs.FitClasses.{TypesFit, typeOr-makes, eachIn-makes, function-makes, class-makes}
+use Rattle.definition.proofs.Counting.{records-bytes}
 use Rattle.definition.proofs.Twice.{xe-mark}
 
--- ---- how many records a tree has
-
-abbrev mutual
-  pub size : Rec → ℕ
-  size (rec h ks) = suc (sizes ks)
-
-  pub sizes : Recs → ℕ
-  sizes nil = 0
-  sizes (cons r rs) = size r + sizes rs
-
-mutual
-  unfolding encode
-
-  pub size-length : (r : Rec) → headSize * size r ≤ length (encode r)
-  size-length (rec h ks) = let k : headSize * sizes ks ≤ length (encodes ks) = sizes-length ks in simp (length-append, length-headBytes) (omega arith)
-
-  sizes-length : (rs : Recs) → headSize * sizes rs ≤ length (encodes rs)
-  sizes-length nil = omega arith
-  sizes-length (cons r rs) =
-      let a : headSize * size r ≤ length (encode r) = size-length r in
-      let b : headSize * sizes rs ≤ length (encodes rs) = sizes-length rs in
-      simp length-append (omega arith)
+-- ---- never more names than records
 
 weight-one : (m : ℕ) → weight m ≤ 1
 weight-one m = go (eqb m (mark "Xe") || eqb m (mark "Ag"))
@@ -151,12 +35,14 @@ weight-one m = go (eqb m (mark "Xe") || eqb m (mark "Ag"))
     go false = omega arith
 
 mutual
-  pub names-size : (r : Rec) → names r ≤ size r
-  names-size (rec h ks) = omega (arith, weight-one (h .mark), allNames-sizes ks)
+  unfolding records
 
-  allNames-sizes : (rs : Recs) → allNames rs ≤ sizes rs
-  allNames-sizes nil = omega arith
-  allNames-sizes (cons r rs) = omega (arith, names-size r, allNames-sizes rs)
+  pub names-records : (r : Rec) → names r ≤ records r
+  names-records (rec h ks) = omega (arith, weight-one (h .mark), allNames-allRecords ks)
+
+  allNames-allRecords : (rs : Recs) → allNames rs ≤ allRecords rs
+  allNames-allRecords nil = omega arith
+  allNames-allRecords (cons r rs) = omega (arith, names-records r, allNames-allRecords rs)
 
 xe-weight : (m : ℕ) → itemKind m ≡ iDefaultExpr → weight m ≡ 1
 xe-weight m e = rw (xe-mark m e)
@@ -194,8 +80,8 @@ module _ (x : ℕ) where
 
   -- an Xe with the type of its expression, if it holds one
   typed-fits : (h : Head) (ks : Recs) (i : ℕ) (o : Option Rec) → Fit x (rec h ks) → i + 10 < 65536 → Given (Fit x) o → (ks ≡ nil → o ≡ none) →
-      Few x (suc (sizes ks)) (defaultTyped h ks i o)
-  unfolding defaultTyped
+      Few x (suc (allRecords ks)) (defaultTyped h ks i o)
+  unfolding defaultTyped records
   typed-fits h ks i none g l t e = ((g, tt), omega arith)
   typed-fits h nil i (some t) g l f e = absurd (let p : _≡_ {A = Option Rec} (some t) none = e refl in let z : _≡_ {A = ℕ} 0 1 = cc in omega arith)
   typed-fits h (cons (rec h′ ks′) rs) i (some t) g l f e =
@@ -343,7 +229,7 @@ module _ (x : ℕ) (ty : Typing) (fit : TypesFit x ty) (nothing : (a b : Bool) (
     nothing-held (cons r rs) n e = absurd (let z : _≡_ {A = ℕ} 0 1 = cc in omega arith)
 
     expr-makes : (h : Head) (ks : Recs) (n w : ℕ) → w ≡ 1 → Fit x (rec h ks) → AllKeys x ks → Room n (w + allNames ks) →
-        Makes (Few x (suc (sizes ks))) n (w + allNames ks) (exportDefaultExpr list ctx ty h ks n)
+        Makes (Few x (suc (allRecords ks))) n (w + allNames ks) (exportDefaultExpr list ctx ty h ks n)
     unfolding exportDefaultExpr
     expr-makes h ks n w e g q l =
         let s : names (kid 0 ks) ≤ allNames ks = kid-names 0 ks in
@@ -359,7 +245,7 @@ module _ (x : ℕ) (ty : Typing) (fit : TypesFit x ty) (nothing : (a b : Bool) (
 
     item-makesBy : (k : Item) (h : Head) (ks : Recs) (top : Bool) (ns export : ℕ → Out Recs) (n : ℕ) → itemKind (h .mark) ≡ k → Fit x (rec h ks) → AllKeys x ks →
         Room n (weight (h .mark) + allNames ks) → Makes (Few x (count ks)) n (allNames ks) (ns n) → Makes (Few x 1) n (allNames ks) (export n) →
-        Makes (Few x (suc (sizes ks))) n (weight (h .mark) + allNames ks) (itemBy list ctx ty k h ks top ns export n)
+        Makes (Few x (suc (allRecords ks))) n (weight (h .mark) + allNames ks) (itemBy list ctx ty k h ks top ns export n)
     unfolding itemBy
     item-makesBy iKept h ks top ns export n e g q l m o = pure-makes ((g, tt), omega arith)
     item-makesBy iDropped h ks top ns export n e g q l m o = pure-makes (tt, omega arith)
@@ -371,79 +257,79 @@ module _ (x : ℕ) (ty : Typing) (fit : TypesFit x ty) (nothing : (a b : Bool) (
 
     -- ---- the body of a namespace
 
-    body-makesBy : (k : Body) (h : Head) (ks : Recs) (items : ℕ → Out Recs) (nested : ℕ → Out Rec) (n : ℕ) → Fit x (rec h ks) → sizes ks < 65536 →
-        Makes (Few x (sizes ks)) n (allNames ks) (items n) → Makes (Fit x) n (allNames ks) (nested n) →
+    body-makesBy : (k : Body) (h : Head) (ks : Recs) (items : ℕ → Out Recs) (nested : ℕ → Out Rec) (n : ℕ) → Fit x (rec h ks) → allRecords ks < 65536 →
+        Makes (Few x (allRecords ks)) n (allNames ks) (items n) → Makes (Fit x) n (allNames ks) (nested n) →
         Makes (Fit x) n (allNames ks) (bodyBy list ctx ty k h ks items nested n)
     unfolding bodyBy
-    body-makesBy bBlock h ks items nested n g s m o = wrap-makes x h (sizes ks) n _ (items n) (recount x h (count ks) (sizes ks) (g .0) s) m
+    body-makesBy bBlock h ks items nested n g s m o = wrap-makes x h (allRecords ks) n _ (items n) (recount x h (count ks) (allRecords ks) (g .0) s) m
     body-makesBy bNested h ks items nested n g s m o = o
     body-makesBy bOther h ks items nested n g s m o = pure-makes g
 
     -- ---- all of it
 
     mutual
-      unfolding transformModuleItems
+      unfolding transformModuleItems records
 
-      items-make : (rs : Recs) (top : Bool) (n : ℕ) → FitAll x rs → AllKeys x rs → sizes rs < 65536 → Room n (allNames rs) →
-          Makes (Few x (sizes rs)) n (allNames rs) (transformModuleItems list ctx ty rs top n)
+      items-make : (rs : Recs) (top : Bool) (n : ℕ) → FitAll x rs → AllKeys x rs → allRecords rs < 65536 → Room n (allNames rs) →
+          Makes (Few x (allRecords rs)) n (allNames rs) (transformModuleItems list ctx ty rs top n)
       items-make nil top n g q s l = none-made x 0 n 0
       items-make (cons r rs) top n g q s l =
           let a = item-makes r top n (g .0) (q .0) (omega arith) (omega arith) in
           let b = items-make rs top (transformModuleItem list ctx ty r top n .2) (g .1) (q .1) (omega arith) (omega (arith, a .counter)) in
-          record { value = join-fits x (transformModuleItem list ctx ty r top n .0) _ (size r) (sizes rs) (a .value) (b .value); counter = omega (arith, a .counter, b .counter) }
+          record { value = join-fits x (transformModuleItem list ctx ty r top n .0) _ (records r) (allRecords rs) (a .value) (b .value); counter = omega (arith, a .counter, b .counter) }
 
-      item-makes : (r : Rec) (top : Bool) (n : ℕ) → Fit x r → Keys x r → size r < 65536 → Room n (names r) →
-          Makes (Few x (size r)) n (names r) (transformModuleItem list ctx ty r top n)
+      item-makes : (r : Rec) (top : Bool) (n : ℕ) → Fit x r → Keys x r → records r < 65536 → Room n (names r) →
+          Makes (Few x (records r)) n (names r) (transformModuleItem list ctx ty r top n)
       item-makes (rec h ks) top n g q s l =
           item-makesBy (itemKind (h .mark)) h ks top _ _ n refl g (q .1) l (parts-make ks n (g .1) (q .1) (omega arith) (omega arith))
           (exported-makes ks h top n g (q .1) (omega arith) (omega arith))
 
-      exported-makes : (rs : Recs) (h : Head) (top : Bool) (n : ℕ) → Fit x (rec h rs) → AllKeys x rs → sizes rs < 65536 → Room n (allNames rs) →
+      exported-makes : (rs : Recs) (h : Head) (top : Bool) (n : ℕ) → Fit x (rec h rs) → AllKeys x rs → allRecords rs < 65536 → Room n (allNames rs) →
           Makes (Few x 1) n (allNames rs) (exported list ctx ty rs h top n)
       exported-makes nil h top n g q s l = pure-makes (one-made x (rec h nil) g)
       exported-makes (cons d ops) h top n g q s l = at-most x (exportedDecl-makes d h ops top n g (q .0) (omega arith) (omega arith)) (omega arith) (omega arith)
 
-      exportedDecl-makes : (d : Rec) (h : Head) (ops : Recs) (top : Bool) (n : ℕ) → Fit x (rec h (cons d ops)) → Keys x d → size d < 65536 → Room n (names d) →
+      exportedDecl-makes : (d : Rec) (h : Head) (ops : Recs) (top : Bool) (n : ℕ) → Fit x (rec h (cons d ops)) → Keys x d → records d < 65536 → Room n (names d) →
           Makes (Few x 1) n (names d) (exportedDecl list ctx ty d h ops top n)
       exportedDecl-makes (rec dh ks) h ops top n g q s l =
           at-most x
           (export-makes (declKind (dh .mark)) h dh ks ops top _ n g (q .1) (omega arith) (parts-make ks n (g .1 .0 .1) (q .1) (omega arith) (omega arith)))
           (omega arith) (omega arith)
 
-      parts-make : (rs : Recs) (n : ℕ) → FitAll x rs → AllKeys x rs → sizes rs < 65536 → Room n (allNames rs) →
+      parts-make : (rs : Recs) (n : ℕ) → FitAll x rs → AllKeys x rs → allRecords rs < 65536 → Room n (allNames rs) →
           Makes (Few x (count rs)) n (allNames rs) (nsParts list ctx ty rs n)
       parts-make nil n g q s l = none-made x 0 n 0
       parts-make (cons name rs) n g q s l =
           onValue-makes (cons name) (λ ks m. ((g .0, m .0), omega (arith, m .1))) (more (bodyFirst-makes rs n (g .1) (q .1) (omega arith) (omega arith)) (omega arith))
 
-      bodyFirst-makes : (rs : Recs) (n : ℕ) → FitAll x rs → AllKeys x rs → sizes rs < 65536 → Room n (allNames rs) →
+      bodyFirst-makes : (rs : Recs) (n : ℕ) → FitAll x rs → AllKeys x rs → allRecords rs < 65536 → Room n (allNames rs) →
           Makes (Few x (count rs)) n (allNames rs) (nsBodyFirst list ctx ty rs n)
       bodyFirst-makes nil n g q s l = none-made x 0 n 0
       bodyFirst-makes (cons b ops) n g q s l =
           onValue-makes (λ (b : Rec). cons b ops) (λ b m. ((m, g .1), omega arith)) (more (body-makes b n (g .0) (q .0) (omega arith) (omega arith)) (omega arith))
 
-      body-makes : (b : Rec) (n : ℕ) → Fit x b → Keys x b → size b < 65536 → Room n (names b) → Makes (Fit x) n (names b) (transformTsNsBody list ctx ty b n)
+      body-makes : (b : Rec) (n : ℕ) → Fit x b → Keys x b → records b < 65536 → Room n (names b) → Makes (Fit x) n (names b) (transformTsNsBody list ctx ty b n)
       body-makes (rec h ks) n g q s l =
           more
           (body-makesBy (bodyKind (h .mark)) h ks _ _ n g (omega arith) (items-make ks false n (g .1) (q .1) (omega arith) (omega arith))
           (nestedSecond-makes ks n (g .1) (q .1) (omega arith) (omega arith)))
           (omega arith)
 
-      nestedSecond-makes : (rs : Recs) (n : ℕ) → FitAll x rs → AllKeys x rs → sizes rs < 65536 → Room n (allNames rs) →
+      nestedSecond-makes : (rs : Recs) (n : ℕ) → FitAll x rs → AllKeys x rs → allRecords rs < 65536 → Room n (allNames rs) →
           Makes (Fit x) n (allNames rs) (nestedSecond list ctx ty rs n)
       nestedSecond-makes nil n g q s l = pure-makes (absent-fits x)
       nestedSecond-makes (cons name rs) n g q s l = more (nestedFirst-makes rs n (g .1) (q .1) (omega arith) (omega arith)) (omega arith)
 
-      nestedFirst-makes : (rs : Recs) (n : ℕ) → FitAll x rs → AllKeys x rs → sizes rs < 65536 → Room n (allNames rs) →
+      nestedFirst-makes : (rs : Recs) (n : ℕ) → FitAll x rs → AllKeys x rs → allRecords rs < 65536 → Room n (allNames rs) →
           Makes (Fit x) n (allNames rs) (nestedFirst list ctx ty rs n)
       nestedFirst-makes nil n g q s l = pure-makes (absent-fits x)
       nestedFirst-makes (cons b ops) n g q s l = more (body-makes b n (g .0) (q .0) (omega arith) (omega arith)) (omega arith)
 
     -- a module of at most 524,288 bytes
     pub transformBy-fits : (r : Rec) → Fit x r → Keys x r → length (encode r) ≤ longestTree → Fit x (transformBy list ctx ty r .0)
-    unfolding transformBy
+    unfolding transformBy records
     transformBy-fits (rec h ks) g q l =
-        let s : headSize * size (rec h ks) ≤ length (encode (rec h ks)) = size-length (rec h ks) in
-        let w : names (rec h ks) ≤ size (rec h ks) = names-size (rec h ks) in
+        let s : headSize * records (rec h ks) ≤ length (encode (rec h ks)) = records-bytes (rec h ks) in
+        let w : names (rec h ks) ≤ records (rec h ks) = names-records (rec h ks) in
         let m = items-make ks true 0 (g .1) (q .1) (omega arith) (omega arith) in
-        rehead x h (sizes ks) (transformModuleItems list ctx ty ks true 0 .0) (recount x h (count ks) (sizes ks) (g .0) (omega arith)) (m .value)
+        rehead x h (allRecords ks) (transformModuleItems list ctx ty ks true 0 .0) (recount x h (count ks) (allRecords ks) (g .0) (omega arith)) (m .value)
