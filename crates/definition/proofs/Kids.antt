@@ -15,11 +15,11 @@ use borrow.Author.Tests.{eqb-true, eqb-false, leb-true, eq-eqb, ne-eqb}
 use Rattle.definition.specs.Tree.{Head, Rec, nil, headSize, markAt, flagsAt, lengthAt, countAt, textAt, bodyAt, headAt, readAll, endOfAll, endAt, treeAt}
 use Rattle.definition.specs.Grammar.{mark, marks, member, Part, Part.one, Part.many, Part.property, Form, Form.empty, Form.eight, Form.integer, Form.identifier, grammar, known, forms, slots, place, allowed, after, least, isProperty, undestructured, expression, type, pattern}
 use Rattle.definition.specs.Check.{hasForm, isInteger, formOf, slotsOf, inside, Checked.fine, checkAt}
-use Rattle.definition.specs.Children.{AcceptedAt, childAt}
+use Rattle.definition.specs.Children.{AcceptedAt, AllAccepted, childAt}
 use Rattle.definition.specs.Record.{headOf, kidsOf, markOf, textOf, absent, kid}
 use Rattle.definition.proofs.Places.{part-length}
 use Rattle.definition.proofs.Accepted.{Accepted, accepted, child-accepted, slotsAt}
-use Rattle.definition.proofs.Children.{some-left, itself, tree-is}
+use Rattle.definition.proofs.Children.{some-left, itself, tree-is, children, others}
 
 -- ---- sets of marks
 
@@ -159,6 +159,14 @@ inside-ag ps = go (isProperty ps)
 
 -- ---- the children of an accepted record
 
+-- records that were accepted one after the other, without the first k of them
+pub all-others : (left : ℕ) (s : List ℕ) (n at : ℕ) → AllAccepted left s n at → (k : ℕ) → k ≤ n → AllAccepted left s (n - k) (endOfAll (endAt left s) k at)
+unfolding endOfAll
+all-others left s n at a zero h = let z : n - 0 ≡ n = omega arith in rw z a
+all-others left s n at a (suc k) h =
+    let z : n - suc k ≡ n - 1 - k = omega arith in
+    rw z (all-others left s (n - 1) (endAt left s at) (others left s n at a (omega arith)) k (omega arith))
+
 -- its child with the number i is there, stands at p, is accepted, is the tree's child, and has one of the marks S
 pub record Child (left : ℕ) (s : List ℕ) (at i p : ℕ) (S : String) : Type 0 where
   pub there : i < countAt s at
@@ -224,6 +232,15 @@ module _ (left : ℕ) (s : List ℕ) (at : ℕ) (a : AcceptedAt left s at) where
       Child left s at 1 (endAt (left - 1) s (bodyAt s at)) S
   unfolding endOfAll
   second-in m e n S f = child-in m e n 1 S f
+
+  pub third-in : (m : ℕ) → markAt s at ≡ m → eqb m (mark "Ag") ≡ false → (S : String) → fixed (slotsOf m) 2 ≡ some S →
+      Child left s at 2 (endAt (left - 1) s (endAt (left - 1) s (bodyAt s at))) S
+  unfolding endOfAll
+  third-in m e n S f = child-in m e n 2 S f
+
+  -- the children from the number k on, as a loop meets them
+  pub rest-accepted : (k : ℕ) → k ≤ countAt s at → AllAccepted (left - 1) s (countAt s at - k) (childAt left s at k)
+  rest-accepted k h = all-others (left - 1) s (countAt s at) (bodyAt s at) (children left s at a) k h
 
   -- the same for an Ag, wherever it stands: its left side and its right side
   pub left-of : markAt s at ≡ mark "Ag" → Child left s at 0 (bodyAt s at) pattern

@@ -20,10 +20,10 @@ long c =
     omega (arith, ap length (c .text-at .ensures), c .before .before .pre, part-length (c .before .before .args .tree .now) (c .before .before .args .at + headSize) (lengthAt (c .before .before .args .tree .now) (c .before .before .args .at)) (c .before .before .pre .0))
 
 sub-result : tie.Need-sub-result
-sub-result c = long c
+sub-result c = omega (arith, long c)
 
 part-result-start : tie.Need-part-result-start
-part-result-start c = long c
+part-result-start c = omega (arith, long c)
 
 part-result-end : tie.Need-part-result-end
 part-result-end c = search needs
