@@ -18,14 +18,7 @@ use Rattle.definition.proofs.Kids.{mark-is, text-is, kids-are, kid-is, at-least
 use Rattle.swc_helpers.specs.declared.Found.{Found}
 use Rattle.swc_helpers.specs.declared.Found.the-variants.{At, Nothing}
 use Rattle.swc_helpers.specs.Found.{foundIf, isObjectFreeze}
-
--- ---- answers
-
-pub nothing-found : (b : Bool) (at : ℕ) → b ≡ false → Nothing ≡ foundIf b at
-nothing-found b at e = rw e
-
-pub found-at : (b : Bool) (x at : ℕ) → b ≡ true → x ≡ at → At x ≡ foundIf b at
-found-at b x at e q = rw (e, q)
+use Rattle.swc_helpers.proofs.Answers.{nothing-found, found-at}
 
 -- ---- levels
 

@@ -1,7 +1,8 @@
 -- `maybe_lit_to_ts_type` meets its contract. Assumes nothing.
 use mathlib.Core.Path.{refl}
 use Rattle.definition.specs.Helpers.{maybeLitToTsType}
-use Rattle.swc_helpers.proofs.Maybe.{some-type, no-type, lit-put}
+use Rattle.swc_helpers.proofs.Answers.{some-type, no-type}
+use Rattle.swc_helpers.proofs.Lits.{lit-put}
 use borrow.Author.Needs.{needs}
 use Rattle.swc_helpers.proofs.maybe_lit_to_ts_type.Statement.{statement}
 use Rattle.swc_helpers.proofs.maybe_lit_to_ts_type.Tie as tie

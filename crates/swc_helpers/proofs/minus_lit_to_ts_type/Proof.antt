@@ -2,7 +2,8 @@
 use mathlib.Core.Path.{refl}
 use Rattle.definition.specs.Typing.{minusBy}
 use Rattle.swc_helpers.specs.Found.{isConst}
-use Rattle.swc_helpers.proofs.Maybe.{some-type, no-type, as-type, lit-put, number-marked, big-marked, no-minus}
+use Rattle.swc_helpers.proofs.Answers.{some-type, no-type, as-type}
+use Rattle.swc_helpers.proofs.Lits.{lit-put, number-marked, big-marked, no-minus}
 use borrow.Author.Needs.{needs}
 use Rattle.swc_helpers.proofs.minus_lit_to_ts_type.Statement.{statement}
 use Rattle.swc_helpers.proofs.minus_lit_to_ts_type.Tie as tie

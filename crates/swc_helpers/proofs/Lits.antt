@@ -1,8 +1,8 @@
--- Types that may be missing, and the types of literals. Assumes nothing.
+-- The kinds of literals, and the types that they get. Assumes nothing.
 use mathlib.Core.Path.{_≡_, refl, sym, _∙_, ap}
 use mathlib.Core.List.{List, [], _∷_}
 use mathlib.Core.Bool.{Bool, true, false, cond}
-use mathlib.Core.Option.{Option, none, some}
+use mathlib.Core.Option.{Option, none}
 use Prim.Native.Nat.{ℕ}
 use native.Mathlib.Omega.{arith}
 use lib.Dec.{eqb}
@@ -10,41 +10,19 @@ use lib.Ieee.{Float}
 use borrow.Author.Tests.{eqb-true}
 use types.Run.{OneOf, miss}
 use denote.Enum.Declared.{tagOf}
-use Rattle.definition.specs.Tree.{Rec, encode, markAt, treeAt}
+use Rattle.definition.specs.Tree.{Rec, markAt, treeAt}
 use Rattle.definition.specs.Grammar.{mark}
 use Rattle.definition.specs.Record.{markOf}
 use Rattle.definition.specs.Helpers.{Lit, lStr, lBool, lNull, lNum, lBigInt, lRegex, lJsxText, litKind}
 use Rattle.definition.specs.Typing.{minusBy}
 use Rattle.definition.proofs.Kids.{mark-is}
-use Rattle.records.specs.Wrote.{Put}
 use Rattle.swc_helpers.specs.declared.literals.Literal.{Literal}
 use Rattle.swc_helpers.specs.declared.literals.Literal.the-variants.{Str, Num, BigInt, Bool as Boolean, Null, Regex, JsxText}
 use Rattle.swc_helpers.proofs.literals.Literal.{the-type}
 use Rattle.swc_helpers.specs.declared.DeclMutabilityKind.{DeclMutabilityKind}
 use Rattle.swc_helpers.specs.declared.MaybeType.{MaybeType}
-use Rattle.swc_helpers.specs.declared.MaybeType.the-variants.{Typed, Untyped}
 use Rattle.swc_helpers.specs.Literal.{literalBy, literalOf, kindOf}
 use Rattle.swc_helpers.specs.Found.{isConst, PutMaybe}
-
--- ---- a type, and none
-
-pub some-type : {a b : List ℕ} {p : ℕ} {t : Rec} {q : ℕ} → Put a b p (encode t) q → PutMaybe a b p (some t) (Typed q)
-some-type w = record { bytes = w .bytes; told = ap Typed (w .position) }
-
-pub no-type : (a : List ℕ) (p : ℕ) → PutMaybe a a p none Untyped
-no-type a p = record { bytes = refl; told = refl }
-
-pub as-type : {a b : List ℕ} {p : ℕ} {t u : Option Rec} {x : MaybeType} → PutMaybe a b p t x → t ≡ u → PutMaybe a b p u x
-as-type w e = rw (← e) w
-
--- what a caller learns from the answer
-pub is-typed : {a b : List ℕ} {p : ℕ} (t : Option Rec) {x : MaybeType} {q : ℕ} → x ≡ Typed q → PutMaybe a b p t x → (r : Rec) × (t ≡ some r) × Put a b p (encode r) q
-is-typed none e w = absurd (let z : Typed _ ≡ Untyped = sym e ∙ w .told in let y : _≡_ {A = ℕ} 0 1 = cc in omega arith)
-is-typed (some r) {q = q} e w = (r, refl, record { bytes = w .bytes; position = (let z = sym e ∙ w .told in cc) })
-
-pub is-untyped : {a b : List ℕ} {p : ℕ} (t : Option Rec) {x : MaybeType} → x ≡ Untyped → PutMaybe a b p t x → (t ≡ none) × (b ≡ a)
-is-untyped none e w = (refl, w .bytes)
-is-untyped (some r) e w = absurd (let z = sym e ∙ w .told in let y : _≡_ {A = ℕ} 0 1 = cc in omega arith)
 
 -- ---- the type of a literal
 
