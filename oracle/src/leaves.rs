@@ -32,8 +32,8 @@ const LONGEST: usize = 4096;
 pub fn stdin(trees: &[Vec<u8>]) -> Vec<u8> {
   let mut bytes = vec![];
   for tree in trees {
-    assert!(tree.len() <= LONGEST);
-    bytes.extend((tree.len() as u16).to_le_bytes());
+    let length = u16::try_from(tree.len()).expect("a small tree");
+    bytes.extend(length.to_le_bytes());
     bytes.extend(tree);
   }
   bytes
@@ -316,6 +316,7 @@ pub fn trees() -> Vec<Vec<u8>> {
   trees.push(b"Mo".to_vec());
   trees.push(rec("Xe", vec![]).encode().expect("a small tree"));
   trees.push([rec("Mo", vec![]).encode().unwrap(), vec![0]].concat());
+  assert!(trees.iter().all(|tree| tree.len() <= LONGEST));
   trees
 }
 

@@ -14,3 +14,4 @@ pub mod notation;
 pub mod notes;
 pub mod part;
 pub mod record;
+pub mod types;

@@ -27,6 +27,7 @@ oracle cases N SEED [--max BYTES] [--limits]
 oracle replay FILE   runs such lines and compares
 oracle tell FILE     the same lines in notation, to be read
 oracle leaves FOLDER
+oracle types FOLDER
     the cases of the program of this name and what it has to print, written to
     the files stdin and stdout in its folder
 TREE is in notation, as 'Mo(Xe(Ar))'; without it bytes come from standard input.";
@@ -70,6 +71,11 @@ fn command(args: &[String]) -> Result<(), String> {
     Some("leaves") => {
       let trees = oracle::leaves::trees();
       let stdout = oracle::leaves::stdout(&trees);
+      program(rest, &oracle::leaves::stdin(&trees), &stdout)
+    }
+    Some("types") => {
+      let trees = oracle::types::trees();
+      let stdout = oracle::types::stdout(&trees);
       program(rest, &oracle::leaves::stdin(&trees), &stdout)
     }
     _ => Err(USAGE.to_string()),
