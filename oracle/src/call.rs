@@ -82,7 +82,7 @@ pub fn transform(
   (encode::module(&module, &notes), diagnostics)
 }
 
-fn diagnostic(from: &FastCheckDtsDiagnostic) -> Diagnostic {
+pub fn diagnostic(from: &FastCheckDtsDiagnostic) -> Diagnostic {
   let digit = match from {
     FastCheckDtsDiagnostic::UnableToInferType { .. } => 1,
     FastCheckDtsDiagnostic::UnableToInferTypeFallbackAny { .. } => 2,

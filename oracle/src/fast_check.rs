@@ -38,4 +38,6 @@ pub mod swc_helpers {
 
 pub mod transform_dts {
   include!(concat!(env!("OUT_DIR"), "/transform_dts.rs"));
+
+  pub mod probe;
 }

@@ -26,6 +26,10 @@ oracle cases N SEED [--max BYTES] [--limits]
     outputs of at most so many bytes; with --limits those at the limits first
 oracle replay FILE   runs such lines and compares
 oracle tell FILE     the same lines in notation, to be read
+oracle leaves FOLDER
+oracle types FOLDER
+    the cases of the program of this name and what it has to print, written to
+    the files stdin and stdout in its folder
 TREE is in notation, as 'Mo(Xe(Ar))'; without it bytes come from standard input.";
 
 fn main() -> ExitCode {
@@ -64,6 +68,16 @@ fn command(args: &[String]) -> Result<(), String> {
     Some("cases") => cases(rest),
     Some("replay") => replay(rest),
     Some("tell") => tell(rest),
+    Some("leaves") => {
+      let trees = oracle::leaves::trees();
+      let stdout = oracle::leaves::stdout(&trees);
+      program(rest, &oracle::leaves::stdin(&trees), &stdout)
+    }
+    Some("types") => {
+      let trees = oracle::types::trees();
+      let stdout = oracle::types::stdout(&trees);
+      program(rest, &oracle::leaves::stdin(&trees), &stdout)
+    }
     _ => Err(USAGE.to_string()),
   }
 }
@@ -199,6 +213,14 @@ fn replay(args: &[String]) -> Result<(), String> {
   }
   println!("cases {}, all as before", lines.len());
   Ok(())
+}
+
+fn program(args: &[String], stdin: &[u8], stdout: &str) -> Result<(), String> {
+  let folder = args.first().ok_or(USAGE.to_string())?;
+  let folder = std::path::Path::new(folder);
+  std::fs::write(folder.join("stdin"), stdin)
+    .and_then(|()| std::fs::write(folder.join("stdout"), stdout))
+    .map_err(|error| error.to_string())
 }
 
 fn tell(args: &[String]) -> Result<(), String> {
