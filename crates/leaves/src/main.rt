@@ -1,0 +1,489 @@
+// The functions of `swc_helpers`, `prescan` and `names` on every record of small trees, and what they give, a line each. Standard input holds
+// the trees, each behind its length in two bytes. What has to be printed comes from the Rust: `oracle leaves`.
+ghost use Rattle.definition.specs.Check.{deepest};
+ghost use Rattle.definition.specs.Children.{AcceptedAt};
+ghost use Rattle.definition.specs.Grammar.{mark};
+ghost use Rattle.definition.specs.Tree.{markAt};
+ghost use mathlib.Core.Path.{_≡_};
+use grammar::Checked;
+use grammar::Refusal;
+use libc::STDIN_FILENO;
+use libc::STDOUT_FILENO;
+use names::Key;
+use prescan::Question;
+use records::marks::AR;
+use records::marks::AS;
+use records::marks::AW;
+use records::marks::AY;
+use records::marks::BI;
+use records::marks::BL;
+use records::marks::BN;
+use records::marks::CA;
+use records::marks::CT;
+use records::marks::CX;
+use records::marks::FT;
+use records::marks::FX;
+use records::marks::ID;
+use records::marks::JT;
+use records::marks::KC;
+use records::marks::KI;
+use records::marks::KW;
+use records::marks::LI;
+use records::marks::MB;
+use records::marks::MI;
+use records::marks::NE;
+use records::marks::NL;
+use records::marks::NN;
+use records::marks::NU;
+use records::marks::OB;
+use records::marks::OC;
+use records::marks::OE;
+use records::marks::OT;
+use records::marks::PR;
+use records::marks::RE;
+use records::marks::RF;
+use records::marks::RO;
+use records::marks::RT;
+use records::marks::SS;
+use records::marks::TA;
+use records::marks::TC;
+use records::marks::TE;
+use records::marks::TF;
+use records::marks::TL;
+use records::marks::TS;
+use records::marks::TU;
+use swc_helpers::DeclMutabilityKind;
+use swc_helpers::Found;
+use swc_helpers::MaybeType;
+use swc_helpers::TsKeywordTypeKind;
+
+// The unresolved context.
+const UNRESOLVED: u32 = 1;
+
+// The longest tree that is read.
+const LONGEST: usize = 4096;
+
+// The most trees that are read.
+const MOST: usize = 65536;
+
+// A tenth of the largest power of ten that a counter holds, and the last counter.
+const TENTH: usize = 1000000000000000000;
+
+const LAST: usize = 0xffff_ffff_ffff_ffff;
+
+fn print(text: &[u8]) {
+    io::write_all(STDOUT_FILENO, text);
+}
+
+// ---- Lines: the record's offset, what was asked, the answer
+
+fn print_label(at: usize, name: &[u8]) {
+    io::print_decimal(STDOUT_FILENO, at as u64);
+    print(b" ");
+    print(name);
+    print(b" ");
+}
+
+fn print_bool(at: usize, name: &[u8], answer: bool) {
+    print_label(at, name);
+    if answer {
+        print(b"yes\n");
+    } else {
+        print(b"no\n");
+    }
+}
+
+fn wide(b: u8) -> u64 {
+    b as u64
+}
+
+fn print_hex(bytes: &[u8]) {
+    let mut i = 0;
+    while i < bytes.len() {
+        io::print_hex(STDOUT_FILENO, wide(bytes[i]), 2);
+        i += 1;
+    }
+}
+
+fn print_bytes(bytes: &[u8]) {
+    print_hex(bytes);
+    print(b"\n");
+}
+
+// What was written in front of the position `end`.
+fn print_front(out: &[u8], end: usize) {
+    if end <= out.len() {
+        print_hex(&out[..end]);
+    }
+}
+
+fn print_written(out: &[u8], end: usize) {
+    print_front(out, end);
+    print(b"\n");
+}
+
+// The record at `at`, as the part of the tree that it fills.
+fn print_record(tree: &[u8], at: usize, left: usize)
+    requires { ⌜ AcceptedAt left (now tree) at ⌝ }
+{
+    print_bytes(records::record_at(tree, at, left));
+}
+
+// ---- Types
+
+fn show_type(tree: &[u8], at: usize, left: usize)
+    requires { ⌜ AcceptedAt left (now tree) at ⌝ }
+{
+    print_bool(at, b"is_array_type", prescan::is_array_type(tree, at, left));
+    let mut out = io::buffer();
+    let end = swc_helpers::ts_readonly(&mut out, 0);
+    print_label(at, b"ts_readonly");
+    print_front(&out, end);
+    print_record(tree, at, left);
+}
+
+// ---- Expressions
+
+fn show_expression(tree: &[u8], at: usize, left: usize)
+    requires { ⌜ AcceptedAt left (now tree) at ⌝ }
+{
+    print_bool(
+        at,
+        b"is_array_lit_init",
+        prescan::is_array_lit_init(tree, at, left),
+    );
+    let symbol = names::is_well_known_symbol_expr(tree, at, left, UNRESOLVED);
+    print_bool(at, b"is_well_known_symbol_expr", symbol);
+}
+
+fn show_literal_as(tree: &[u8], at: usize, left: usize, kind: DeclMutabilityKind)
+    requires { ⌜ AcceptedAt left (now tree) at ⌝ }
+{
+    let mut out = io::buffer();
+    let found = swc_helpers::maybe_lit_to_ts_type(tree, at, left, kind, &mut out, 0);
+    match found {
+        MaybeType::Typed(end) => print_written(&out, end),
+        MaybeType::Untyped => print(b"none\n"),
+    }
+}
+
+fn show_literal(tree: &[u8], at: usize, left: usize)
+    requires { ⌜ AcceptedAt left (now tree) at ⌝ }
+{
+    print_label(at, b"maybe_lit_to_ts_type const");
+    show_literal_as(tree, at, left, DeclMutabilityKind::Const);
+    print_label(at, b"maybe_lit_to_ts_type mutable");
+    show_literal_as(tree, at, left, DeclMutabilityKind::Mutable);
+}
+
+// The record that stands as the key, or over which a computed key is made.
+fn show_key(tree: &[u8], at: usize, left: usize)
+    requires { ⌜ AcceptedAt left (now tree) at ⌝ }
+{
+    print_label(at, b"valid_prop_name");
+    let key = names::valid_prop_name(tree, at, left, UNRESOLVED);
+    match key {
+        Key::Stands(record, below) => {
+            print(b"stands ");
+            print_record(tree, record, below);
+        }
+        Key::Computed(record, below) => {
+            print(b"computed ");
+            print_record(tree, record, below);
+        }
+        Key::Nothing => print(b"none\n"),
+    }
+}
+
+// The literal under a minus and `as const`.
+fn show_negated_number(tree: &[u8], at: usize, left: usize)
+    requires { ⌜ AcceptedAt left (now tree) at × (markAt (now tree) at ≡ mark "Nu") ⌝ }
+{
+    let mut out = io::buffer();
+    let end = swc_helpers::literals::negated_number(tree, at, left, &mut out, 0);
+    print_label(at, b"negated");
+    print_written(&out, end);
+}
+
+fn show_negated_bigint(tree: &[u8], at: usize, left: usize)
+    requires { ⌜ AcceptedAt left (now tree) at × (markAt (now tree) at ≡ mark "Bi") ⌝ }
+{
+    let mut out = io::buffer();
+    let end = swc_helpers::literals::negated_bigint(tree, at, left, &mut out, 0);
+    print_label(at, b"negated");
+    print_written(&out, end);
+}
+
+fn show_template_as(tree: &[u8], at: usize, left: usize, kind: DeclMutabilityKind)
+    requires { ⌜ AcceptedAt left (now tree) at ⌝ }
+{
+    let mut out = io::buffer();
+    let end = swc_helpers::tpl_to_ts_type(tree, at, left, kind, &mut out, 0);
+    print_written(&out, end);
+}
+
+fn show_template(tree: &[u8], at: usize, left: usize)
+    requires { ⌜ AcceptedAt left (now tree) at ⌝ }
+{
+    print_label(at, b"tpl_to_ts_type const");
+    show_template_as(tree, at, left, DeclMutabilityKind::Const);
+    print_label(at, b"tpl_to_ts_type mutable");
+    show_template_as(tree, at, left, DeclMutabilityKind::Mutable);
+}
+
+fn show_call(tree: &[u8], at: usize, left: usize)
+    requires { ⌜ AcceptedAt left (now tree) at × (markAt (now tree) at ≡ mark "Ca") ⌝ }
+{
+    print_label(at, b"object_freeze_call_arg");
+    let found = swc_helpers::object_freeze_call_arg(tree, at, left, UNRESOLVED);
+    match found {
+        Found::At(arg) => print_record(tree, arg, left - 1),
+        Found::Nothing => print(b"none\n"),
+    }
+}
+
+// ---- Identifiers: the three questions, and the types that are made of a name
+
+fn show_questions(tree: &[u8], at: usize, left: usize)
+    requires { ⌜ AcceptedAt left (now tree) at ⌝ }
+    requires { ⌜ AcceptedAt deepest (now tree) 0 ⌝ }
+{
+    let safe = prescan::asked(tree, at, left, Question::TypeofSafe);
+    print_bool(at, b"typeof_safe", safe);
+    let class = prescan::asked(tree, at, left, Question::NonGenericClass);
+    print_bool(at, b"non_generic_class", class);
+    let array = prescan::asked(tree, at, left, Question::ArrayTyped);
+    print_bool(at, b"array_typed", array);
+}
+
+fn show_type_ref(tree: &[u8], at: usize, left: usize)
+    requires { ⌜ AcceptedAt left (now tree) at × (markAt (now tree) at ≡ mark "Id") ⌝ }
+{
+    let mut out = io::buffer();
+    let end = swc_helpers::type_ref(records::text::symbol_at(tree, at), &mut out, 0);
+    print_label(at, b"type_ref");
+    print_written(&out, end);
+}
+
+fn show_query(tree: &[u8], at: usize, left: usize)
+    requires { ⌜ AcceptedAt left (now tree) at ⌝ }
+{
+    let mut out = io::buffer();
+    let end = swc_helpers::ts_type_query(tree, at, left, &mut out, 0);
+    print_label(at, b"ts_type_query");
+    print_written(&out, end);
+}
+
+fn show_reference(tree: &[u8], at: usize, left: usize)
+    requires { ⌜ AcceptedAt left (now tree) at ⌝ }
+{
+    let mut out = io::buffer();
+    let end = swc_helpers::reference_to(tree, at, left, &mut out, 0);
+    print_label(at, b"reference_to");
+    print_written(&out, end);
+}
+
+// The tuple's element that a spread of the name becomes.
+fn show_rest(tree: &[u8], at: usize, left: usize)
+    requires { ⌜ AcceptedAt left (now tree) at ⌝ }
+{
+    let mut out = io::buffer();
+    let p = swc_helpers::ts_tuple_element(&mut out, 0);
+    let q = swc_helpers::ts_rest_type(&mut out, p);
+    let end = swc_helpers::ts_type_query(tree, at, left, &mut out, q);
+    print_label(at, b"ts_rest_type");
+    print_written(&out, end);
+}
+
+fn show_identifier(tree: &[u8], at: usize, left: usize)
+    requires { ⌜ AcceptedAt left (now tree) at × (markAt (now tree) at ≡ mark "Id") ⌝ }
+    requires { ⌜ AcceptedAt deepest (now tree) 0 ⌝ }
+{
+    show_questions(tree, at, left);
+    show_type_ref(tree, at, left);
+    show_query(tree, at, left);
+    show_reference(tree, at, left);
+    show_rest(tree, at, left);
+}
+
+// ---- Trees
+
+fn mark_of(tree: &[u8], at: usize, left: usize) -> u16
+    requires { ⌜ AcceptedAt left (now tree) at ⌝ }
+    ensures { λ r. ⌜ r ≡ markAt (now (tree .entry)) at ⌝ }
+{
+    records::mark_at(tree, at)
+}
+
+// The lines of the record at `at`, by its mark.
+fn show_record(tree: &[u8], at: usize, left: usize)
+    requires { ⌜ AcceptedAt left (now tree) at ⌝ }
+    requires { ⌜ AcceptedAt deepest (now tree) 0 ⌝ }
+{
+    match mark_of(tree, at, left) {
+        KI | KC => show_key(tree, at, left),
+        SS => {
+            show_expression(tree, at, left);
+            show_literal(tree, at, left);
+            show_key(tree, at, left);
+        }
+        NU => {
+            show_expression(tree, at, left);
+            show_literal(tree, at, left);
+            show_key(tree, at, left);
+            show_negated_number(tree, at, left);
+        }
+        BI => {
+            show_expression(tree, at, left);
+            show_literal(tree, at, left);
+            show_key(tree, at, left);
+            show_negated_bigint(tree, at, left);
+        }
+        BL | NL | RE | JT => {
+            show_expression(tree, at, left);
+            show_literal(tree, at, left);
+        }
+        ID => {
+            show_expression(tree, at, left);
+            show_identifier(tree, at, left);
+        }
+        TE => {
+            show_expression(tree, at, left);
+            show_template(tree, at, left);
+        }
+        CA => {
+            show_expression(tree, at, left);
+            show_call(tree, at, left);
+        }
+        AR | OB | FX | AW | MI | NE | MB | BN | OC | TC | NN | PR | AS | TS | TA | CX | OE => {
+            show_expression(tree, at, left);
+        }
+        KW | TL | RF | TF | LI | AY | TU | RT | RO | FT | CT | OT => show_type(tree, at, left),
+        _ => {}
+    }
+}
+
+// The lines of the record at `at` and of all below it.
+fn show_all(tree: &[u8], at: usize, left: usize)
+    requires { ⌜ AcceptedAt left (now tree) at ⌝ }
+    requires { ⌜ AcceptedAt deepest (now tree) 0 ⌝ }
+{
+    show_record(tree, at, left);
+    let mut n = records::count_at(tree, at);
+    let mut kid = records::body_at(tree, at);
+    while 0 < n {
+        show_all(tree, kid, left - 1);
+        kid = records::record_end(tree, kid, left - 1);
+        n -= 1;
+    }
+}
+
+fn show_refusal(refusal: Refusal, place: usize) {
+    print(b"refused ");
+    io::print_decimal(STDOUT_FILENO, grammar::number_of(refusal) as u64);
+    print(b" at ");
+    io::print_decimal(STDOUT_FILENO, place as u64);
+    print(b"\n");
+}
+
+fn show_tree(tree: &[u8]) {
+    let none = [0u8; 1];
+    let found = grammar::check_tree(tree, &none[..0]);
+    match found {
+        Checked::Fine(end) => {
+            print(b"accepted\n");
+            show_all(tree, 0, records::DEEPEST);
+        }
+        Checked::Refused(refusal, place) => show_refusal(refusal, place),
+    }
+}
+
+// `gen_unique_name`, where the counter becomes this number.
+fn show_name(counter: usize) {
+    let mut out = io::buffer();
+    let end = names::unique::gen_unique_name(counter, &mut out, 0);
+    if end <= out.len() {
+        print(&out[..end]);
+    }
+}
+
+// The next tree of the input, with its name; false where there is none.
+fn next_tree(number: usize) -> bool {
+    let mut length = [0u8; 2];
+    let got = io::read_full(STDIN_FILENO, &mut length);
+    if got < 2 {
+        return false;
+    }
+    let n = records::u16_at(&length, 0) as usize;
+    if LONGEST < n {
+        return false;
+    }
+    let mut buffer = io::buffer();
+    let m = io::read_full(STDIN_FILENO, &mut buffer[..n]);
+    if m < n {
+        return false;
+    }
+    show_name(number);
+    print(b" ");
+    show_tree(&buffer[..n]);
+    true
+}
+
+// ---- What depends on no tree
+
+fn show_keyword(kind: TsKeywordTypeKind, name: &[u8]) {
+    let mut out = io::buffer();
+    let end = swc_helpers::ts_keyword_type(kind, &mut out, 0);
+    print(name);
+    print_written(&out, end);
+}
+
+fn show_constants() {
+    show_keyword(TsKeywordTypeKind::TsAnyKeyword, b"any ");
+    show_keyword(TsKeywordTypeKind::TsNumberKeyword, b"number ");
+    show_keyword(TsKeywordTypeKind::TsBooleanKeyword, b"boolean ");
+    show_keyword(TsKeywordTypeKind::TsBigIntKeyword, b"bigint ");
+    show_keyword(TsKeywordTypeKind::TsStringKeyword, b"string ");
+    show_keyword(TsKeywordTypeKind::TsUndefinedKeyword, b"undefined ");
+    show_keyword(TsKeywordTypeKind::TsNullKeyword, b"null ");
+    let mut out = io::buffer();
+    let any = swc_helpers::any_type_ann(&mut out, 0);
+    print(b"any_type_ann ");
+    print_written(&out, any);
+    let regex = swc_helpers::regex_type(&mut out, 0);
+    print(b"regex_type ");
+    print_written(&out, regex);
+}
+
+fn show_line_of_name(counter: usize) {
+    show_name(counter);
+    print(b"\n");
+}
+
+// The names around the powers of ten, and the last one.
+fn show_large_names() {
+    let mut power: usize = 1;
+    while power <= TENTH {
+        power = power * 10;
+        show_line_of_name(power - 1);
+        show_line_of_name(power);
+    }
+    show_line_of_name(LAST);
+}
+
+// Shows the trees that are in the input, at most so many.
+fn show_trees() {
+    let mut number: usize = 1;
+    while number <= MOST {
+        if !next_tree(number) {
+            return;
+        }
+        number += 1;
+    }
+}
+
+fn main() {
+    show_constants();
+    show_trees();
+    show_large_names();
+}

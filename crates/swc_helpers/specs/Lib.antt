@@ -1,0 +1,3 @@
+pub mod Literal
+pub mod Made
+pub mod Found
