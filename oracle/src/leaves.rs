@@ -134,20 +134,16 @@ impl Show<'_> {
   fn record(&mut self, r: &Rec) {
     match r.mark() {
       "Ki" | "Kc" => self.key(r),
-      "Ss" => {
+      "Ss" | "Nu" | "Bi" => {
         self.expression(r);
         self.literal(r);
+        self.minus(r);
         self.key(r);
-      }
-      "Nu" | "Bi" => {
-        self.expression(r);
-        self.literal(r);
-        self.key(r);
-        self.negated(r);
       }
       "Bl" | "Nl" | "Re" | "Jt" => {
         self.expression(r);
         self.literal(r);
+        self.minus(r);
       }
       "Id" => {
         self.expression(r);
@@ -196,14 +192,18 @@ impl Show<'_> {
     }
   }
 
-  /// The type of the literal under a minus and `as const`.
-  fn negated(&mut self, r: &Rec) {
+  /// The type of the literal under a minus.
+  fn minus(&mut self, r: &Rec) {
     let part::Part { node, notes } =
       part::expression(&rec("Mi", vec![r.clone()]));
-    let typing =
-      probe::expr_to_ts_type(self.module, context(), node, true, false);
-    let ty = typing.ty.expect("a number has a type");
-    self.line("negated", &type_bytes(ty, &notes));
+    for (word, as_const) in [("const", true), ("mutable", false)] {
+      let expr = node.clone();
+      let typing =
+        probe::expr_to_ts_type(self.module, context(), expr, as_const, false);
+      let ty = typing.ty.map(|ty| type_bytes(ty, &notes));
+      let ty = ty.unwrap_or("none".to_string());
+      self.line("minus_lit_to_ts_type", &format!("{word} {ty}"));
+    }
   }
 
   fn template(&mut self, r: &Rec) {
