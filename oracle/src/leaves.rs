@@ -134,20 +134,16 @@ impl Show<'_> {
   fn record(&mut self, r: &Rec) {
     match r.mark() {
       "Ki" | "Kc" => self.key(r),
-      "Ss" => {
+      "Ss" | "Nu" | "Bi" => {
         self.expression(r);
         self.literal(r);
+        self.minus(r);
         self.key(r);
-      }
-      "Nu" | "Bi" => {
-        self.expression(r);
-        self.literal(r);
-        self.key(r);
-        self.negated(r);
       }
       "Bl" | "Nl" | "Re" | "Jt" => {
         self.expression(r);
         self.literal(r);
+        self.minus(r);
       }
       "Id" => {
         self.expression(r);
@@ -196,14 +192,18 @@ impl Show<'_> {
     }
   }
 
-  /// The type of the literal under a minus and `as const`.
-  fn negated(&mut self, r: &Rec) {
+  /// The type of the literal under a minus.
+  fn minus(&mut self, r: &Rec) {
     let part::Part { node, notes } =
       part::expression(&rec("Mi", vec![r.clone()]));
-    let typing =
-      probe::expr_to_ts_type(self.module, context(), node, true, false);
-    let ty = typing.ty.expect("a number has a type");
-    self.line("negated", &type_bytes(ty, &notes));
+    for (word, as_const) in [("const", true), ("mutable", false)] {
+      let expr = node.clone();
+      let typing =
+        probe::expr_to_ts_type(self.module, context(), expr, as_const, false);
+      let ty = typing.ty.map(|ty| type_bytes(ty, &notes));
+      let ty = ty.unwrap_or("none".to_string());
+      self.line("minus_lit_to_ts_type", &format!("{word} {ty}"));
+    }
   }
 
   fn template(&mut self, r: &Rec) {
@@ -293,6 +293,22 @@ fn typed_where_declared(id: &Rec, expr: Rec) -> Rec {
 
 /// The trees: hand-picked ones for every arm, and random ones.
 pub fn trees() -> Vec<Vec<u8>> {
+  let mut trees = hand_picked();
+  trees.extend(random_trees(150, 5, 260));
+  // Refused: cut short, no module, a byte too many.
+  trees.push(b"Mo".to_vec());
+  trees.push(rec("Xe", vec![]).encode().expect("a small tree"));
+  trees.push([rec("Mo", vec![]).encode().unwrap(), vec![0]].concat());
+  assert!(trees.iter().all(|tree| tree.len() <= LONGEST));
+  trees
+}
+
+/// As many random trees, for a longer comparison.
+pub fn more_trees(count: usize, seed: u64) -> Vec<Vec<u8>> {
+  random_trees(count, seed, LONGEST)
+}
+
+fn hand_picked() -> Vec<Vec<u8>> {
   let mut texts = vec![];
   for ty in types() {
     texts.push(format!("Mo(Xe(As(Oe {ty})))"));
@@ -301,7 +317,7 @@ pub fn trees() -> Vec<Vec<u8>> {
     texts.push(format!("Mo(Xe(Ob(Kv(Kc({expr}) Oe))))"));
   }
   texts.extend(MODULES.iter().map(|text| text.to_string()));
-  let mut trees: Vec<Vec<u8>> = texts
+  texts
     .iter()
     .map(|text| {
       let tree =
@@ -310,14 +326,7 @@ pub fn trees() -> Vec<Vec<u8>> {
       assert_eq!(check(&bytes, &[]), Ok(()), "{text}");
       bytes
     })
-    .collect();
-  trees.extend(random_trees(150, 5, 260));
-  // Refused: cut short, no module, a byte too many.
-  trees.push(b"Mo".to_vec());
-  trees.push(rec("Xe", vec![]).encode().expect("a small tree"));
-  trees.push([rec("Mo", vec![]).encode().unwrap(), vec![0]].concat());
-  assert!(trees.iter().all(|tree| tree.len() <= LONGEST));
-  trees
+    .collect()
 }
 
 /// Accepted random trees with the programs' unresolved context, of at most so
@@ -438,7 +447,7 @@ fn expressions() -> Vec<String> {
   list
 }
 
-const EXPRESSIONS: [&str; 90] = [
+const EXPRESSIONS: [&str; 96] = [
   // Literals, with flags and raw spellings.
   "Ss\"\"",
   "Ss\"s\"",
@@ -495,6 +504,12 @@ const EXPRESSIONS: [&str; 90] = [
   "Mi(Nu=2)",
   "Mi(Bi=0)",
   "Mi(Id#2\"a\")",
+  "Aw(No No)",
+  "Bn(Ss\"s\" Ss\"t\")",
+  "Cx(No Cl(No))",
+  "Fx(No Fu(No No No))",
+  "Ne(Id#2\"a\" No)",
+  "Ob",
   // Templates.
   "Te",
   "Te(Op)",

@@ -6,12 +6,14 @@ use std::process::ExitCode;
 
 use oracle::call::Answer;
 use oracle::call::call;
+use oracle::leaves;
 use oracle::lines;
 use oracle::measure::count;
 use oracle::measure::numbered;
 use oracle::measure::twice;
 use oracle::notation;
 use oracle::record::Rec;
+use oracle::types;
 
 const USAGE: &str = "\
 oracle run [--list HEX] [--context N] [--out N] [--diagnostics N] [TREE]
@@ -26,10 +28,10 @@ oracle cases N SEED [--max BYTES] [--limits]
     outputs of at most so many bytes; with --limits those at the limits first
 oracle replay FILE   runs such lines and compares
 oracle tell FILE     the same lines in notation, to be read
-oracle leaves FOLDER
-oracle types FOLDER
+oracle leaves FOLDER [N SEED]
+oracle types FOLDER [N SEED]
     the cases of the program of this name and what it has to print, written to
-    the files stdin and stdout in its folder
+    the files stdin and stdout in its folder; or those of N random trees
 TREE is in notation, as 'Mo(Xe(Ar))'; without it bytes come from standard input.";
 
 fn main() -> ExitCode {
@@ -69,14 +71,18 @@ fn command(args: &[String]) -> Result<(), String> {
     Some("replay") => replay(rest),
     Some("tell") => tell(rest),
     Some("leaves") => {
-      let trees = oracle::leaves::trees();
-      let stdout = oracle::leaves::stdout(&trees);
-      program(rest, &oracle::leaves::stdin(&trees), &stdout)
+      let trees = match rest.get(1) {
+        None => leaves::trees(),
+        count => leaves::more_trees(number(count)?, number(rest.get(2))?),
+      };
+      program(rest, &leaves::stdin(&trees), &leaves::stdout(&trees))
     }
     Some("types") => {
-      let trees = oracle::types::trees();
-      let stdout = oracle::types::stdout(&trees);
-      program(rest, &oracle::leaves::stdin(&trees), &stdout)
+      let trees = match rest.get(1) {
+        None => types::trees(),
+        count => types::more_trees(number(count)?, number(rest.get(2))?),
+      };
+      program(rest, &leaves::stdin(&trees), &types::stdout(&trees))
     }
     _ => Err(USAGE.to_string()),
   }

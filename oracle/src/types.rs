@@ -110,6 +110,22 @@ pub fn trees() -> Vec<Vec<u8>> {
   trees
 }
 
+/// As many random trees, for a longer comparison. Those whose types are longer
+/// than the program's buffers are left out.
+pub fn more_trees(count: usize, seed: u64) -> Vec<Vec<u8>> {
+  let mut trees = random_trees(count, seed, 4096);
+  trees.retain(|tree| {
+    types_much(tree) && longest_type(&stdout(&[tree.clone()])) <= 4096
+  });
+  trees
+}
+
+/// The most bytes of a type in these lines.
+fn longest_type(lines: &str) -> usize {
+  let types = lines.lines().filter_map(|line| line.strip_prefix("type="));
+  types.map(|digits| digits.len() / 2).max().unwrap_or(0)
+}
+
 fn bytes_of(tree: Rec, text: &str) -> Vec<u8> {
   let bytes = tree.encode().expect("a small tree");
   assert_eq!(check(&bytes, &[]), Ok(()), "{text}");

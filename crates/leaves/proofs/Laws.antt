@@ -1,7 +1,7 @@
 -- The records that the program hands on are accepted. Assumes nothing.
-use mathlib.Core.Path.{_≡_, refl, ap}
+use mathlib.Core.Path.{_≡_, ap}
 use mathlib.Core.List.{List}
-use mathlib.Core.Bool.{Bool, true, false}
+use mathlib.Core.Bool.{true}
 use Prim.Native.Nat.{ℕ, _-_, _<_, _≤_}
 use native.Mathlib.Omega.{arith}
 use Rattle.definition.specs.Tree.{Recs, nil, cons, count, countAt, bodyAt, endAt, treeAt}
@@ -14,6 +14,7 @@ use Rattle.definition.proofs.Kids.{kids-are}
 use Rattle.records.specs.Whole.{Whole}
 use Rattle.records.proofs.Whole.{accepted-whole}
 use Rattle.swc_helpers.specs.Found.{foundIf}
+use Rattle.swc_helpers.proofs.Answers.{is-found}
 use Rattle.swc_helpers.specs.declared.Found.the-variants.{At}
 
 -- an accepted record lies in the tree, as `record_at` and `record_end` ask
@@ -35,16 +36,12 @@ two-at-least unresolved (cons c (cons r rs)) e = omega arith
 -- where one was found, it is the second child
 pub argument : (left : ℕ) (s : List ℕ) (at unresolved x : ℕ) → AcceptedAt left s at →
     At x ≡ foundIf (objectFreezeCallArg unresolved (kidsOf (treeAt left s at))) (childAt left s at 1) → AcceptedAt (left - 1) s x
-argument left s at unresolved x a = go (objectFreezeCallArg unresolved (kidsOf (treeAt left s at))) refl
-  where
-    there : objectFreezeCallArg unresolved (kidsOf (treeAt left s at)) ≡ true → 1 < countAt s at
-    there e = omega (
+argument left s at unresolved x a f =
+    let found = is-found (objectFreezeCallArg unresolved (kidsOf (treeAt left s at))) x (childAt left s at 1) f in
+    let there : 1 < countAt s at = omega (
       arith,
-      two-at-least unresolved (kidsOf (treeAt left s at)) e,
+      two-at-least unresolved (kidsOf (treeAt left s at)) (found .0),
       ap count (kids-are left s at a),
       count-readAll (treeAt (left - 1) s) (endAt (left - 1) s) (countAt s at) (bodyAt s at),
-    )
-
-    go : (b : Bool) → objectFreezeCallArg unresolved (kidsOf (treeAt left s at)) ≡ b → At x ≡ foundIf b (childAt left s at 1) → AcceptedAt (left - 1) s x
-    go true e f = let z : x ≡ childAt left s at 1 = cc in rw z (child left s at a 1 (there e))
-    go false e f = absurd (let z : _≡_ {A = ℕ} 0 1 = cc in omega arith)
+    ) in
+    rw (found .1) (child left s at a 1 there)

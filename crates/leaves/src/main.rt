@@ -195,23 +195,25 @@ fn show_key(tree: &[u8], at: usize, left: usize)
     }
 }
 
-// The literal under a minus and `as const`.
-fn show_negated_number(tree: &[u8], at: usize, left: usize)
-    requires { ⌜ AcceptedAt left (now tree) at × (markAt (now tree) at ≡ mark "Nu") ⌝ }
+// The literal under a minus.
+fn show_minus_as(tree: &[u8], at: usize, left: usize, kind: DeclMutabilityKind)
+    requires { ⌜ AcceptedAt left (now tree) at ⌝ }
 {
     let mut out = io::buffer();
-    let end = swc_helpers::literals::negated_number(tree, at, left, &mut out, 0);
-    print_label(at, b"negated");
-    print_written(&out, end);
+    let found = swc_helpers::minus_lit_to_ts_type(tree, at, left, kind, &mut out, 0);
+    match found {
+        MaybeType::Typed(end) => print_written(&out, end),
+        MaybeType::Untyped => print(b"none\n"),
+    }
 }
 
-fn show_negated_bigint(tree: &[u8], at: usize, left: usize)
-    requires { ⌜ AcceptedAt left (now tree) at × (markAt (now tree) at ≡ mark "Bi") ⌝ }
+fn show_minus(tree: &[u8], at: usize, left: usize)
+    requires { ⌜ AcceptedAt left (now tree) at ⌝ }
 {
-    let mut out = io::buffer();
-    let end = swc_helpers::literals::negated_bigint(tree, at, left, &mut out, 0);
-    print_label(at, b"negated");
-    print_written(&out, end);
+    print_label(at, b"minus_lit_to_ts_type const");
+    show_minus_as(tree, at, left, DeclMutabilityKind::Const);
+    print_label(at, b"minus_lit_to_ts_type mutable");
+    show_minus_as(tree, at, left, DeclMutabilityKind::Mutable);
 }
 
 fn show_template_as(tree: &[u8], at: usize, left: usize, kind: DeclMutabilityKind)
@@ -322,26 +324,16 @@ fn show_record(tree: &[u8], at: usize, left: usize)
 {
     match mark_of(tree, at, left) {
         KI | KC => show_key(tree, at, left),
-        SS => {
+        SS | NU | BI => {
             show_expression(tree, at, left);
             show_literal(tree, at, left);
+            show_minus(tree, at, left);
             show_key(tree, at, left);
-        }
-        NU => {
-            show_expression(tree, at, left);
-            show_literal(tree, at, left);
-            show_key(tree, at, left);
-            show_negated_number(tree, at, left);
-        }
-        BI => {
-            show_expression(tree, at, left);
-            show_literal(tree, at, left);
-            show_key(tree, at, left);
-            show_negated_bigint(tree, at, left);
         }
         BL | NL | RE | JT => {
             show_expression(tree, at, left);
             show_literal(tree, at, left);
+            show_minus(tree, at, left);
         }
         ID => {
             show_expression(tree, at, left);
