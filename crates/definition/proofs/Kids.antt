@@ -185,17 +185,21 @@ inside-ag ps = go (isProperty ps)
 
 -- ---- the children of an accepted record
 
--- its child with the number i is there, is accepted, is the tree's child, and has one of the marks S
-pub record Child (left : ℕ) (s : List ℕ) (at i : ℕ) (S : String) : Type 0 where
+-- its child with the number i is there, stands at p, is accepted, is the tree's child, and has one of the marks S
+pub record Child (left : ℕ) (s : List ℕ) (at i p : ℕ) (S : String) : Type 0 where
   pub there : i < countAt s at
-  pub accepted : AcceptedAt (left - 1) s (childAt left s at i)
-  pub tree : kid i (kidsOf (treeAt left s at)) ≡ treeAt (left - 1) s (childAt left s at i)
-  pub marks : member (markAt s (childAt left s at i)) (marks S) ≡ true
+  pub accepted : AcceptedAt (left - 1) s p
+  pub tree : kid i (kidsOf (treeAt left s at)) ≡ treeAt (left - 1) s p
+  pub marks : member (markAt s p) (marks S) ≡ true
+
+-- the same by another name of its place, as a call returns it
+pub placed : {left : ℕ} {s : List ℕ} {at i p : ℕ} {S : String} → Child left s at i p S → {q : ℕ} → q ≡ p → Child left s at i q S
+placed {left} {s} {at} {i} {p} {S} c e = subst (λ (k : ℕ). Child left s at i k S) (sym e) c
 
 -- the same with a larger set: `wider c T refl`, with the line `unfolding marks member`
-pub wider : {left : ℕ} {s : List ℕ} {at i : ℕ} {S : String} → Child left s at i S → (T : String) → contained (marks S) (marks T) ≡ true → Child left s at i T
-wider {left} {s} {at} {i} {S} c T w =
-    record { there = c .there; accepted = c .accepted; tree = c .tree; marks = member-wider (markAt s (childAt left s at i)) (marks S) (marks T) w (c .marks) }
+pub wider : {left : ℕ} {s : List ℕ} {at i p : ℕ} {S : String} → Child left s at i p S → (T : String) → contained (marks S) (marks T) ≡ true → Child left s at i p T
+wider {left} {s} {at} {i} {p} {S} c T w =
+    record { there = c .there; accepted = c .accepted; tree = c .tree; marks = member-wider (markAt s p) (marks S) (marks T) w (c .marks) }
 
 module _ (left : ℕ) (s : List ℕ) (at : ℕ) (a : AcceptedAt left s at) where
   pub kids-are : kidsOf (treeAt left s at) ≡ readAll (treeAt (left - 1) s) (endAt (left - 1) s) (countAt s at) (bodyAt s at)
@@ -215,7 +219,7 @@ module _ (left : ℕ) (s : List ℕ) (at : ℕ) (a : AcceptedAt left s at) where
   apart : Accepted (left - 1) s at (a .slots) (a .past)
   apart = accepted (left - 1) s at (a .slots) (a .past) (subst (λ (k : ℕ). checkAt k s at (a .slots) ≡ fine (a .past)) (some-left left s at a) (a .checked))
 
-  slot-in : (qs : List Part) → inside (a .slots) (markAt s at) ≡ qs → (i : ℕ) (S : String) → fixed qs i ≡ some S → i < countAt s at → Child left s at i S
+  slot-in : (qs : List Part) → inside (a .slots) (markAt s at) ≡ qs → (i : ℕ) (S : String) → fixed qs i ≡ some S → i < countAt s at → Child left s at i (childAt left s at i) S
   slot-in qs q i S f h =
       let p : ℕ = childAt left s at i in
       let c : AcceptedAt (left - 1) s p = record {
@@ -230,23 +234,33 @@ module _ (left : ℕ) (s : List ℕ) (at : ℕ) (a : AcceptedAt left s at) where
         marks = fixed-allowed (endAt (left - 1) s) s qs (bodyAt s at) i (markAt s p) S f (rw (sym q) (itself (left - 1) s p c .slot));
       }
 
-  -- the child at a slot that the row of its mark fixes: `child-in (mark "Ro") e refl 0 type refl`, with the line
+  -- the child at a slot that the row of its mark fixes: `child-in (mark "Ft") e refl 1 type refl`, with the line
   -- `unfolding grammar known slots place fixed`
-  pub child-in : (m : ℕ) → markAt s at ≡ m → eqb m (mark "Ag") ≡ false → (i : ℕ) (S : String) → fixed (slotsOf m) i ≡ some S → Child left s at i S
+  pub child-in : (m : ℕ) → markAt s at ≡ m → eqb m (mark "Ag") ≡ false → (i : ℕ) (S : String) → fixed (slotsOf m) i ≡ some S → Child left s at i (childAt left s at i) S
   child-in m e n i S f =
       slot-in (slotsOf m) (ap (inside (a .slots)) e ∙ inside-plain (a .slots) m (eqb-false m (mark "Ag") n)) i S f
       (let l = fixed-least (slotsOf m) i S f in let k = at-least m e (least (slotsOf m)) refl in omega (arith, l, k))
 
+  -- the first child stands where the children begin, and the second where the first ends
+  pub first-in : (m : ℕ) → markAt s at ≡ m → eqb m (mark "Ag") ≡ false → (S : String) → fixed (slotsOf m) 0 ≡ some S → Child left s at 0 (bodyAt s at) S
+  unfolding endOfAll
+  first-in m e n S f = child-in m e n 0 S f
+
+  pub second-in : (m : ℕ) → markAt s at ≡ m → eqb m (mark "Ag") ≡ false → (S : String) → fixed (slotsOf m) 1 ≡ some S →
+      Child left s at 1 (endAt (left - 1) s (bodyAt s at)) S
+  unfolding endOfAll
+  second-in m e n S f = child-in m e n 1 S f
+
   -- the same for an Ag, wherever it stands: its left side and its right side
-  pub left-of : markAt s at ≡ mark "Ag" → Child left s at 0 pattern
-  unfolding grammar known slots place fixed least marks member
+  pub left-of : markAt s at ≡ mark "Ag" → Child left s at 0 (bodyAt s at) pattern
+  unfolding endOfAll grammar known slots place fixed least marks member
   left-of e = ⊎-elim
       (λ q. wider (slot-in undestructured (ap (inside (a .slots)) e ∙ q) 0 "Bd Rs Ag Pe Pi" refl (omega (arith, at-least (mark "Ag") e 2 refl))) pattern refl)
       (λ q. slot-in (slotsOf (mark "Ag")) (ap (inside (a .slots)) e ∙ q) 0 pattern refl (omega (arith, at-least (mark "Ag") e 2 refl)))
       (inside-ag (a .slots))
 
-  pub right-of : markAt s at ≡ mark "Ag" → Child left s at 1 expression
-  unfolding grammar known slots place fixed least
+  pub right-of : markAt s at ≡ mark "Ag" → Child left s at 1 (endAt (left - 1) s (bodyAt s at)) expression
+  unfolding endOfAll grammar known slots place fixed least
   right-of e = ⊎-elim
       (λ q. slot-in undestructured (ap (inside (a .slots)) e ∙ q) 1 expression refl (omega (arith, at-least (mark "Ag") e 2 refl)))
       (λ q. slot-in (slotsOf (mark "Ag")) (ap (inside (a .slots)) e ∙ q) 1 expression refl (omega (arith, at-least (mark "Ag") e 2 refl)))
