@@ -1,0 +1,3 @@
+pub mod Counter
+pub mod Readonly
+pub mod Steps

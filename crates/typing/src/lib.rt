@@ -1,0 +1,40 @@
+// The types of expressions: `expr_to_ts_type`, `pat_to_ts_fn_param`, `ident_to_ts_type` and `readonly_of`. A type is written at a position of
+// the output and diagnostics at a position of theirs, as far as there is room; a typing that fails goes back to its position in the output.
+
+ghost use mathlib.Core.Path.{_≡_};
+ghost use Rattle.typing.specs.Did.{backTo};
+
+// Where a typing stands: the positions in the output and in the diagnostics, the name counter, and whether every text that was written fits
+// the two bytes of its length.
+pub struct State {
+    pub p: usize,
+    pub d: usize,
+    pub n: usize,
+    pub fits: bool,
+}
+
+// `Option<TsType>`: whether there is a type, and where the typing stands behind it.
+pub enum Typed {
+    Some(State),
+    None(State),
+}
+
+// How an expression is typed: the unresolved context, `as_const` and `as_readonly` of the Rust, and whether `readonly_of` the type is wanted.
+pub struct Mode {
+    pub unresolved: u32,
+    pub as_const: bool,
+    pub as_readonly: bool,
+    pub frozen: bool,
+}
+
+// Back to where a typing that failed began: its diagnostics and its names stay.
+fn back(s: State, next: State) -> State
+    ensures { λ r. ⌜ r ≡ backTo s next ⌝ }
+{
+    State {
+        p: s.p,
+        d: next.d,
+        n: next.n,
+        fits: s.fits,
+    }
+}
