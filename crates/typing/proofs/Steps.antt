@@ -10,13 +10,18 @@ use lib.ListN.{length, length-append}
 use lib.Seq.{sets}
 use Rattle.definition.specs.Tree.{Rec, encode}
 use Rattle.definition.specs.Record.{given, Diag, diagBytes, diagsBytes, Out, onValue}
-use Rattle.definition.specs.Transform.{textsFit}
+use Rattle.definition.specs.Helpers.{anyTypeAnn}
+use Rattle.definition.specs.Typing.{orAny}
+use Rattle.definition.specs.Transform.{textsFit, allTextsFit}
+use Rattle.records.specs.declared.Head.{Head as Fields}
+use Rattle.records.specs.Fields as Fields'
+use Rattle.records.specs.Fields.{fieldsAt}
 use Rattle.records.specs.Wrote.{top, sat, Put, Ran}
 use Rattle.records.proofs.Wrote.{put-wrote, ran-none, ran-out, ran-dia, ran-then, ran-back, ran-lower, ran-front, ran-as}
 use Rattle.typing.specs.declared.State.{State}
 use Rattle.typing.specs.declared.Typed.{Typed}
 use Rattle.typing.specs.declared.Typed.the-variants.{Some, None}
-use Rattle.typing.specs.Did.{Step, answerOf, bytesOf, fitOf, Did, movedTo, markedTo, backTo}
+use Rattle.typing.specs.Did.{diagAt, Puts, Marks, Step, answerOf, bytesOf, fitOf, Did, Filled, movedTo, markedTo, backTo}
 
 -- ---- bits of arithmetic
 
@@ -141,3 +146,52 @@ module _ {o o1 o2 g g1 g2 : List ℕ} {s s1 s2 : State} {F : List ℕ} {f : Bool
   wrap-none h {x} w =
       did-as (did-none (step-back h (step-then front (w .step))))
       (λ i. (given (sym (w .same) i) none (λ t. some (W t)), x .1, x .2))
+
+-- ---- what the smaller functions do, as steps
+
+pub step-puts : {o o' : List ℕ} (g : List ℕ) {s s' : State} {E : List ℕ} {f : Bool} → Puts o o' s s' E f → s .d ≤ top → Step o o' g g s s' E [] (s .n) f
+unfolding diagsBytes
+step-puts g {s} {s'} w h = record {
+  ran = let e : s' .d ≡ s .d = ap (λ (x : State). x .d) (w .same) in rw e (ran-out g (put-wrote (w .put)) (w .put .position) h);
+  counter = ap (λ (x : State). x .n) (w .same);
+  fits = ap (λ (x : State). x .fits) (w .same);
+}
+
+pub step-marks : (o : List ℕ) {g g' : List ℕ} {s s' : State} {e : Diag} → Marks g g' s s' e → s .p ≤ top → Step o o g g' s s' [] (e ∷ []) (s .n) true
+step-marks o {g} {g'} {s} {s'} {e} w h = subst (λ (x : State). Step o o g g' s x [] (e ∷ []) (s .n) true) (sym (w .same)) (step-mark o s (w .put) h)
+
+pub marks : (tree : List ℕ) (at code : ℕ) (s : State) {g g' : List ℕ} {h : Fields} {e : ℕ} → h ≡ fieldsAt tree at
+    → Put g g' (s .d) (Fields'.diagBytes code (h .start) (h .end)) e → Marks g g' s (markedTo s e) (diagAt tree at code)
+unfolding Fields'.diagBytes
+marks tree at code s q w = record { put = rw q at w; same = refl }
+
+-- ---- any in the place of a type
+
+any-fits : true ≡ textsFit anyTypeAnn
+unfolding textsFit allTextsFit
+any-fits = refl
+
+pub filled-typed : (o g : List ℕ) {t : Typed} {r : State} {e : Diag} → t ≡ Some r → Filled o o g g t r e
+filled-typed o g {r = r} q = record { typed = λ s p. let z : r ≡ s = cc in (z, refl, refl); any = λ s p. absurd (let y : _≡_ {A = ℕ} 0 1 = cc in omega arith) }
+
+pub filled-any : {o o' g g' : List ℕ} {t : Typed} {s r : State} {q : ℕ} {e : Diag} → t ≡ None s → s .d ≤ top → Put o o' (s .p) (encode anyTypeAnn) q → Marks g g' (movedTo s q) r e
+    → Filled o o' g g' t r e
+filled-any {o} {o'} {g} {g'} {s = s} {r = r} {q = q} {e = e} z h v w = record {
+  typed = λ x p. absurd (let y : _≡_ {A = ℕ} 0 1 = cc in omega arith);
+  any = λ x p.
+      let y : s ≡ x = cc in
+      subst (λ (k : State). Step o o' g g' k r (encode anyTypeAnn) (e ∷ []) (k .n) true) y
+      (step-as (step-then (step-put g s v h) (step-marks o' w (omega (arith, v .position)))) (append-nil _) refl refl refl);
+}
+
+-- a typing, and any in its place where it has failed
+pub filled : {o o1 o2 g g1 g2 : List ℕ} {s r : State} {t : Typed} {x : Out (Option Rec)} {e : Diag} → Did o o1 g g1 s t x → Filled o1 o2 g1 g2 t r e
+    → Step o o2 g g2 s r (encode (orAny x (e ∷ []) .0)) (orAny x (e ∷ []) .1) (orAny x (e ∷ []) .2) (textsFit (orAny x (e ∷ []) .0))
+filled {o} {o1} {o2} {g} {g1} {g2} {s} {r} {t} {x} {e} w f = go (x .0) (w .answer) (w .step)
+  where
+    go : (v : Option Rec) → t ≡ answerOf v (w .after) → Step o o1 g g1 s (w .after) (bytesOf v) (x .1) (x .2) (fitOf v)
+        → Step o o2 g g2 s r (encode (orAny (v, x .1, x .2) (e ∷ []) .0)) (orAny (v, x .1, x .2) (e ∷ []) .1) (orAny (v, x .1, x .2) (e ∷ []) .2) (textsFit (orAny (v, x .1, x .2) (e ∷ []) .0))
+    go none a z = step-as (step-then z (f .any (w .after) a)) refl refl (z .counter) any-fits
+    go (some t) a z =
+        let u = f .typed (w .after) a in
+        rw (u .0, u .1, u .2) z

@@ -1,17 +1,18 @@
 -- What a typing is asked, what it gives, and what it did to the two buffers. Assumes nothing: these are definitions.
 use mathlib.Core.Path.{_≡_}
-use mathlib.Core.List.{List, []}
+use mathlib.Core.List.{List, [], _∷_}
 use mathlib.Core.Bool.{Bool, true, false, _&&_}
 use mathlib.Core.Option.{Option, none, some}
 use Prim.Native.Nat.{ℕ, _≤_}
-use Rattle.definition.specs.Tree.{Rec, Recs, nil, cons, encode, encodes, treeAt}
+use Rattle.definition.specs.Tree.{Rec, Recs, nil, cons, encode, encodes, startAt, lastAt, treeAt}
 use Rattle.definition.specs.Check.{deepest}
 use Rattle.definition.specs.Children.{AcceptedAt}
-use Rattle.definition.specs.Record.{kidsOf, one, given, Diag, diagsBytes, Out, onValue}
+use Rattle.definition.specs.Record.{kidsOf, one, given, Diag, diagBytes, diagsBytes, Out, onValue}
+use Rattle.definition.specs.Helpers.{anyTypeAnn}
 use Rattle.definition.specs.Prescan.{PrescannedModuleIds, prescanModuleIds}
 use Rattle.definition.specs.Typing.{readonlyOf, exprToTsType}
 use Rattle.definition.specs.Transform.{textsFit}
-use Rattle.records.specs.Wrote.{Ran}
+use Rattle.records.specs.Wrote.{Put, Ran}
 use Rattle.typing.specs.declared.State.{State}
 use Rattle.typing.specs.declared.Mode.{Mode}
 use Rattle.typing.specs.declared.Typed.{Typed}
@@ -39,6 +40,20 @@ unfoldable pub typeOf : List ℕ → Mode → ℕ → ℕ → ℕ → Out (Optio
 typeOf tree m left at n = frozenIf (m .frozen) (exprToTsType (idsOf tree) (m .unresolved) (treeAt left tree at) (m .as_const) (m .as_readonly) n)
 
 -- ---- what was done
+
+-- only E was written, where `s` stood in the output; f says whether its texts fit
+pub record Puts (o o' : List ℕ) (s s' : State) (E : List ℕ) (f : Bool) : Type 0 where
+  pub put : Put o o' (s .p) E (s' .p)
+  pub same : s' ≡ record { p = s' .p; d = s .d; n = s .n; fits = s .fits && f }
+
+-- a diagnostic at the range of the record at `at`
+abbrev pub diagAt : List ℕ → ℕ → ℕ → Diag
+diagAt tree at code = record { mark = code; start = startAt tree at; end = lastAt tree at }
+
+-- only the diagnostic e was marked
+pub record Marks (g g' : List ℕ) (s s' : State) (e : Diag) : Type 0 where
+  pub put : Put g g' (s .d) (diagBytes e) (s' .d)
+  pub same : s' ≡ record { p = s .p; d = s' .d; n = s .n; fits = s .fits }
 
 -- the bytes E and the diagnostics ds were written where `s` stood, the counter became n, and f says whether the texts of E fit
 pub record Step (o o' g g' : List ℕ) (s s' : State) (E : List ℕ) (ds : List Diag) (n : ℕ) (f : Bool) : Type 0 where
@@ -69,6 +84,11 @@ pub record Gave (o o' g g' : List ℕ) (s : State) (r : Typed) (x : Out Recs) : 
   pub value : Option Rec
   pub same : x .0 ≡ given value nil one
   pub did : Did o o' g g' s r (value, x .1, x .2)
+
+-- a type t, or any and the diagnostic e
+pub record Filled (o o' g g' : List ℕ) (t : Typed) (r : State) (e : Diag) : Type 0 where
+  pub typed : (s : State) → t ≡ Some s → (r ≡ s) × (o' ≡ o) × (g' ≡ g)
+  pub any : (s : State) → t ≡ None s → Step o o' g g' s r (encode anyTypeAnn) (e ∷ []) (s .n) true
 
 -- at another position of the output, or of the diagnostics
 abbrev pub movedTo : State → ℕ → State

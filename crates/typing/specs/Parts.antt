@@ -1,7 +1,23 @@
 -- The parts of the definition as the functions of the code have them. Assumes nothing: these are definitions.
-use mathlib.Core.Bool.{Bool, true, false}
-use Rattle.definition.specs.Tree.{Recs}
+use mathlib.Core.List.{List, [], _++_}
+use mathlib.Core.Bool.{Bool, true, false, cond}
+use Prim.Native.Nat.{ℕ, _+_}
+use Rattle.definition.specs.Tree.{Head, Rec, Recs, rec, nil, le4, headBytes, encode}
+use Rattle.definition.specs.Grammar.{mark}
+use Rattle.definition.specs.Record.{fresh}
 use Rattle.definition.specs.Typing.{readonlyMembers}
+
+-- the head of a record without text that is made
+abbrev pub madeHead : ℕ → ℕ → ℕ → ℕ → Head
+madeHead m f start end = record { mark = m; flags = f; start = start; end = end; text = [] }
+
+-- an Id that is made: `identAt` of a head with this range
+abbrev pub identOf : ℕ → ℕ → List ℕ → Rec
+identOf start end name = rec (record { mark = mark "Id"; flags = 0; start = start; end = end; text = le4 0 ++ name }) nil
+
+-- a Ps before its type: `propertySignature`
+abbrev pub signatureFront : Rec → Bool → ℕ → List ℕ
+signatureFront key readonly f = headBytes (fresh "Ps" (cond readonly 1 0 + f) []) 2 ++ encode key
 
 -- the members of an object's type, readonly where `readonly_of` it is wanted
 abbrev pub membersIf : Bool → Recs → Recs

@@ -2,7 +2,12 @@
 // the output and diagnostics at a position of theirs, as far as there is room; a typing that fails goes back to its position in the output.
 
 ghost use mathlib.Core.Path.{_≡_};
-ghost use Rattle.typing.specs.Did.{backTo};
+ghost use Prim.Native.Nat.{_+_, _≤_};
+ghost use lib.ListN.{length};
+ghost use Rattle.definition.specs.Tree.{headSize};
+ghost use Rattle.typing.specs.Did.{diagAt, backTo, Marks, Filled};
+
+mod made;
 
 // Where a typing stands: the positions in the output and in the diagnostics, the name counter, and whether every text that was written fits
 // the two bytes of its length.
@@ -36,5 +41,36 @@ fn back(s: State, next: State) -> State
         d: next.d,
         n: next.n,
         fits: s.fits,
+    }
+}
+
+// `mark_diagnostic`, at the range of a record.
+fn mark_diagnostic(tree: &[u8], at: usize, code: u16, diagnostics: &mut [u8], s: State) -> State
+    requires { ⌜ at + headSize ≤ length (now tree) ⌝ }
+    ensures { λ r. ⌜ Marks (now (diagnostics .entry)) (now (diagnostics .exit)) s r (diagAt (now (tree .entry)) at code) ⌝ }
+{
+    let head = records::read_head(tree, at);
+    let mut next = s;
+    next.d = records::put_diagnostic(diagnostics, s.d, code, head.start, head.end);
+    next
+}
+
+// A type, or `any` and a diagnostic at the expression that has none, as for an element of an array and the value of a property.
+fn or_any(tree: &[u8], at: usize, code: u16, t: Typed, out: &mut [u8], diagnostics: &mut [u8]) -> State
+    requires { ⌜ at + headSize ≤ length (now tree) ⌝ }
+    ensures {
+        λ r. ⌜
+            Filled (now (out .entry)) (now (out .exit)) (now (diagnostics .entry)) (now (diagnostics .exit)) t r
+                (diagAt (now (tree .entry)) at code)
+        ⌝
+    }
+{
+    match t {
+        Typed::Some(s) => s,
+        Typed::None(s) => {
+            let mut next = s;
+            next.p = swc_helpers::any_type_ann(out, s.p);
+            mark_diagnostic(tree, at, code, diagnostics, next)
+        }
     }
 }
