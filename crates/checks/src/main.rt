@@ -1,7 +1,6 @@
 // The check of one tree: reads a tree of at most 32,768 bytes from standard input, takes the overload list as empty, and prints `accepted`, or
 // `refused`, the refusal's number, `at` and its place.
 use grammar::Checked;
-use grammar::Refusal;
 use libc::STDIN_FILENO;
 use libc::STDOUT_FILENO;
 
@@ -10,22 +9,6 @@ const LONGEST: usize = 32768;
 
 const BUFFER: usize = 32769;
 
-// The number of a refusal in document 01's table.
-fn number(refusal: Refusal) -> u64 {
-    match refusal {
-        Refusal::TreeTooLong => 1,
-        Refusal::BadOverloads => 2,
-        Refusal::CutShort => 3,
-        Refusal::UnknownMark => 4,
-        Refusal::Misplaced => 5,
-        Refusal::BackwardRange => 6,
-        Refusal::TooDeep => 7,
-        Refusal::TrailingBytes => 8,
-        Refusal::OutputFull => 9,
-        Refusal::DiagnosticsFull => 10,
-    }
-}
-
 fn show(found: Checked) {
     match found {
         Checked::Fine(end) => {
@@ -33,7 +16,7 @@ fn show(found: Checked) {
         }
         Checked::Refused(refusal, place) => {
             io::write_all(STDOUT_FILENO, b"refused ");
-            io::print_decimal(STDOUT_FILENO, number(refusal));
+            io::print_decimal(STDOUT_FILENO, grammar::number_of(refusal) as u64);
             io::write_all(STDOUT_FILENO, b" at ");
             io::print_decimal(STDOUT_FILENO, place as u64);
             io::write_all(STDOUT_FILENO, b"\n");

@@ -5,3 +5,4 @@ pub mod Converse
 pub mod Children
 pub mod Kids
 pub mod Samples
+pub mod CheckSamples

@@ -1,145 +1,21 @@
 -- Small modules, on which `call` is evaluated: those of document 01, and one for each slip that must not pass. Assumes nothing.
-use Prim.Native.Nat.{ℕ, zero, suc, _-_}
+use Prim.Native.Nat.{ℕ, zero, suc}
 use Prim.Native.String.{String}
 use mathlib.Core.Path.{_≡_, refl}
 use mathlib.Core.List.{List, [], _∷_, _++_, map}
-use mathlib.Core.Bool.{Bool, true, false, cond}
-use mathlib.Core.Option.{Option, none, some}
-use lib.ListN.{length, take, drop, getD}
-use Rattle.definition.specs.Tree.{
-  Head,
-  Rec,
-  Recs,
-  rec,
-  nil,
-  cons,
-  le4,
-  headBytes,
-  encode,
-  headAt,
-  readAll,
-  endOfAll,
-  endAt,
-  treeAt,
-}
+use lib.ListN.{length}
+use Rattle.definition.specs.Tree.{Rec, Recs, rec, nil, cons, le4, headBytes, encode, headAt, readAll, endOfAll, endAt, treeAt}
 use Rattle.definition.specs.Grammar.{mark, marks, member, grammar, known, forms, slots, place, allowed, after, least, isProperty}
-use Rattle.definition.specs.Check.{
-  digits,
-  isInteger,
-  hasForm,
-  openBody,
-  openAt,
-  checkAll,
-  checkAt,
-  entriesFine,
-  listFine,
-  checkTree,
-}
-use Rattle.definition.specs.Record.{
-  text,
-  sameText,
-  headOf,
-  kidsOf,
-  fresh,
-  absent,
-  withFlags,
-  one,
-  Diag,
-  diagsBytes,
-  entriesHave,
-  listed,
-  each,
-  flat,
-  second,
-}
+use Rattle.definition.specs.Check.{digits, isInteger, hasForm, openBody, openAt, checkAll, checkAt, entriesFine, listFine, checkTree}
+use Rattle.definition.specs.Record.{text, sameText, headOf, kidsOf, fresh, absent, withFlags, one, Diag, diagsBytes, entriesHave, listed, each, flat, second}
 use Rattle.definition.specs.Helpers.{objectFreezeCallArg, noExprs, tplToTsType, litKind, maybeLitToTsType}
-use Rattle.definition.specs.Prescan.{
-  arrayTypeKind,
-  isArrayTypeBy,
-  isArrayType,
-  arrayInitKind,
-  isArrayLitInitBy,
-  isArrayLitInit,
-  addDeclarator,
-  addDeclarators,
-  declaredKind,
-  addDeclBy,
-  asked,
-}
-use Rattle.definition.specs.Names.{
-  decimalUpTo,
-  genUniqueName,
-  wellKnownSymbolNames,
-  anyText,
-  isWellKnownSymbolExpr,
-  keyExprKind,
-  propNameBy,
-  propNameFromExpr,
-  validPropName,
-}
-use Rattle.definition.specs.Typing.{
-  frozenKind,
-  plainMembers,
-  readonlyMembers,
-  readonlyOfBy,
-  turned,
-  turnedInteger,
-  minusBy,
-  elementKind,
-  elementBy,
-  spreadKind,
-  keyKind,
-  keyExpr,
-  propKind,
-  paramKind,
-  defaultParam,
-  paramBy,
-  exprKind,
-  globalType,
-  identToTsType,
-  newType,
-  spreadBy,
-  propBy,
-  exprBy,
-  exprToTsType,
-}
-use Rattle.definition.specs.Classes.{
-  handleFuncParamIdent,
-  patternKind,
-  handleFuncParamAssign,
-  handlePatternBy,
-  handleFuncParam,
-  functionPart,
-  handleFunction,
-  constructorPart,
-  constructor,
-  method,
-  classProp,
-  memberKind,
-  memberBy,
-  classBodyToType,
-  class,
-}
+use Rattle.definition.specs.Prescan.{arrayTypeKind, isArrayTypeBy, isArrayType, arrayInitKind, isArrayLitInitBy, isArrayLitInit, addDeclarator, addDeclarators, declaredKind, addDeclBy, asked}
+use Rattle.definition.specs.Names.{decimalUpTo, genUniqueName, wellKnownSymbolNames, anyText, isWellKnownSymbolExpr, keyExprKind, propNameBy, propNameFromExpr, validPropName}
+use Rattle.definition.specs.Typing.{frozenKind, plainMembers, readonlyMembers, readonlyOfBy, turned, turnedInteger, minusBy, elementKind, elementBy, spreadKind, keyKind, keyExpr, propKind, paramKind, defaultParam, paramBy, exprKind, globalType, identToTsType, newType, spreadBy, propBy, exprBy, exprToTsType}
+use Rattle.definition.specs.Classes.{handleFuncParamIdent, patternKind, handleFuncParamAssign, handlePatternBy, handleFuncParam, functionPart, handleFunction, constructorPart, constructor, method, classProp, memberKind, memberBy, classBodyToType, class}
 use Rattle.definition.specs.Enums.{initKind, validBy, validEnumInitExpr, enumInit, enumMember}
-use Rattle.definition.specs.Items.{
-  itemKind,
-  declKind,
-  defaultKind,
-  bodyKind,
-  declaratorPattern,
-  declarator,
-  withoutBody,
-  defaultTyped,
-  declToTypeDecl,
-  transformModuleStmt,
-  exportDecl,
-  exportDefaultDecl,
-  exportDefaultExpr,
-  itemBy,
-  bodyBy,
-  transformModuleItems,
-}
-use Rattle.definition.specs.Transform.{transformBy, transform, Answer, done, refused, Result, textsFit, written, callBy, call}
+use Rattle.definition.specs.Items.{itemKind, declKind, defaultKind, bodyKind, declaratorPattern, declarator, withoutBody, defaultTyped, declToTypeDecl, transformModuleStmt, exportDecl, exportDefaultDecl, exportDefaultExpr, itemBy, bodyBy, transformModuleItems}
+use Rattle.definition.specs.Transform.{transformBy, transform, done, refused, Result, textsFit, written, callBy, call}
 
 -- ---- writing trees
 

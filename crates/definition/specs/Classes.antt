@@ -2,38 +2,12 @@
 -- Assumes nothing: these are definitions. The typing of expressions is a parameter.
 use Prim.Native.Nat.{ℕ, zero, suc, _*_, _/_}
 use mathlib.Core.List.{List, [], _∷_}
-use mathlib.Core.Bool.{Bool, true, false, cond, _||_}
+use mathlib.Core.Bool.{Bool, false, cond, _||_}
 use mathlib.Core.Option.{Option, none, some}
 use lib.Dec.{eqb}
-use Rattle.definition.specs.Tree.{Head, Rec, Recs, rec, nil, cons}
+use Rattle.definition.specs.Tree.{Rec, Recs, rec, nil, cons}
 use Rattle.definition.specs.Grammar.{mark}
-use Rattle.definition.specs.Record.{
-  headOf,
-  kidsOf,
-  markOf,
-  is,
-  isNo,
-  withFlags,
-  flagged,
-  has1,
-  kid,
-  setKid,
-  one,
-  gone,
-  Diag,
-  diag,
-  listed,
-  Out,
-  Typing,
-  pure,
-  ifM,
-  onValue,
-  wrap,
-  single,
-  each,
-  flat,
-  atKid,
-}
+use Rattle.definition.specs.Record.{headOf, kidsOf, markOf, is, isNo, withFlags, flagged, has1, kid, setKid, one, gone, diag, listed, Out, Typing, pure, ifM, onValue, wrap, single, each, flat, atKid}
 use Rattle.definition.specs.Helpers.{anyTypeAnn}
 use Rattle.definition.specs.Names.{validPropName}
 use Rattle.definition.specs.Typing.{orAny}

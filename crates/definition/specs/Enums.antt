@@ -1,9 +1,8 @@
 -- Enum members: `valid_enum_init_expr`, `valid_enum_ts_type`. Assumes nothing: these are definitions.
-use Prim.Native.Nat.{ℕ, zero, suc}
-use mathlib.Core.List.{List, [], _∷_}
+use Prim.Native.Nat.{ℕ}
 use mathlib.Core.Bool.{Bool, true, false, cond, _&&_, _||_}
 use lib.Dec.{eqb}
-use Rattle.definition.specs.Tree.{Head, Rec, Recs, rec, nil, cons}
+use Rattle.definition.specs.Tree.{Rec, Recs, rec, nil, cons}
 use Rattle.definition.specs.Grammar.{mark}
 use Rattle.definition.specs.Record.{kidsOf, is, isNo, absent, kid, Out, pure, ifM, second}
 

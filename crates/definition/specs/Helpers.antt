@@ -1,30 +1,13 @@
 -- swc_helpers.rs: small types, types of literals and of templates, the argument of `Object.freeze`. Assumes nothing: these are definitions.
-use Prim.Native.Nat.{ℕ, zero, suc}
+use Prim.Native.Nat.{ℕ}
 use Prim.Native.String.{String}
-use mathlib.Core.List.{List, [], _∷_}
+use mathlib.Core.List.{List, []}
 use mathlib.Core.Bool.{Bool, true, false, cond, not, _&&_, _||_}
 use mathlib.Core.Option.{Option, none, some}
 use lib.Dec.{eqb}
-use Rattle.definition.specs.Tree.{Head, Rec, Recs, rec, nil, cons}
+use Rattle.definition.specs.Tree.{Rec, Recs, rec, nil, cons}
 use Rattle.definition.specs.Grammar.{mark}
-use Rattle.definition.specs.Record.{
-  text,
-  sameText,
-  headOf,
-  kidsOf,
-  markOf,
-  textOf,
-  is,
-  contextOf,
-  symbolOf,
-  fresh,
-  absent,
-  ident,
-  has1,
-  kid,
-  one,
-  ends,
-}
+use Rattle.definition.specs.Record.{text, sameText, headOf, kidsOf, textOf, is, contextOf, symbolOf, fresh, absent, ident, has1, kid, one, ends}
 
 -- `ts_keyword_type`: "`Kw` the keyword"
 abbrev pub tsKeywordType : String → Rec

@@ -7,37 +7,7 @@ use mathlib.Core.Option.{Option, none, some}
 use lib.Dec.{eqb}
 use Rattle.definition.specs.Tree.{Head, Rec, Recs, rec, nil, cons}
 use Rattle.definition.specs.Grammar.{mark}
-use Rattle.definition.specs.Record.{
-  headOf,
-  kidsOf,
-  markOf,
-  is,
-  isNo,
-  fresh,
-  absent,
-  ident,
-  withFlags,
-  flag1,
-  kid,
-  setKid,
-  one,
-  join,
-  given,
-  gone,
-  Diag,
-  diag,
-  listed,
-  Out,
-  Typing,
-  pure,
-  ifM,
-  onValue,
-  wrap,
-  single,
-  each,
-  atKid,
-  second,
-}
+use Rattle.definition.specs.Record.{headOf, kidsOf, markOf, is, isNo, fresh, absent, ident, withFlags, flag1, kid, setKid, one, join, given, gone, diag, listed, Out, Typing, pure, ifM, onValue, wrap, single, each, atKid, second}
 use Rattle.definition.specs.Helpers.{anyTypeAnn}
 use Rattle.definition.specs.Names.{genUniqueName}
 use Rattle.definition.specs.Typing.{orAny}

@@ -1,15 +1,14 @@
 -- Names that are made, and the keys of class members: `gen_unique_name`, `is_well_known_symbol_expr`, `valid_prop_name`.
 -- Assumes nothing: these are definitions.
 use Prim.Native.Nat.{ℕ, zero, suc, _+_, _/_, _%_}
-use Prim.Native.Char.{Char, code}
-use Prim.Native.String.{String}
-use mathlib.Core.List.{List, [], _∷_, _++_, map}
-use mathlib.Core.Bool.{Bool, true, false, cond, not, _&&_, _||_}
+use Prim.Native.Char.{code}
+use mathlib.Core.List.{List, [], _∷_, _++_}
+use mathlib.Core.Bool.{Bool, false, cond, not, _&&_, _||_}
 use mathlib.Core.Option.{Option, none, some}
 use lib.Dec.{eqb, ltb}
-use Rattle.definition.specs.Tree.{Head, Rec, Recs, rec, nil, cons}
+use Rattle.definition.specs.Tree.{Rec, Recs, rec, nil, cons}
 use Rattle.definition.specs.Grammar.{mark}
-use Rattle.definition.specs.Record.{text, sameText, headOf, kidsOf, markOf, textOf, is, ranged, kid, one, ends}
+use Rattle.definition.specs.Record.{text, sameText, headOf, kidsOf, textOf, is, ranged, kid, one, ends}
 use Rattle.definition.specs.Helpers.{isGlobal}
 
 -- ---- `gen_unique_name`

@@ -1,11 +1,10 @@
 -- The transform of a module, and the exported call. Assumes nothing: these are definitions.
-use Prim.Native.Nat.{ℕ, zero, suc, _*_}
-use mathlib.Core.List.{List, [], _∷_, _++_}
-use mathlib.Core.Bool.{Bool, true, false, cond, _&&_}
-use mathlib.Core.Option.{Option, none, some}
+use Prim.Native.Nat.{ℕ}
+use mathlib.Core.List.{List, _++_}
+use mathlib.Core.Bool.{Bool, true, cond, _&&_}
 use lib.ListN.{length, drop}
 use lib.Dec.{leb, ltb}
-use Rattle.definition.specs.Tree.{Head, Rec, Recs, rec, nil, cons, encode, treeAt}
+use Rattle.definition.specs.Tree.{Rec, Recs, rec, nil, cons, encode, treeAt}
 use Rattle.definition.specs.Check.{Checked, fine, refused as rejected, deepest, checkTree}
 use Rattle.definition.specs.Record.{headOf, kidsOf, Diag, diagsBytes, Out, Typing, wrap}
 use Rattle.definition.specs.Prescan.{prescanModuleIds}

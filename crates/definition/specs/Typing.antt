@@ -2,61 +2,13 @@
 -- In every step the arguments `c` and `r` are as_const and as_readonly, and `n` is the name counter.
 use Prim.Native.Nat.{ℕ, zero, suc, _+_, _%_}
 use mathlib.Core.List.{List, [], _∷_, _++_}
-use mathlib.Core.Bool.{Bool, true, false, cond, not, _&&_, _||_}
+use mathlib.Core.Bool.{Bool, true, false, cond, _&&_, _||_}
 use mathlib.Core.Option.{Option, none, some}
 use lib.Dec.{eqb}
 use Rattle.definition.specs.Tree.{Head, Rec, Recs, rec, nil, cons}
 use Rattle.definition.specs.Grammar.{mark}
-use Rattle.definition.specs.Record.{
-  text,
-  sameText,
-  headOf,
-  kidsOf,
-  markOf,
-  textOf,
-  is,
-  among,
-  isNo,
-  contextOf,
-  symbolOf,
-  fresh,
-  ranged,
-  identAt,
-  withText,
-  flagged,
-  kid,
-  one,
-  join,
-  given,
-  present,
-  Diag,
-  diag,
-  Out,
-  pure,
-  ifM,
-  onValue,
-}
-use Rattle.definition.specs.Helpers.{
-  tsKeywordType,
-  anyTypeAnn,
-  tsReadonly,
-  referenceTo,
-  tsLitType,
-  tsTupleElement,
-  tsTypeQuery,
-  objectFreezeCallArg,
-  tplToTsType,
-  Lit,
-  lStr,
-  lBool,
-  lNull,
-  lNum,
-  lBigInt,
-  lRegex,
-  lJsxText,
-  litKind,
-  maybeLitToTsType,
-}
+use Rattle.definition.specs.Record.{text, sameText, headOf, kidsOf, markOf, textOf, is, among, isNo, contextOf, symbolOf, fresh, ranged, identAt, withText, flagged, kid, one, join, given, present, Diag, diag, Out, pure, ifM, onValue}
+use Rattle.definition.specs.Helpers.{tsKeywordType, anyTypeAnn, tsReadonly, referenceTo, tsLitType, tsTupleElement, tsTypeQuery, objectFreezeCallArg, tplToTsType, Lit, lStr, lBool, lNull, lNum, lBigInt, lRegex, lJsxText, litKind, maybeLitToTsType}
 use Rattle.definition.specs.Prescan.{PrescannedModuleIds}
 use Rattle.definition.specs.Names.{digit, genUniqueName}
 

@@ -10,7 +10,7 @@ use lib.Dec.{eqb}
 use lib.ListN.{length, getD, take, drop}
 use Rattle.definition.specs.Tree.{headSize, markAt, lengthAt, countAt, flagsAt, startAt, lastAt, textAt}
 use Rattle.definition.specs.Grammar.{Part, known, forms, slots, place, least, allowed}
-use Rattle.definition.specs.Check.{hasForm, formOf, slotsOf, inside, Opening.opened, Opening.stopped, openBody, openAt}
+use Rattle.definition.specs.Check.{hasForm, formOf, slotsOf, inside, Opening, Opening.opened, Opening.stopped, openBody, openAt}
 use Rattle.records.specs.Fields.{fieldsAt}
 use Rattle.records.specs.declared.Head.{Head}
 use Rattle.grammar.specs.Slots.{partsFrom, formAt}
@@ -73,10 +73,11 @@ module _ (s : List ℕ) (at : ℕ) (ps : List Part) (h : Head) (code : ℕ) (is 
         backward e =
             rw (le-ltb (length s - at) headSize a, lt-leb _ _ known-mark, sym (ap (allowed ps) same-mark) ∙ d, lt-ltb (lastAt s at) (startAt s at) (omega (arith, start-is, end-is)))
 
-        pub head-fine : h .start ≤ h .end → openBody s at ps (h .mark) ≡ openAt s at ps
+        -- o is what the rest of the tests finds
+        pub head-fine : h .start ≤ h .end → (o : Opening) → o ≡ openBody s at ps (h .mark) → o ≡ openAt s at ps
         unfolding openAt
-        head-fine e =
-            rw (mark-is, le-ltb (length s - at) headSize a, lt-leb _ _ known-mark, sym (ap (allowed ps) same-mark) ∙ d, le-ltb (lastAt s at) (startAt s at) (omega (arith, start-is, end-is)))
+        head-fine e o q =
+            q ∙ rw (mark-is, le-ltb (length s - at) headSize a, lt-leb _ _ known-mark, sym (ap (allowed ps) same-mark) ∙ d, le-ltb (lastAt s at) (startAt s at) (omega (arith, start-is, end-is)))
 
   -- ---- "3 (text), 5 (text, count)"
 

@@ -57,11 +57,12 @@ fn open_record(tree: &[u8], at: usize, k: usize) -> Opening
     if KNOWN <= code {
         return Opening::Stopped(Refusal::UnknownMark);
     }
-    let good = crate::tables::allows(k, code);
-    if !good {
+    let placed = crate::tables::allows(k, code);
+    let forward = h.start <= h.end;
+    if !placed {
         return Opening::Stopped(Refusal::Misplaced);
     }
-    if h.end < h.start {
+    if !forward {
         return Opening::Stopped(Refusal::BackwardRange);
     }
     open_body(tree, at, k, h, code)

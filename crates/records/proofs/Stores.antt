@@ -9,8 +9,9 @@ use lib.ListN.{length, getD, set, take, drop, length-set, take-append-drop}
 use lib.Seq.{sets, sets-eq, length-sets, set-out, getD-set-same, getD-set-other, take-suc, length-take-le, drop-drop, ext-getD}
 use Rattle.definition.specs.Tree
 use Rattle.definition.specs.Tree.{headSize, le2, le4, headBytes, headAt, lengthAt, countAt, bodyAt}
+use Rattle.definition.specs.Record.{diagBytes}
 use Rattle.definition.proofs.Places.{part-length}
-use Rattle.records.specs.Fields.{fieldsAt, fieldsOf, fieldBytes, diagSize, diagBytes}
+use Rattle.records.specs.Fields.{fieldsAt, fieldsOf, fieldBytes, diagSize, diagOf}
 use Rattle.records.specs.declared.Head.{Head}
 
 -- a run in two parts
@@ -81,14 +82,12 @@ length-fieldBytes h = refl
 -- ---- the bytes of a diagnostic
 
 pub diag-sets : (o : List ℕ) {o1 o2 o3 : List ℕ} (d m s e : ℕ)
-    → o1 ≡ sets o d (le2 m) → o2 ≡ sets o1 (d + 2) (le4 s) → o3 ≡ sets o2 (d + 6) (le4 e) → o3 ≡ sets o d (diagBytes m s e)
-unfolding diagBytes
+    → o1 ≡ sets o d (le2 m) → o2 ≡ sets o1 (d + 2) (le4 s) → o3 ≡ sets o2 (d + 6) (le4 e) → o3 ≡ sets o d (diagBytes (diagOf m s e))
 diag-sets o d m s e e1 e2 e3 =
     e3 ∙ ap (λ (l : List ℕ). sets l (d + 6) (le4 e)) (e2 ∙ ap (λ (l : List ℕ). sets l (d + 2) (le4 s)) e1 ∙ sym (sets-append o d (le2 m) (le4 s)))
     ∙ sym (sets-append o d (le2 m ++ le4 s) (le4 e))
 
-pub length-diagBytes : (m s e : ℕ) → length (diagBytes m s e) ≡ diagSize
-unfolding diagBytes
+pub length-diagBytes : (m s e : ℕ) → length (diagBytes (diagOf m s e)) ≡ diagSize
 length-diagBytes m s e = refl
 
 -- ---- a copy

@@ -1,22 +1,15 @@
 -- Laws of `Wrote`, `Put` and `Ran`: writes one after the other, a front that is written last, a part that is given up. Assumes nothing.
 use mathlib.Core.Path.{_≡_, refl, sym, _∙_, ap, subst}
 use mathlib.Core.List.{List, [], _∷_, _++_}
-use mathlib.Core.Logic.{_⊎_, inl, inr, ⊎-elim}
+use mathlib.Core.Logic.{⊎-elim}
 use Prim.Native.Nat.{ℕ, _+_, _-_, _≤_, _<_}
 use native.Mathlib.Nat.{zero-add}
-use native.Mathlib.Decide.{decLt}
 use native.Mathlib.Omega.{arith}
 use lib.ListN.{length, getD, length-append, List·getD-append}
 use lib.Seq.{sets, length-sets, getD-append-add, ext-getD}
+use Rattle.definition.proofs.Places.{below-or-not}
 use Rattle.records.specs.Wrote.{top, sat, Wrote, Put, Ran}
 use Rattle.records.proofs.Stores.{sets-below, sets-above, sets-in}
-
-less : (m n : ℕ) → (m < n) ⊎ (n ≤ m)
-less m n = go (decLt m n)
-  where
-    go : Dec (m < n) → (m < n) ⊎ (n ≤ m)
-    go (yes h) = inl h
-    go (no h) = inr (omega arith)
 
 getD-second : (E F : List ℕ) (i : ℕ) → length E ≤ i → getD (E ++ F) i 0 ≡ getD F (i - length E) 0
 getD-second E F i h = ap (λ (k : ℕ). getD (E ++ F) k 0) (omega arith) ∙ getD-append-add E F (i - length E) 0
@@ -49,7 +42,7 @@ wrote-then {a} {b} {c} {p} {E} {F} v w =
           let s : length b ≡ length a = v .same in
           let e : p + i ≡ sat p (length E) + (i - length E) = omega arith in
           ap (λ (q : ℕ). getD c q 0) e ∙ w .new (i - length E) (omega arith) (omega arith) (omega arith) ∙ sym (getD-second E F i l))
-          (less i (length E));
+          (below-or-not i (length E));
     }
 
 -- a write behind the room for a front, and then the front, as a head is written behind its children
@@ -66,7 +59,7 @@ wrote-front {a} {b} {K} p H w =
           let n : length (H ++ K) ≡ length H + length K = length-append H K in
           let e : p + i ≡ sat p (length H) + (i - length H) = omega arith in
           sets-above b p H (p + i) (omega arith) ∙ ap (λ (q : ℕ). getD b q 0) e ∙ w .new (i - length H) (omega arith) (omega arith) (omega arith) ∙ sym (getD-second H K i l))
-          (less i (length H));
+          (below-or-not i (length H));
     }
 
 -- on a slice that E just fills, the slice is E

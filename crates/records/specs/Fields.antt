@@ -1,9 +1,10 @@
--- The head of a record as a value of the code, and its bytes; the bytes of a diagnostic. Assumes nothing: these are definitions.
+-- The head of a record as a value of the code, and its bytes; a diagnostic by its parts. Assumes nothing: these are definitions.
 use Prim.Native.Nat.{ℕ, _%_}
 use mathlib.Core.List.{List, _∷_, _++_}
 use lib.ListN.{length}
 use Rattle.definition.specs.Tree
 use Rattle.definition.specs.Tree.{le2, le4, markAt, flagsAt, startAt, lastAt, lengthAt, countAt}
+use Rattle.definition.specs.Record.{Diag}
 use Rattle.records.specs.declared.Head.{Head}
 
 -- the head of the record at `at`: mark, flags, start, end, text length and child count
@@ -30,6 +31,6 @@ fieldBytes h =
 abbrev pub diagSize : ℕ
 diagSize = 10
 
--- a diagnostic's mark, `d1` to `d5`, and the range that it is at
-unfoldable pub diagBytes : ℕ → ℕ → ℕ → List ℕ
-diagBytes mark start end = le2 mark ++ (le4 start ++ le4 end)
+-- a diagnostic with one of the marks `d1` to `d5` at a range
+abbrev pub diagOf : ℕ → ℕ → ℕ → Diag
+diagOf mark start end = record { mark = mark; start = start; end = end }

@@ -4,7 +4,8 @@ ghost use Prim.Native.Nat.{_+_, _<_, _≤_};
 ghost use lib.ListN.{length, set};
 ghost use lib.Seq.{sets};
 ghost use Rattle.definition.specs.Tree.{headSize, le2, le4, u16At, u32At, markAt, countAt, bodyAt, textAt, endAt};
-ghost use Rattle.records.specs.Fields.{fieldsAt, fieldBytes, diagBytes};
+ghost use Rattle.definition.specs.Record.{diagBytes};
+ghost use Rattle.records.specs.Fields.{fieldsAt, fieldBytes, diagOf};
 ghost use Rattle.records.specs.Whole.{Whole, partAt};
 ghost use Rattle.records.specs.Wrote.{sat, Put};
 
@@ -13,6 +14,9 @@ pub mod text;
 
 // "15-byte head"
 pub const HEAD_SIZE: usize = 15;
+
+// "depth over 64 (root is 1)": the levels that a tree's root is read with.
+pub const DEEPEST: usize = 64;
 
 // The places of a head's fields in it; the mark is at 0.
 const FLAGS: usize = 2;
@@ -46,6 +50,7 @@ pub struct Head {
     pub count: usize,
 }
 
+// A byte as a wider number.
 fn wide16(b: u8) -> u16
     ensures { λ r. ⌜ (r ≡ b) × (r < 256) ⌝ }
 {
@@ -193,7 +198,7 @@ pub fn put4(out: &mut [u8], p: usize, v: u32)
     }
 }
 
-// The same two where there is room for all of it.
+// `put2` and `put4` where there is room for all of it: no test.
 fn set2(out: &mut [u8], p: usize, v: usize)
     requires { ⌜ p + 2 ≤ length (now out) ⌝ }
     ensures { λ _. ⌜ now (out .exit) ≡ sets (now (out .entry)) p (le2 v) ⌝ }
@@ -212,7 +217,7 @@ fn set4(out: &mut [u8], p: usize, v: u32)
     out[p + 3] = (v / 16777216 % 256) as u8;
 }
 
-// A head where there is room for all of it.
+// A head where there is room for all of it: no test.
 fn set_head(out: &mut [u8], p: usize, h: Head)
     requires { ⌜ p + headSize ≤ length (now out) ⌝ }
     ensures { λ _. ⌜ now (out .exit) ≡ sets (now (out .entry)) p (fieldBytes h) ⌝ }
@@ -252,7 +257,7 @@ pub fn put_head(out: &mut [u8], p: usize, h: Head) -> usize
     end
 }
 
-// A copy between parts of equal length.
+// A copy between two parts of equal length: no test inside the loop.
 fn copy(to: &mut [u8], from: &[u8])
     requires { ⌜ length (now to) ≡ length (now from) ⌝ }
     ensures { λ _. ⌜ now (to .exit) ≡ now (from .entry) ⌝ }
@@ -292,7 +297,7 @@ pub fn put_record(tree: &[u8], at: usize, left: usize, out: &mut [u8], p: usize)
 
 // A diagnostic with one of the marks `d1` to `d5` at a range, as far as there is room, and the position behind it.
 pub fn put_diagnostic(diagnostics: &mut [u8], d: usize, mark: u16, start: u32, end: u32) -> usize
-    ensures { λ r. ⌜ Put (now (diagnostics .entry)) (now (diagnostics .exit)) d (diagBytes mark start end) r ⌝ }
+    ensures { λ r. ⌜ Put (now (diagnostics .entry)) (now (diagnostics .exit)) d (diagBytes (diagOf mark start end)) r ⌝ }
 {
     let next = advance(d, DIAGNOSTIC_SIZE);
     if diagnostics.len() <= d {

@@ -1,7 +1,8 @@
 -- `records::put_diagnostic` meets its contract: mark, start and end one after the other are the bytes of the diagnostic. Assumes nothing.
 use mathlib.Core.Path.{sym, _∙_, ap}
 use Prim.Native.Nat.{ℕ}
-use Rattle.records.specs.Fields.{diagBytes}
+use Rattle.definition.specs.Record.{diagBytes}
+use Rattle.records.specs.Fields.{diagOf}
 use Rattle.records.specs.Wrote.{sat}
 use Rattle.records.proofs.Stores.{sets-out, diag-sets, length-diagBytes}
 use borrow.Author.Needs.{needs}
@@ -15,7 +16,7 @@ returns : tie.Need-returns
 returns c =
     let a = c .before .before .before .args in
     record {
-      bytes = sym (sets-out (a .diagnostics .now) (a .d) (diagBytes (a .mark) (a .start) (a .end)) (c .if1 .taken));
+      bytes = sym (sets-out (a .diagnostics .now) (a .d) (diagBytes (diagOf (a .mark) (a .start) (a .end))) (c .if1 .taken));
       position = c .before .advance .ensures ∙ ap (λ (n : ℕ). sat (a .d) n) (sym (length-diagBytes (a .mark) (a .start) (a .end)));
     }
 

@@ -4,7 +4,7 @@ use Prim.Native.Nat.{ℕ, _+_, _-_}
 use native.Mathlib.Omega.{arith}
 use borrow.Author.Needs.{needs}
 use lib.ListN.{take, drop}
-use Rattle.definition.specs.Tree.{lengthAt}
+use Rattle.definition.specs.Tree.{headSize, lengthAt}
 use Rattle.records.proofs.text_at.Statement.{statement}
 use Rattle.records.proofs.text_at.Tie as tie
 
@@ -26,8 +26,8 @@ part-result-end c = search needs
 returns : tie.Need-returns
 returns c =
     let a = c .before .before .before .args in
-    let n : c .before .body-at .result - (a .at + 15) ≡ lengthAt (a .tree .now) (a .at) = omega (arith, c .before .body-at .ensures) in
-    ap (λ (k : ℕ). take k (drop (a .at + 15) (a .tree .now))) n
+    let n : c .before .body-at .result - (a .at + headSize) ≡ lengthAt (a .tree .now) (a .at) = omega (arith, c .before .body-at .ensures) in
+    ap (λ (k : ℕ). take k (drop (a .at + headSize) (a .tree .now))) n
 
 pub text-at-spec : {M : Type 1} → statement M
 text-at-spec =

@@ -1,7 +1,7 @@
 -- `grammar::record::open_record` meets its contract. Assumes nothing.
 use mathlib.Core.Path.{sym, _∙_}
 use native.Mathlib.Omega.{arith}
-use borrow.Author.Tests.{not-true, not-false}
+use borrow.Author.Tests.{leb-true, leb-false, not-true, not-false}
 use borrow.Author.Needs.{needs}
 use Rattle.grammar.specs.Slots.{partsFrom}
 use Rattle.grammar.proofs.Openings.{cut-head, unknown-mark, wrong-slot, backward, head-fine}
@@ -30,14 +30,14 @@ allows-requires c κs = search needs
 
 returns-3 : tie.Need-returns-3
 returns-3 c =
-    let h = c .before .before .before .before .read-head in
-    wrong-slot _ _ (partsFrom (c .before .before .before .before .before .before .before .args .k)) (h .result) _ (h .ensures) (c .before .before .before .mark-number .ensures) (c .before .before .before .before .before .if1 .left) (c .before .before .if2 .left) (sym (c .before .allows .ensures) ∙ not-true _ (c .if3 .taken))
+    let h = c .before .before .before .before .before .read-head in
+    wrong-slot _ _ (partsFrom (c .before .before .before .before .before .before .before .before .args .k)) (h .result) _ (h .ensures) (c .before .before .before .before .mark-number .ensures) (c .before .before .before .before .before .before .if1 .left) (c .before .before .before .if2 .left) (sym (c .before .before .allows .ensures) ∙ not-true _ (c .if3 .taken))
 
 returns-4 : tie.Need-returns-4
 returns-4 c =
     let h = c .before .before .before .before .before .before .read-head in
-    let good = sym (c .before .before .before .allows .ensures) ∙ not-false _ (c .before .before .if3 .left) in
-    backward _ _ (partsFrom (c .before .before .before .before .before .before .before .before .before .args .k)) (h .result) _ (h .ensures) (c .before .before .before .before .before .mark-number .ensures) (c .before .before .before .before .before .before .before .if1 .left) (c .before .before .before .before .if2 .left) good (c .if4 .taken)
+    let placed = sym (c .before .before .before .allows .ensures) ∙ not-false _ (c .before .if3 .left) in
+    backward _ _ (partsFrom (c .before .before .before .before .before .before .before .before .before .args .k)) (h .result) _ (h .ensures) (c .before .before .before .before .before .mark-number .ensures) (c .before .before .before .before .before .before .before .if1 .left) (c .before .before .before .before .if2 .left) placed (leb-false _ _ (not-true _ (c .if4 .taken)))
 
 open-body-requires : tie.Need-open-body-requires
 open-body-requires c κs = (omega arith, c .before .before .before .before .before .before .read-head .ensures, c .before .before .before .before .before .mark-number .ensures)
@@ -45,8 +45,8 @@ open-body-requires c κs = (omega arith, c .before .before .before .before .befo
 returns-5 : tie.Need-returns-5
 returns-5 c =
     let h = c .before .before .before .before .before .before .before .read-head in
-    let good = sym (c .before .before .before .before .allows .ensures) ∙ not-false _ (c .before .before .before .if3 .left) in
-    c .open-body .ensures ∙ head-fine _ _ (partsFrom (c .before .before .before .before .before .before .before .before .before .before .args .k)) (h .result) _ (h .ensures) (c .before .before .before .before .before .before .mark-number .ensures) (c .before .before .before .before .before .before .before .before .if1 .left) (c .before .before .before .before .before .if2 .left) good (c .before .if4 .left)
+    let placed = sym (c .before .before .before .before .allows .ensures) ∙ not-false _ (c .before .before .if3 .left) in
+    head-fine _ _ (partsFrom (c .before .before .before .before .before .before .before .before .before .before .args .k)) (h .result) _ (h .ensures) (c .before .before .before .before .before .before .mark-number .ensures) (c .before .before .before .before .before .before .before .before .if1 .left) (c .before .before .before .before .before .if2 .left) placed (leb-true _ _ (not-false _ (c .before .if4 .left))) _ (c .open-body .ensures)
 
 pub open-record-spec : {M : Type 1} → statement M
 open-record-spec =

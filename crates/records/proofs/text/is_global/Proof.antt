@@ -1,13 +1,9 @@
 -- `records::text::is_global` meets its contract: an accepted Id has a context. Assumes nothing.
-use mathlib.Core.Path.{_≡_, refl, sym, ap, _∙_}
+use mathlib.Core.Path.{sym, ap, _∙_}
 use mathlib.Core.List.{List}
-use mathlib.Core.Bool.{Bool, true, false, _&&_}
 use Prim.Native.Nat.{ℕ}
-use native.Mathlib.Omega.{arith}
 use borrow.Author.Needs.{needs}
 use lib.Dec.{eqb}
-use lib.ListN.{drop}
-use Rattle.definition.specs.Tree.{textAt}
 use Rattle.definition.specs.Record.{sameText}
 use Rattle.definition.proofs.Children.{itself}
 use Rattle.definition.proofs.Kids.{id-text}

@@ -1,0 +1,131 @@
+// The check at document 01's limits, which are too large to evaluate in the logic: the longest tree and one byte more, 64 and 65 levels, the
+// longest overload list and one entry more. Each line is the check's answer.
+use grammar::Checked;
+use libc::STDOUT_FILENO;
+use records::Head;
+use records::marks::IM;
+use records::marks::MO;
+use records::marks::OE;
+use records::marks::OP;
+use records::marks::PR;
+use records::marks::XE;
+
+const LONGEST_TREE: usize = 524288;
+
+const TREE: usize = 524289;
+
+const LONGEST_LIST: usize = 40960;
+
+const LIST: usize = 40970;
+
+const ENTRY: usize = 10;
+
+const OV: usize = 0x766f;
+
+fn show(found: Checked) {
+    match found {
+        Checked::Fine(end) => {
+            io::write_all(STDOUT_FILENO, b"accepted, ");
+            io::print_decimal(STDOUT_FILENO, end as u64);
+            io::write_all(STDOUT_FILENO, b" bytes\n");
+        }
+        Checked::Refused(refusal, place) => {
+            io::write_all(STDOUT_FILENO, b"refused ");
+            io::print_decimal(STDOUT_FILENO, grammar::number_of(refusal) as u64);
+            io::write_all(STDOUT_FILENO, b" at ");
+            io::print_decimal(STDOUT_FILENO, place as u64);
+            io::write_all(STDOUT_FILENO, b"\n");
+        }
+    }
+}
+
+fn put(tree: &mut [u8], p: usize, mark: u16, text: usize, count: usize) -> usize {
+    records::put_head(
+        tree,
+        p,
+        Head {
+            mark,
+            flags: 0,
+            start: 0,
+            end: 0,
+            text,
+            count,
+        },
+    )
+}
+
+// An Im with an Op of n bytes of text.
+fn filler(tree: &mut [u8], p: usize, n: usize) -> usize {
+    let q = put(tree, p, IM, 0, 1);
+    records::advance(put(tree, q, OP, n, 0), n)
+}
+
+// A Mo of 524,288 bytes: eight items whose texts fill it.
+fn fill(tree: &mut [u8]) {
+    let mut p = put(tree, 0, MO, 0, 8);
+    p = filler(tree, p, 65504);
+    p = filler(tree, p, 65504);
+    p = filler(tree, p, 65504);
+    p = filler(tree, p, 65504);
+    p = filler(tree, p, 65504);
+    p = filler(tree, p, 65504);
+    p = filler(tree, p, 65504);
+    filler(tree, p, 65505);
+}
+
+// A Mo of so many levels and two more: an Xe, so many Pr and an Oe.
+fn nest(tree: &mut [u8], levels: usize) {
+    let mut p = put(tree, 0, MO, 0, 1);
+    p = put(tree, p, XE, 0, 1);
+    let mut n = levels;
+    while 0 < n {
+        p = put(tree, p, PR, 0, 1);
+        n -= 1;
+    }
+    put(tree, p, OE, 0, 0);
+}
+
+// So many entries of an overload list, each from 0 to 0.
+fn entries(list: &mut [u8], count: usize) {
+    let mut p: usize = 0;
+    let mut n = count;
+    while 0 < n {
+        records::put2(list, p, OV);
+        p = records::advance(p, ENTRY);
+        n -= 1;
+    }
+}
+
+// The answer for the first n bytes of a tree and the first m of a list.
+fn try_parts(tree: &[u8], n: usize, list: &[u8], m: usize) {
+    if n <= tree.len() {
+        if m <= list.len() {
+            show(grammar::check_tree(&tree[..n], &list[..m]));
+        }
+    }
+}
+
+fn run(tree: &mut [u8], list: &mut [u8]) {
+    entries(list, 4097);
+    fill(tree);
+    io::write_all(STDOUT_FILENO, b"524,288 bytes: ");
+    try_parts(tree, LONGEST_TREE, list, 0);
+    io::write_all(STDOUT_FILENO, b"524,289 bytes: ");
+    try_parts(tree, TREE, list, 0);
+    io::write_all(STDOUT_FILENO, b"40,960 bytes of list: ");
+    try_parts(tree, LONGEST_TREE, list, LONGEST_LIST);
+    io::write_all(STDOUT_FILENO, b"40,970 bytes of list: ");
+    try_parts(tree, LONGEST_TREE, list, LIST);
+    nest(tree, 61);
+    io::write_all(STDOUT_FILENO, b"64 levels: ");
+    try_parts(tree, 960, list, 0);
+    nest(tree, 62);
+    io::write_all(STDOUT_FILENO, b"65 levels: ");
+    try_parts(tree, 975, list, 0);
+}
+
+fn main() {
+    let mut list = [0u8; LIST];
+    let mut tree = [0u8; TREE];
+    run(&mut tree, &mut list);
+}

@@ -1,0 +1,461 @@
+-- What the definition of the prescan says of the record at an offset, by its mark. Assumes nothing.
+use mathlib.Core.Path.{_≡_, refl, sym, ap, _∙_}
+use mathlib.Core.List.{List, [], _∷_}
+use mathlib.Core.Bool.{Bool, true, false, cond, not, _&&_, _||_}
+use mathlib.Core.Logic.{_⊎_, inl, inr, ⊎-elim}
+use Prim.Native.Nat.{ℕ, _-_, _/_, _%_, _<_, _≤_}
+use native.Mathlib.Omega.{arith}
+use lib.Dec.{eqb}
+use lib.ListN.{drop}
+use borrow.Author.Tests.{eq-eqb, ne-eqb}
+use Rattle.definition.specs.Tree.{Head, Rec, Recs, rec, nil, cons, markAt, flagsAt, countAt, textAt, bodyAt, headAt, readAll, endAt, treeAt}
+use Rattle.definition.specs.Grammar.{mark, marks, member, _or_, declaration, type, expression, pattern, optional, grammar, known, slots, place}
+use Rattle.definition.specs.Children.{AcceptedAt, AllAccepted}
+use Rattle.definition.specs.Record.{text, sameText, headOf, kidsOf, markOf, textOf, is, isNo, symbolOf, has2, kid}
+use Rattle.definition.specs.Prescan.{
+  ArrayType,
+  ArrayType.aArray,
+  ArrayType.aReadonly,
+  ArrayType.aRef,
+  ArrayType.aOther,
+  arrayTypeKind,
+  refersToArray,
+  isArrayTypeBy,
+  isArrayType,
+  firstIsArrayType,
+  ArrayInit,
+  ArrayInit.iArray,
+  ArrayInit.iThrough,
+  ArrayInit.iAs,
+  ArrayInit.iOther,
+  arrayInitKind,
+  isArrayLitInitBy,
+  isArrayLitInit,
+  firstIsArrayLitInit,
+  Question,
+  Question.typeofSafe,
+  Question.nonGenericClass,
+  Question.arrayTyped,
+  addClass,
+  addConst,
+  named,
+  addDeclarator,
+  addDeclarators,
+  Declared,
+  Declared.dFn,
+  Declared.dClass,
+  Declared.dVar,
+  Declared.dOther,
+  declaredKind,
+  addDeclBy,
+  addFn,
+  addDecl,
+  addItem,
+  asked,
+}
+use Rattle.records.specs.Whole.{Whole}
+use Rattle.records.proofs.Whole.{accepted-whole}
+use Rattle.definition.proofs.Kids.{fixed, Child, placed, wider, member-one, head-is, mark-is, flags-is, kids-are, first-in, second-in}
+use Rattle.definition.proofs.Children.{children, first-one, others, readAll-more, readAll-none}
+use Rattle.prescan.specs.Question.{addVar}
+
+-- an accepted record lies in the tree, as `record_end` asks
+pub lies : {left : ℕ} {s : List ℕ} {at : ℕ} → AcceptedAt left s at → Whole left s at
+lies {left} {s} {at} a = accepted-whole left s at (a .slots) (a .past) (a .checked)
+
+-- In each module m is the mark of the record at `at`, as the code read it.
+
+-- ---- `is_array_type`
+
+type-by : (r : Rec) → isArrayType r ≡ isArrayTypeBy (arrayTypeKind (markOf r)) (kidsOf r) (firstIsArrayType (kidsOf r))
+unfolding isArrayType
+type-by (rec h ks) = refl
+
+first-type : (ks : Recs) → firstIsArrayType ks ≡ isArrayType (kid 0 ks)
+unfolding isArrayType firstIsArrayType arrayTypeKind isArrayTypeBy
+first-type nil = refl
+first-type (cons r rs) = refl
+
+module _ (left : ℕ) (s : List ℕ) (at m : ℕ) (mq : m ≡ markAt s at) where
+  type-of : (k : ArrayType) → arrayTypeKind m ≡ k →
+      isArrayType (treeAt left s at) ≡ isArrayTypeBy k (kidsOf (treeAt left s at)) (isArrayType (kid 0 (kidsOf (treeAt left s at))))
+  type-of k e =
+      type-by (treeAt left s at) ∙
+      (ap (λ (b : Bool). isArrayTypeBy (arrayTypeKind (markOf (treeAt left s at))) (kidsOf (treeAt left s at)) b) (first-type (kidsOf (treeAt left s at))) ∙
+      ap (λ (j : ArrayType). isArrayTypeBy j (kidsOf (treeAt left s at)) (isArrayType (kid 0 (kidsOf (treeAt left s at))))) (ap arrayTypeKind (mark-is left s at ∙ sym mq) ∙ e))
+
+  pub type-array : (m ≡ mark "Tu") ⊎ (m ≡ mark "Ay") → isArrayType (treeAt left s at) ≡ true
+  unfolding arrayTypeKind isArrayTypeBy
+  type-array h = type-of aArray (⊎-elim (λ (e : m ≡ mark "Tu"). rw e) (λ (e : m ≡ mark "Ay"). rw e) h)
+
+  pub type-other : ((m ≡ mark "Tu") ⊎ (m ≡ mark "Ay") → ⊥) → (m ≡ mark "Ro" → ⊥) → (m ≡ mark "Rf" → ⊥) → isArrayType (treeAt left s at) ≡ false
+  unfolding arrayTypeKind isArrayTypeBy
+  type-other n o f =
+      type-of aOther (rw (ne-eqb m (mark "Ay") (λ e. n (inr e)), ne-eqb m (mark "Tu") (λ e. n (inl e)), ne-eqb m (mark "Ro") o, ne-eqb m (mark "Rf") f))
+
+  module _ (a : AcceptedAt left s at) (p : ℕ) (pq : p ≡ bodyAt s at) where
+    -- what a `readonly` stands before
+    pub readonly-child : m ≡ mark "Ro" → Child left s at 0 p type
+    unfolding grammar known slots place fixed
+    readonly-child e = placed (first-in left s at a (mark "Ro") (sym mq ∙ e) refl type refl) pq
+
+    pub type-readonly : m ≡ mark "Ro" → isArrayType (treeAt left s at) ≡ isArrayType (treeAt (left - 1) s p)
+    unfolding arrayTypeKind isArrayTypeBy
+    type-readonly e = type-of aReadonly (rw e) ∙ ap isArrayType (readonly-child e .tree)
+
+    -- the name of a reference
+    pub ref-child : m ≡ mark "Rf" → Child left s at 0 p "Id Op"
+    unfolding grammar known slots place fixed
+    ref-child e = placed (first-in left s at a (mark "Rf") (sym mq ∙ e) refl "Id Op" refl) pq
+
+    pub type-ref : m ≡ mark "Rf" → isArrayType (treeAt left s at) ≡ refersToArray (treeAt (left - 1) s p)
+    unfolding arrayTypeKind isArrayTypeBy
+    type-ref e = type-of aRef (rw e) ∙ ap refersToArray (ref-child e .tree)
+
+module _ (left : ℕ) (s : List ℕ) (at m : ℕ) (mq : m ≡ markAt s at) where
+  refers-by : refersToArray (treeAt left s at) ≡
+      (eqb m (mark "Id") && (sameText (drop 4 (textAt s at)) (text "Array") || sameText (drop 4 (textAt s at)) (text "ReadonlyArray")))
+  unfolding headAt
+  refers-by =
+      rw mq (ap (λ (h : Head). eqb (h .mark) (mark "Id") && (sameText (drop 4 (h .text)) (text "Array") || sameText (drop 4 (h .text)) (text "ReadonlyArray"))) (head-is left s at))
+
+  pub refers-other : (m ≡ mark "Id" → ⊥) → refersToArray (treeAt left s at) ≡ false
+  refers-other n = refers-by ∙ rw (ne-eqb m (mark "Id") n)
+
+  -- y is the symbol
+  module _ (e : m ≡ mark "Id") (y : List ℕ) (yq : y ≡ drop 4 (textAt s at)) where
+    pub refers-array : sameText y (text "Array") ≡ true → refersToArray (treeAt left s at) ≡ true
+    refers-array q = refers-by ∙ rw (sym yq, eq-eqb m (mark "Id") e, q)
+
+    pub refers-readonly : sameText y (text "Array") ≡ false → refersToArray (treeAt left s at) ≡ sameText y (text "ReadonlyArray")
+    refers-readonly q = refers-by ∙ rw (sym yq, eq-eqb m (mark "Id") e, q)
+
+-- ---- `is_array_lit_init`
+
+init-by : (r : Rec) → isArrayLitInit r ≡ isArrayLitInitBy (arrayInitKind (markOf r)) (kidsOf r) (firstIsArrayLitInit (kidsOf r))
+unfolding isArrayLitInit
+init-by (rec h ks) = refl
+
+first-init : (ks : Recs) → firstIsArrayLitInit ks ≡ isArrayLitInit (kid 0 ks)
+unfolding isArrayLitInit firstIsArrayLitInit arrayInitKind isArrayLitInitBy
+first-init nil = refl
+first-init (cons r rs) = refl
+
+-- the marks of the expressions that are looked through
+abbrev pub Through : ℕ → Type 0
+Through m = (m ≡ mark "Tc") ⊎ ((m ≡ mark "Pr") ⊎ (m ≡ mark "Ts"))
+
+module _ (left : ℕ) (s : List ℕ) (at m : ℕ) (mq : m ≡ markAt s at) where
+  init-of : (k : ArrayInit) → arrayInitKind m ≡ k →
+      isArrayLitInit (treeAt left s at) ≡ isArrayLitInitBy k (kidsOf (treeAt left s at)) (isArrayLitInit (kid 0 (kidsOf (treeAt left s at))))
+  init-of k e =
+      init-by (treeAt left s at) ∙
+      (ap (λ (b : Bool). isArrayLitInitBy (arrayInitKind (markOf (treeAt left s at))) (kidsOf (treeAt left s at)) b) (first-init (kidsOf (treeAt left s at))) ∙
+      ap (λ (j : ArrayInit). isArrayLitInitBy j (kidsOf (treeAt left s at)) (isArrayLitInit (kid 0 (kidsOf (treeAt left s at))))) (ap arrayInitKind (mark-is left s at ∙ sym mq) ∙ e))
+
+  pub init-array : m ≡ mark "Ar" → isArrayLitInit (treeAt left s at) ≡ true
+  unfolding arrayInitKind isArrayLitInitBy
+  init-array e = init-of iArray (rw e)
+
+  pub init-other : (m ≡ mark "Ar" → ⊥) → (Through m → ⊥) → (m ≡ mark "As" → ⊥) → isArrayLitInit (treeAt left s at) ≡ false
+  unfolding arrayInitKind isArrayLitInitBy
+  init-other r n o =
+      init-of iOther
+      (rw (ne-eqb m (mark "Ar") r, ne-eqb m (mark "Pr") (λ e. n (inr (inl e))), ne-eqb m (mark "Tc") (λ e. n (inl e)), ne-eqb m (mark "Ts") (λ e. n (inr (inr e))), ne-eqb m (mark "As") o))
+
+  module _ (a : AcceptedAt left s at) (p : ℕ) (pq : p ≡ bodyAt s at) where
+    pub through-child : Through m → Child left s at 0 p expression
+    unfolding grammar known slots place fixed
+    through-child h = placed (⊎-elim
+        (λ (e : m ≡ mark "Tc"). first-in left s at a (mark "Tc") (sym mq ∙ e) refl expression refl)
+        (⊎-elim
+        (λ (e : m ≡ mark "Pr"). first-in left s at a (mark "Pr") (sym mq ∙ e) refl expression refl)
+        (λ (e : m ≡ mark "Ts"). first-in left s at a (mark "Ts") (sym mq ∙ e) refl expression refl))
+        h) pq
+
+    pub init-through : Through m → isArrayLitInit (treeAt left s at) ≡ isArrayLitInit (treeAt (left - 1) s p)
+    unfolding arrayInitKind isArrayLitInitBy
+    init-through h =
+        init-of iThrough (⊎-elim (λ (e : m ≡ mark "Tc"). rw e) (⊎-elim (λ (e : m ≡ mark "Pr"). rw e) (λ (e : m ≡ mark "Ts"). rw e)) h) ∙
+        ap isArrayLitInit (through-child h .tree)
+
+    -- the expression of an As, and its type, which stands behind it
+    pub as-expr : m ≡ mark "As" → Child left s at 0 p expression
+    unfolding grammar known slots place fixed
+    as-expr e = placed (first-in left s at a (mark "As") (sym mq ∙ e) refl expression refl) pq
+
+    module _ (t : ℕ) (tq : t ≡ endAt (left - 1) s p) where
+      pub as-type : m ≡ mark "As" → Child left s at 1 t type
+      unfolding grammar known slots place fixed
+      as-type e = placed (second-in left s at a (mark "As") (sym mq ∙ e) refl type refl) (tq ∙ ap (endAt (left - 1) s) pq)
+
+      pub init-as : m ≡ mark "As" → isArrayLitInit (treeAt left s at) ≡ isArrayType (treeAt (left - 1) s t)
+      unfolding arrayInitKind isArrayLitInitBy
+      init-as e = init-of iAs (rw e) ∙ ap isArrayType (as-type e .tree)
+
+-- ---- what is declared under a name
+
+module _ (left : ℕ) (s : List ℕ) (at m : ℕ) (mq : m ≡ markAt s at) (name : List ℕ) where
+  named-by : named name (treeAt left s at) ≡ (eqb m (mark "Id") && sameText (textAt s at) name)
+  unfolding headAt
+  named-by = rw mq (ap (λ (h : Head). eqb (h .mark) (mark "Id") && sameText (h .text) name) (head-is left s at))
+
+  pub named-other : (m ≡ mark "Id" → ⊥) → named name (treeAt left s at) ≡ false
+  named-other n = named-by ∙ rw (ne-eqb m (mark "Id") n)
+
+  pub named-is : m ≡ mark "Id" → named name (treeAt left s at) ≡ sameText (textAt s at) name
+  named-is e = named-by ∙ rw (eq-eqb m (mark "Id") e)
+
+-- `add_class`: the type parameters of a Cl
+module _ (left : ℕ) (s : List ℕ) (at : ℕ) (a : AcceptedAt left s at) (e : markAt s at ≡ mark "Cl") (p : ℕ) (pq : p ≡ bodyAt s at) where
+  pub params-child : Child left s at 0 p (optional "Op")
+  unfolding grammar known slots place fixed
+  params-child = placed (first-in left s at a (mark "Cl") e refl (optional "Op") refl) pq
+
+  pub class-plain : addClass nonGenericClass (treeAt left s at) ≡ eqb (markAt s p) (mark "No")
+  class-plain = ap isNo (params-child .tree) ∙ ap (λ (k : ℕ). eqb k (mark "No")) (mark-is (left - 1) s p)
+
+-- a const with the type at t, whose mark is m, and the init at v
+module _ (l k : ℕ) (s : List ℕ) (t m : ℕ) (mq : m ≡ markAt s t) (v : ℕ) where
+  no-by : isNo (treeAt l s t) ≡ eqb m (mark "No")
+  no-by = ap (λ (j : ℕ). eqb j (mark "No")) (mark-is l s t ∙ sym mq)
+
+  pub const-typed : (m ≡ mark "No" → ⊥) → addConst typeofSafe (treeAt l s t) (treeAt k s v) ≡ true
+  const-typed n = rw (no-by ∙ ne-eqb m (mark "No") n)
+
+  pub const-by-init : m ≡ mark "No" → addConst arrayTyped (treeAt l s t) (treeAt k s v) ≡ isArrayLitInit (treeAt k s v)
+  const-by-init e = rw (no-by ∙ eq-eqb m (mark "No") e)
+
+  pub const-by-type : (m ≡ mark "No" → ⊥) → addConst arrayTyped (treeAt l s t) (treeAt k s v) ≡ isArrayType (treeAt l s t)
+  const-by-type n = rw (no-by ∙ ne-eqb m (mark "No") n)
+
+  -- the init's mark is w
+  module _ (e : m ≡ mark "No") (w : ℕ) (wq : w ≡ markAt s v) where
+    untyped : addConst typeofSafe (treeAt l s t) (treeAt k s v) ≡ (eqb w (mark "Fx") || eqb w (mark "Aw"))
+    untyped = rw (no-by ∙ eq-eqb m (mark "No") e) (ap (λ (j : ℕ). eqb j (mark "Fx") || eqb j (mark "Aw")) (mark-is k s v ∙ sym wq))
+
+    pub const-function : (w ≡ mark "Aw") ⊎ (w ≡ mark "Fx") → addConst typeofSafe (treeAt l s t) (treeAt k s v) ≡ true
+    const-function h = untyped ∙ ⊎-elim (λ (f : w ≡ mark "Aw"). rw f) (λ (f : w ≡ mark "Fx"). rw f) h
+
+    pub const-plain : ((w ≡ mark "Aw") ⊎ (w ≡ mark "Fx") → ⊥) → addConst typeofSafe (treeAt l s t) (treeAt k s v) ≡ false
+    const-plain n = untyped ∙ rw (ne-eqb w (mark "Fx") (λ f. n (inr f)), ne-eqb w (mark "Aw") (λ f. n (inl f)))
+
+-- ---- a declarator
+
+module _ (left : ℕ) (s : List ℕ) (at m : ℕ) (mq : m ≡ markAt s at) (q : Question) (name : List ℕ) where
+  declarator-by : addDeclarator q name (treeAt left s at) ≡
+      ((eqb m (mark "Vr") && is "Bd" (kid 0 (kidsOf (treeAt left s at)))) &&
+      (named name (kid 0 (kidsOf (kid 0 (kidsOf (treeAt left s at))))) &&
+      addConst q (kid 1 (kidsOf (kid 0 (kidsOf (treeAt left s at))))) (kid 1 (kidsOf (treeAt left s at)))))
+  unfolding addDeclarator
+  declarator-by = rw (mark-is left s at, mq)
+
+  pub declarator-other : (m ≡ mark "Vr" → ⊥) → addDeclarator q name (treeAt left s at) ≡ false
+  declarator-other n = declarator-by ∙ rw (ne-eqb m (mark "Vr") n)
+
+  module _ (a : AcceptedAt left s at) (e : m ≡ mark "Vr") (p : ℕ) (pq : p ≡ bodyAt s at) where
+    -- its pattern, at p
+    pub pattern-child : Child left s at 0 p pattern
+    unfolding grammar known slots place fixed
+    pattern-child = placed (first-in left s at a (mark "Vr") (sym mq ∙ e) refl pattern refl) pq
+
+    -- its init, at v, behind the pattern
+    pub init-child : (v : ℕ) → v ≡ endAt (left - 1) s p → Child left s at 1 v (optional expression)
+    unfolding grammar known slots place fixed
+    init-child v r = placed (second-in left s at a (mark "Vr") (sym mq ∙ e) refl (optional expression) refl) (r ∙ ap (endAt (left - 1) s) pq)
+
+    -- the pattern's mark is w
+    module _ (w : ℕ) (wq : w ≡ markAt s p) where
+      pub declarator-pattern : (w ≡ mark "Bd" → ⊥) → addDeclarator q name (treeAt left s at) ≡ false
+      declarator-pattern n =
+          declarator-by ∙ rw (eq-eqb m (mark "Vr") e, pattern-child .tree, mark-is (left - 1) s p, sym wq, ne-eqb w (mark "Bd") n)
+
+      module _ (f : w ≡ mark "Bd") (i : ℕ) (iq : i ≡ bodyAt s p) where
+        -- the pattern's name, at i
+        pub ident-child : Child (left - 1) s p 0 i "Id"
+        unfolding grammar known slots place fixed
+        ident-child = placed (first-in (left - 1) s p (pattern-child .accepted) (mark "Bd") (sym wq ∙ f) refl "Id" refl) iq
+
+        named-by-ident : addDeclarator q name (treeAt left s at) ≡
+            (named name (treeAt (left - 1 - 1) s i) && addConst q (kid 1 (kidsOf (treeAt (left - 1) s p))) (kid 1 (kidsOf (treeAt left s at))))
+        named-by-ident =
+            declarator-by ∙ rw (eq-eqb m (mark "Vr") e, pattern-child .tree, mark-is (left - 1) s p, sym wq, eq-eqb w (mark "Bd") f, ident-child .tree)
+
+        pub declarator-unnamed : named name (treeAt (left - 1 - 1) s i) ≡ false → addDeclarator q name (treeAt left s at) ≡ false
+        declarator-unnamed n = named-by-ident ∙ rw n
+
+        module _ (t : ℕ) (tq : t ≡ endAt (left - 1 - 1) s i) where
+          -- its type, at t, behind the name
+          pub type-child : Child (left - 1) s p 1 t (optional type)
+          unfolding grammar known slots place fixed
+          type-child =
+              placed (second-in (left - 1) s p (pattern-child .accepted) (mark "Bd") (sym wq ∙ f) refl (optional type) refl) (tq ∙ ap (endAt (left - 1 - 1) s) iq)
+
+          pub declarator-named : (v : ℕ) → v ≡ endAt (left - 1) s p → named name (treeAt (left - 1 - 1) s i) ≡ true →
+              addDeclarator q name (treeAt left s at) ≡ addConst q (treeAt (left - 1 - 1) s t) (treeAt (left - 1) s v)
+          declarator-named v r n = named-by-ident ∙ rw (n, type-child .tree, init-child v r .tree)
+
+-- ---- a search among siblings
+
+-- with n of the records `whole` left, the first of them at c: they are accepted, and the answer F for all of them is the one for those left
+pub record Seek (F : Recs → Bool) (whole : Recs) (left : ℕ) (s : List ℕ) (n c : ℕ) : Type 0 where
+  pub all : AllAccepted left s n c
+  pub rest : F whole ≡ F (readAll (treeAt left s) (endAt left s) n c)
+
+pub seek-start : (F : Recs → Bool) (left : ℕ) (s : List ℕ) (at : ℕ) → AcceptedAt left s at → (n c : ℕ) → n ≡ countAt s at → c ≡ bodyAt s at →
+    Seek F (kidsOf (treeAt left s at)) (left - 1) s n c
+seek-start F left s at a n c nq cq = rw (nq, cq) (record { all = children left s at a; rest = ap F (kids-are left s at a) })
+
+-- where F is f of some record
+module _ (F : Recs → Bool) (f : Rec → Bool) (step : (r : Rec) (rs : Recs) → F (cons r rs) ≡ (f r || F rs)) (none : F nil ≡ false) (whole : Recs) (left : ℕ) (s : List ℕ) (n c : ℕ) (i : Seek F whole left s n c) where
+  pub seek-first : 0 < n → AcceptedAt left s c
+  seek-first h = first-one left s n c (i .all) h
+
+  turn : 0 < n → F whole ≡ (f (treeAt left s c) || F (readAll (treeAt left s) (endAt left s) (n - 1) (endAt left s c)))
+  turn h = i .rest ∙ (ap F (readAll-more (treeAt left s) (endAt left s) n c h) ∙ step (treeAt left s c) (readAll (treeAt left s) (endAt left s) (n - 1) (endAt left s c)))
+
+  pub seek-here : 0 < n → f (treeAt left s c) ≡ true → F whole ≡ true
+  seek-here h e = turn h ∙ rw e
+
+  pub seek-next : 0 < n → f (treeAt left s c) ≡ false → (d : ℕ) → d ≡ endAt left s c → Seek F whole left s (n - 1) d
+  seek-next h e d dq = rw dq (record { all = others left s n c (i .all) h; rest = turn h ∙ rw e })
+
+  pub seek-done : n ≤ 0 → F whole ≡ false
+  seek-done h = i .rest ∙ (ap F (readAll-none (treeAt left s) (endAt left s) n c h) ∙ none)
+
+-- ---- the declarators of a const
+
+module _ (q : Question) (name : List ℕ) where
+  abbrev pub Declares : Recs → Bool
+  Declares ks = addDeclarators q name ks
+
+  pub declares-step : (r : Rec) (rs : Recs) → Declares (cons r rs) ≡ (addDeclarator q name r || Declares rs)
+  unfolding addDeclarators
+  declares-step r rs = refl
+
+  pub declares-none : Declares nil ≡ false
+  unfolding addDeclarators
+  declares-none = refl
+
+-- f is the record's flags
+module _ (left : ℕ) (s : List ℕ) (at f : ℕ) (fq : f ≡ flagsAt s at) (q : Question) (name : List ℕ) where
+  var-by : addVar q name (treeAt left s at) ≡ (eqb (f / 2 % 2) 1 && addDeclarators q name (kidsOf (treeAt left s at)))
+  var-by = ap (λ (k : ℕ). eqb (k / 2 % 2) 1 && addDeclarators q name (kidsOf (treeAt left s at))) (flags-is left s at ∙ sym fq)
+
+  pub var-other : (f / 2 % 2 ≡ 1 → ⊥) → addVar q name (treeAt left s at) ≡ false
+  var-other n = var-by ∙ rw (ne-eqb (f / 2 % 2) 1 n)
+
+  pub var-const : f / 2 % 2 ≡ 1 → addVar q name (treeAt left s at) ≡ addDeclarators q name (kidsOf (treeAt left s at))
+  var-const e = var-by ∙ rw (eq-eqb (f / 2 % 2) 1 e)
+
+-- ---- a declaration
+
+module _ (left : ℕ) (s : List ℕ) (at m : ℕ) (mq : m ≡ markAt s at) (q : Question) (name : List ℕ) where
+  decl-by : (k : Declared) → declaredKind m ≡ k → addDecl q name (treeAt left s at) ≡ addDeclBy k q name (treeAt left s at)
+  decl-by k e = ap (λ (j : Declared). addDeclBy j q name (treeAt left s at)) (ap declaredKind (mark-is left s at ∙ sym mq) ∙ e)
+
+  pub decl-var : m ≡ mark "Vd" → addDecl q name (treeAt left s at) ≡ addVar q name (treeAt left s at)
+  unfolding declaredKind addDeclBy
+  decl-var e = decl-by dVar (rw e)
+
+  abbrev pub Fn : Type 0
+  Fn = (m ≡ mark "Fd") ⊎ (m ≡ mark "Fx")
+
+  abbrev pub Class : Type 0
+  Class = (m ≡ mark "Cd") ⊎ (m ≡ mark "Cx")
+
+  pub decl-other : (Fn → ⊥) → (Class → ⊥) → (m ≡ mark "Vd" → ⊥) → addDecl q name (treeAt left s at) ≡ false
+  unfolding declaredKind addDeclBy
+  decl-other f c v =
+      decl-by dOther
+      (rw (ne-eqb m (mark "Fd") (λ e. f (inl e)), ne-eqb m (mark "Fx") (λ e. f (inr e)), ne-eqb m (mark "Cd") (λ e. c (inl e)), ne-eqb m (mark "Cx") (λ e. c (inr e)), ne-eqb m (mark "Vd") v))
+
+  -- the name stands at p
+  module _ (a : AcceptedAt left s at) (p : ℕ) (pq : p ≡ bodyAt s at) where
+    pub fn-ident : Fn → Child left s at 0 p (optional "Id")
+    unfolding grammar known slots place fixed marks member
+    fn-ident h = placed (⊎-elim
+        (λ (e : m ≡ mark "Fd"). wider (first-in left s at a (mark "Fd") (sym mq ∙ e) refl "Id" refl) (optional "Id") refl)
+        (λ (e : m ≡ mark "Fx"). first-in left s at a (mark "Fx") (sym mq ∙ e) refl (optional "Id") refl)
+        h) pq
+
+    fn-by : Fn → addDecl q name (treeAt left s at) ≡ (named name (treeAt (left - 1) s p) && addFn q)
+    unfolding declaredKind addDeclBy
+    fn-by h = decl-by dFn (⊎-elim (λ (e : m ≡ mark "Fd"). rw e) (λ (e : m ≡ mark "Fx"). rw e) h) ∙ rw (fn-ident h .tree)
+
+    pub decl-fn : Fn → named name (treeAt (left - 1) s p) ≡ true → addDecl q name (treeAt left s at) ≡ addFn q
+    decl-fn h n = fn-by h ∙ rw n
+
+    pub fn-unnamed : Fn → named name (treeAt (left - 1) s p) ≡ false → addDecl q name (treeAt left s at) ≡ false
+    fn-unnamed h n = fn-by h ∙ rw n
+
+    pub class-ident : Class → Child left s at 0 p (optional "Id")
+    unfolding grammar known slots place fixed marks member
+    class-ident h = placed (⊎-elim
+        (λ (e : m ≡ mark "Cd"). wider (first-in left s at a (mark "Cd") (sym mq ∙ e) refl "Id" refl) (optional "Id") refl)
+        (λ (e : m ≡ mark "Cx"). first-in left s at a (mark "Cx") (sym mq ∙ e) refl (optional "Id") refl)
+        h) pq
+
+    class-by : Class → addDecl q name (treeAt left s at) ≡ (named name (treeAt (left - 1) s p) && addClass q (kid 1 (kidsOf (treeAt left s at))))
+    unfolding declaredKind addDeclBy
+    class-by h = decl-by dClass (⊎-elim (λ (e : m ≡ mark "Cd"). rw e) (λ (e : m ≡ mark "Cx"). rw e) h) ∙ rw (class-ident h .tree)
+
+    pub class-unnamed : Class → named name (treeAt (left - 1) s p) ≡ false → addDecl q name (treeAt left s at) ≡ false
+    class-unnamed h n = class-by h ∙ rw n
+
+    -- the class stands at d, behind the name
+    module _ (h : Class) (d : ℕ) (dq : d ≡ endAt (left - 1) s p) where
+      pub class-child : Child left s at 1 d "Cl"
+      unfolding grammar known slots place fixed
+      class-child = placed (⊎-elim
+          (λ (e : m ≡ mark "Cd"). second-in left s at a (mark "Cd") (sym mq ∙ e) refl "Cl" refl)
+          (λ (e : m ≡ mark "Cx"). second-in left s at a (mark "Cx") (sym mq ∙ e) refl "Cl" refl)
+          h) (dq ∙ ap (endAt (left - 1) s) pq)
+
+      pub class-mark : markAt s d ≡ mark "Cl"
+      unfolding marks
+      class-mark = member-one (markAt s d) (mark "Cl") (class-child .marks)
+
+      pub decl-class : named name (treeAt (left - 1) s p) ≡ true → addDecl q name (treeAt left s at) ≡ addClass q (treeAt (left - 1) s d)
+      decl-class n = class-by h ∙ rw (n, class-child .tree)
+
+-- ---- an item
+
+module _ (left : ℕ) (s : List ℕ) (at m : ℕ) (mq : m ≡ markAt s at) (q : Question) (name : List ℕ) where
+  abbrev pub Export : Type 0
+  Export = (m ≡ mark "Ed") ⊎ (m ≡ mark "Xd")
+
+  item-by : addItem q name (treeAt left s at) ≡
+      addDecl q name (cond (eqb m (mark "Ed") || eqb m (mark "Xd")) (kid 0 (kidsOf (treeAt left s at))) (treeAt left s at))
+  item-by =
+      ap (λ (j : ℕ). addDecl q name (cond (eqb j (mark "Ed") || eqb j (mark "Xd")) (kid 0 (kidsOf (treeAt left s at))) (treeAt left s at))) (mark-is left s at ∙ sym mq)
+
+  pub item-plain : (Export → ⊥) → addItem q name (treeAt left s at) ≡ addDecl q name (treeAt left s at)
+  item-plain n = item-by ∙ rw (ne-eqb m (mark "Ed") (λ e. n (inl e)), ne-eqb m (mark "Xd") (λ e. n (inr e)))
+
+  module _ (a : AcceptedAt left s at) (p : ℕ) (pq : p ≡ bodyAt s at) (h : Export) where
+    pub export-child : Child left s at 0 p (declaration or "Cx Fx In")
+    unfolding grammar known slots place fixed marks member
+    export-child = placed (⊎-elim
+        (λ (e : m ≡ mark "Ed"). wider (first-in left s at a (mark "Ed") (sym mq ∙ e) refl declaration refl) (declaration or "Cx Fx In") refl)
+        (λ (e : m ≡ mark "Xd"). wider (first-in left s at a (mark "Xd") (sym mq ∙ e) refl "Cx Fx In" refl) (declaration or "Cx Fx In") refl)
+        h) pq
+
+    pub item-export : addItem q name (treeAt left s at) ≡ addDecl q name (treeAt (left - 1) s p)
+    item-export =
+        let b : (eqb m (mark "Ed") || eqb m (mark "Xd")) ≡ true = ⊎-elim (λ (e : m ≡ mark "Ed"). rw e) (λ (e : m ≡ mark "Xd"). rw e) h in
+        item-by ∙ rw (b, export-child .tree)
+
+-- ---- the items of the module
+
+module _ (q : Question) (name : List ℕ) where
+  abbrev pub Asks : Recs → Bool
+  Asks ks = asked q ks name
+
+  pub asks-step : (r : Rec) (rs : Recs) → Asks (cons r rs) ≡ (addItem q name r || Asks rs)
+  unfolding asked
+  asks-step r rs = refl
+
+  pub asks-none : Asks nil ≡ false
+  unfolding asked
+  asks-none = refl

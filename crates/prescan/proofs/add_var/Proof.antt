@@ -1,0 +1,78 @@
+-- `prescan::add_var` meets its contract: each turn of the loop passes one declarator that does not add the name. Assumes nothing.
+use mathlib.Core.Path.{sym, ap, _∙_}
+use Prim.Native.Nat.{_-_}
+use native.Mathlib.Omega.{arith}
+use Rattle.definition.specs.Tree.{treeAt}
+use Rattle.definition.specs.Record.{kidsOf}
+use Rattle.definition.specs.Prescan.{addDeclarator}
+use Rattle.definition.proofs.Children.{itself, some-left}
+use Rattle.records.specs.declared.Head.{Head}
+use Rattle.prescan.specs.Question.{meant}
+use Rattle.prescan.proofs.Laws.{lies, var-other, var-const, Declares, declares-step, declares-none, Seek, seek-start, seek-first, seek-here, seek-next, seek-done}
+use Rattle.prescan.proofs.add_var.Statement.{statement}
+use Rattle.prescan.proofs.add_var.Tie as tie
+
+abbrev Inv-loop : tie.InvT-loop
+Inv-loop tree at left name question n₀ declarator₀ n declarator = Seek (Declares (meant question) name) (kidsOf (treeAt left tree at)) (left - 1) tree n declarator
+
+abbrev μ-loop : tie.MeasureT-loop
+μ-loop tree at left name question n₀ declarator₀ n declarator = n
+
+read-head-requires : tie.Need-read-head-requires Inv-loop μ-loop
+read-head-requires c κs = itself (c .before .before .args .left) (c .before .before .args .tree .now) (c .before .before .args .at) (c .before .before .pre) .room
+
+returns : tie.Need-returns Inv-loop μ-loop
+returns c = sym (var-other (c .before .before .before .before .before .args .left) (c .before .before .before .before .before .args .tree .now) (c .before .before .before .before .before .args .at) (c .before .before .read-head .result .flags) (ap (λ (h : Head). h .flags) (c .before .before .read-head .ensures)) (meant (c .before .before .before .before .before .args .question)) (c .before .before .before .before .before .args .name .now) (c .if1 .taken))
+
+body-at-requires : tie.Need-body-at-requires Inv-loop μ-loop
+body-at-requires c κs = itself (c .before .before .before .before .before .args .left) (c .before .before .before .before .before .args .tree .now) (c .before .before .before .before .before .args .at) (c .before .before .before .before .before .pre) .room
+
+loop-holds : tie.Need-loop-holds Inv-loop μ-loop
+loop-holds c = seek-start (Declares (meant (c .before .before .before .before .before .before .args .question)) (c .before .before .before .before .before .before .args .name .now)) (c .before .before .before .before .before .before .args .left) (c .before .before .before .before .before .before .args .tree .now) (c .before .before .before .before .before .before .args .at) (c .before .before .before .before .before .before .pre) (c .before .before .before .read-head .result .count) (c .body-at .result) (ap (λ (h : Head). h .count) (c .before .before .before .read-head .ensures)) (c .body-at .ensures)
+
+sub-add-declarator : tie.Need-sub-add-declarator Inv-loop μ-loop
+sub-add-declarator c = omega (arith, some-left (c .before .before .before .before .before .before .before .before .args .left) (c .before .before .before .before .before .before .before .before .args .tree .now) (c .before .before .before .before .before .before .before .before .args .at) (c .before .before .before .before .before .before .before .before .pre))
+
+add-declarator-requires : tie.Need-add-declarator-requires Inv-loop μ-loop
+add-declarator-requires c κs = seek-first (Declares (meant (c .before .before .before .before .before .before .before .before .args .question)) (c .before .before .before .before .before .before .before .before .args .name .now)) (addDeclarator (meant (c .before .before .before .before .before .before .before .before .args .question)) (c .before .before .before .before .before .before .before .before .args .name .now)) (declares-step (meant (c .before .before .before .before .before .before .before .before .args .question)) (c .before .before .before .before .before .before .before .before .args .name .now)) (declares-none (meant (c .before .before .before .before .before .before .before .before .args .question)) (c .before .before .before .before .before .before .before .before .args .name .now)) (kidsOf (treeAt (c .before .before .before .before .before .before .before .before .args .left) (c .before .before .before .before .before .before .before .before .args .tree .now) (c .before .before .before .before .before .before .before .before .args .at))) (c .before .before .before .before .before .before .before .before .args .left - 1) (c .before .before .before .before .before .before .before .before .args .tree .now) (c .before .loop .n) (c .before .loop .declarator) (c .before .loop .inv) (c .loop-test .taken)
+
+returns-2 : tie.Need-returns-2 Inv-loop μ-loop
+returns-2 c = sym (var-const (c .before .before .before .before .before .before .before .before .before .before .args .left) (c .before .before .before .before .before .before .before .before .before .before .args .tree .now) (c .before .before .before .before .before .before .before .before .before .before .args .at) (c .before .before .before .before .before .before .before .read-head .result .flags) (ap (λ (h : Head). h .flags) (c .before .before .before .before .before .before .before .read-head .ensures)) (meant (c .before .before .before .before .before .before .before .before .before .before .args .question)) (c .before .before .before .before .before .before .before .before .before .before .args .name .now) (c .before .before .before .before .before .if1 .left) ∙ seek-here (Declares (meant (c .before .before .before .before .before .before .before .before .before .before .args .question)) (c .before .before .before .before .before .before .before .before .before .before .args .name .now)) (addDeclarator (meant (c .before .before .before .before .before .before .before .before .before .before .args .question)) (c .before .before .before .before .before .before .before .before .before .before .args .name .now)) (declares-step (meant (c .before .before .before .before .before .before .before .before .before .before .args .question)) (c .before .before .before .before .before .before .before .before .before .before .args .name .now)) (declares-none (meant (c .before .before .before .before .before .before .before .before .before .before .args .question)) (c .before .before .before .before .before .before .before .before .before .before .args .name .now)) (kidsOf (treeAt (c .before .before .before .before .before .before .before .before .before .before .args .left) (c .before .before .before .before .before .before .before .before .before .before .args .tree .now) (c .before .before .before .before .before .before .before .before .before .before .args .at))) (c .before .before .before .before .before .before .before .before .before .before .args .left - 1) (c .before .before .before .before .before .before .before .before .before .before .args .tree .now) (c .before .before .before .loop .n) (c .before .before .before .loop .declarator) (c .before .before .before .loop .inv) (c .before .before .loop-test .taken) (sym (c .before .add-declarator .ensures) ∙ c .if2 .taken))
+
+sub-record-end : tie.Need-sub-record-end Inv-loop μ-loop
+sub-record-end c = omega (arith, some-left (c .before .before .before .before .before .before .before .before .before .before .args .left) (c .before .before .before .before .before .before .before .before .before .before .args .tree .now) (c .before .before .before .before .before .before .before .before .before .before .args .at) (c .before .before .before .before .before .before .before .before .before .before .pre))
+
+record-end-requires : tie.Need-record-end-requires Inv-loop μ-loop
+record-end-requires c κs = lies (seek-first (Declares (meant (c .before .before .before .before .before .before .before .before .before .before .args .question)) (c .before .before .before .before .before .before .before .before .before .before .args .name .now)) (addDeclarator (meant (c .before .before .before .before .before .before .before .before .before .before .args .question)) (c .before .before .before .before .before .before .before .before .before .before .args .name .now)) (declares-step (meant (c .before .before .before .before .before .before .before .before .before .before .args .question)) (c .before .before .before .before .before .before .before .before .before .before .args .name .now)) (declares-none (meant (c .before .before .before .before .before .before .before .before .before .before .args .question)) (c .before .before .before .before .before .before .before .before .before .before .args .name .now)) (kidsOf (treeAt (c .before .before .before .before .before .before .before .before .before .before .args .left) (c .before .before .before .before .before .before .before .before .before .before .args .tree .now) (c .before .before .before .before .before .before .before .before .before .before .args .at))) (c .before .before .before .before .before .before .before .before .before .before .args .left - 1) (c .before .before .before .before .before .before .before .before .before .before .args .tree .now) (c .before .before .before .loop .n) (c .before .before .before .loop .declarator) (c .before .before .before .loop .inv) (c .before .before .loop-test .taken))
+
+sub-n : tie.Need-sub-n Inv-loop μ-loop
+sub-n c = omega arith
+
+loop-less : tie.Need-loop-less Inv-loop μ-loop
+loop-less c = omega arith
+
+loop-again : tie.Need-loop-again Inv-loop μ-loop
+loop-again c = seek-next (Declares (meant (c .before .before .before .before .before .before .before .before .before .before .before .args .question)) (c .before .before .before .before .before .before .before .before .before .before .before .args .name .now)) (addDeclarator (meant (c .before .before .before .before .before .before .before .before .before .before .before .args .question)) (c .before .before .before .before .before .before .before .before .before .before .before .args .name .now)) (declares-step (meant (c .before .before .before .before .before .before .before .before .before .before .before .args .question)) (c .before .before .before .before .before .before .before .before .before .before .before .args .name .now)) (declares-none (meant (c .before .before .before .before .before .before .before .before .before .before .before .args .question)) (c .before .before .before .before .before .before .before .before .before .before .before .args .name .now)) (kidsOf (treeAt (c .before .before .before .before .before .before .before .before .before .before .before .args .left) (c .before .before .before .before .before .before .before .before .before .before .before .args .tree .now) (c .before .before .before .before .before .before .before .before .before .before .before .args .at))) (c .before .before .before .before .before .before .before .before .before .before .before .args .left - 1) (c .before .before .before .before .before .before .before .before .before .before .before .args .tree .now) (c .before .before .before .before .loop .n) (c .before .before .before .before .loop .declarator) (c .before .before .before .before .loop .inv) (c .before .before .before .loop-test .taken) (sym (c .before .before .add-declarator .ensures) ∙ c .before .if2 .left) (c .record-end .result) (c .record-end .ensures)
+
+returns-3 : tie.Need-returns-3 Inv-loop μ-loop
+returns-3 c = sym (var-const (c .before .before .before .before .before .before .before .before .args .left) (c .before .before .before .before .before .before .before .before .args .tree .now) (c .before .before .before .before .before .before .before .before .args .at) (c .before .before .before .before .before .read-head .result .flags) (ap (λ (h : Head). h .flags) (c .before .before .before .before .before .read-head .ensures)) (meant (c .before .before .before .before .before .before .before .before .args .question)) (c .before .before .before .before .before .before .before .before .args .name .now) (c .before .before .before .if1 .left) ∙ seek-done (Declares (meant (c .before .before .before .before .before .before .before .before .args .question)) (c .before .before .before .before .before .before .before .before .args .name .now)) (addDeclarator (meant (c .before .before .before .before .before .before .before .before .args .question)) (c .before .before .before .before .before .before .before .before .args .name .now)) (declares-step (meant (c .before .before .before .before .before .before .before .before .args .question)) (c .before .before .before .before .before .before .before .before .args .name .now)) (declares-none (meant (c .before .before .before .before .before .before .before .before .args .question)) (c .before .before .before .before .before .before .before .before .args .name .now)) (kidsOf (treeAt (c .before .before .before .before .before .before .before .before .args .left) (c .before .before .before .before .before .before .before .before .args .tree .now) (c .before .before .before .before .before .before .before .before .args .at))) (c .before .before .before .before .before .before .before .before .args .left - 1) (c .before .before .before .before .before .before .before .before .args .tree .now) (c .before .loop .n) (c .before .loop .declarator) (c .before .loop .inv) (c .loop-test .left))
+
+pub add-var-spec : {M : Type 1} → statement M
+add-var-spec =
+    tie.close
+    (tie.spec
+    Inv-loop
+    μ-loop
+    read-head-requires
+    returns
+    body-at-requires
+    loop-holds
+    sub-add-declarator
+    add-declarator-requires
+    returns-2
+    sub-record-end
+    record-end-requires
+    sub-n
+    loop-less
+    loop-again
+    returns-3)

@@ -1,0 +1,30 @@
+-- `prescan::named` meets its contract: the definition's answer is one of the head's mark and text. Assumes nothing.
+use mathlib.Core.Path.{sym, ap, _∙_}
+use mathlib.Core.List.{List}
+use Prim.Native.Nat.{ℕ}
+use borrow.Author.Needs.{needs}
+use Rattle.definition.specs.Record.{sameText}
+use Rattle.definition.proofs.Children.{itself}
+use Rattle.prescan.proofs.Laws.{named-other, named-is}
+use Rattle.prescan.proofs.named.Statement.{statement}
+use Rattle.prescan.proofs.named.Tie as tie
+
+mark-at-requires : tie.Need-mark-at-requires
+mark-at-requires c κs = itself (c .before .before .args .left) (c .before .before .args .tree .now) (c .before .before .args .at) (c .before .before .pre) .room
+
+returns : tie.Need-returns
+returns c = sym (named-other (c .before .before .before .before .args .left) (c .before .before .before .before .args .tree .now) (c .before .before .before .before .args .at) (c .before .mark-at .result) (c .before .mark-at .ensures .0) (c .before .before .before .before .args .name .now) (c .if1 .taken))
+
+text-at-requires : tie.Need-text-at-requires
+text-at-requires c κs = itself (c .before .before .before .before .args .left) (c .before .before .before .before .args .tree .now) (c .before .before .before .before .args .at) (c .before .before .before .before .pre) .fits
+
+same-text-requires : tie.Need-same-text-requires
+same-text-requires c κs = search needs
+
+returns-2 : tie.Need-returns-2
+returns-2 c =
+    c .same-text .ensures ∙ ap (λ (l : List ℕ). sameText l (c .before .before .before .before .before .before .args .name .now)) (c .before .text-at .ensures) ∙ sym (named-is (c .before .before .before .before .before .before .args .left) (c .before .before .before .before .before .before .args .tree .now) (c .before .before .before .before .before .before .args .at) (c .before .before .before .mark-at .result) (c .before .before .before .mark-at .ensures .0) (c .before .before .before .before .before .before .args .name .now) (c .before .before .if1 .left))
+
+pub named-spec : {M : Type 1} → statement M
+named-spec =
+    tie.close (tie.spec mark-at-requires returns text-at-requires same-text-requires returns-2)

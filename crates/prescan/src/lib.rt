@@ -1,0 +1,251 @@
+// `prescan_module_ids`: the three sets of module-level names, as questions put to the items of the module.
+ghost use mathlib.Core.Path.{_≡_};
+ghost use Prim.Native.Nat.{_-_};
+ghost use Rattle.definition.specs.Tree.{markAt, textAt, treeAt};
+ghost use Rattle.definition.specs.Grammar.{mark};
+ghost use Rattle.definition.specs.Check.{deepest};
+ghost use Rattle.definition.specs.Children.{AcceptedAt};
+ghost use Rattle.definition.specs.Record.{kidsOf};
+ghost use Rattle.definition.specs.Prescan.{isArrayType, refersToArray, isArrayLitInit, addFn, addClass, addConst, named, addDeclarator, addDecl, addItem, asked};
+ghost use Rattle.prescan.specs.Question.{meant, addVar};
+use records::DEEPEST;
+use records::body_at;
+use records::count_at;
+use records::mark_at;
+use records::marks::AR;
+use records::marks::AS;
+use records::marks::AW;
+use records::marks::AY;
+use records::marks::BD;
+use records::marks::CD;
+use records::marks::CX;
+use records::marks::ED;
+use records::marks::FD;
+use records::marks::FX;
+use records::marks::ID;
+use records::marks::NO;
+use records::marks::PR;
+use records::marks::RF;
+use records::marks::RO;
+use records::marks::TC;
+use records::marks::TS;
+use records::marks::TU;
+use records::marks::VD;
+use records::marks::VR;
+use records::marks::XD;
+use records::read_head;
+use records::record_end;
+use records::text::same_text;
+use records::text::symbol_at;
+use records::text_at;
+
+// The sets of `PrescannedModuleIds`.
+pub enum Question {
+    TypeofSafe,
+    NonGenericClass,
+    ArrayTyped,
+}
+
+// The arm of `is_array_type` for `TsTypeRef`, at the name: `Array` or `ReadonlyArray` in any context, "only its symbol counts".
+fn refers_to_array(tree: &[u8], at: usize, left: usize) -> bool
+    requires { ⌜ AcceptedAt left (now tree) at ⌝ }
+    ensures { λ r. ⌜ r ≡ refersToArray (treeAt left (now (tree .entry)) at) ⌝ }
+{
+    if mark_at(tree, at) != ID {
+        return false;
+    }
+    let symbol = symbol_at(tree, at);
+    if same_text(symbol, b"Array") {
+        return true;
+    }
+    same_text(symbol, b"ReadonlyArray")
+}
+
+// `is_array_type`
+pub fn is_array_type(tree: &[u8], at: usize, left: usize) -> bool
+    requires { ⌜ AcceptedAt left (now tree) at ⌝ }
+    ensures { λ r. ⌜ r ≡ isArrayType (treeAt left (now (tree .entry)) at) ⌝ }
+{
+    match mark_at(tree, at) {
+        AY | TU => true,
+        RO => is_array_type(tree, body_at(tree, at), left - 1),
+        RF => refers_to_array(tree, body_at(tree, at), left - 1),
+        _ => false,
+    }
+}
+
+// `is_array_lit_init`: "Pr is untyped, though the prescan looks through it".
+pub fn is_array_lit_init(tree: &[u8], at: usize, left: usize) -> bool
+    requires { ⌜ AcceptedAt left (now tree) at ⌝ }
+    ensures { λ r. ⌜ r ≡ isArrayLitInit (treeAt left (now (tree .entry)) at) ⌝ }
+{
+    match mark_at(tree, at) {
+        AR => true,
+        PR | TC | TS => is_array_lit_init(tree, body_at(tree, at), left - 1),
+        AS => {
+            let ty = record_end(tree, body_at(tree, at), left - 1);
+            is_array_type(tree, ty, left - 1)
+        }
+        _ => false,
+    }
+}
+
+// Whether the record at `at` is an Id with this text: names are equal when context and symbol are.
+fn named(tree: &[u8], at: usize, left: usize, name: &[u8]) -> bool
+    requires { ⌜ AcceptedAt left (now tree) at ⌝ }
+    ensures { λ r. ⌜ r ≡ named (now (name .entry)) (treeAt left (now (tree .entry)) at) ⌝ }
+{
+    if mark_at(tree, at) != ID {
+        return false;
+    }
+    same_text(text_at(tree, at), name)
+}
+
+// `add_decl`, the arm for `Decl::Fn`: what a function of the name adds.
+fn add_fn(question: Question) -> bool
+    ensures { λ r. ⌜ r ≡ addFn (meant question) ⌝ }
+{
+    match question {
+        Question::TypeofSafe => true,
+        Question::NonGenericClass => false,
+        Question::ArrayTyped => false,
+    }
+}
+
+// `add_class`: what the Cl at `at` adds under its name.
+fn add_class(tree: &[u8], at: usize, left: usize, question: Question) -> bool
+    requires { ⌜ AcceptedAt left (now tree) at ⌝ }
+    requires { ⌜ markAt (now tree) at ≡ mark "Cl" ⌝ }
+    ensures { λ r. ⌜ r ≡ addClass (meant question) (treeAt left (now (tree .entry)) at) ⌝ }
+{
+    match question {
+        Question::TypeofSafe => true,
+        Question::NonGenericClass => mark_at(tree, body_at(tree, at)) == NO,
+        Question::ArrayTyped => false,
+    }
+}
+
+// `add_decl`, in the arm for `Decl::Var`: what a const adds under its name, by its init and by its type, which has one level less.
+fn add_const(tree: &[u8], init: usize, left: usize, ty: usize, question: Question) -> bool
+    requires { ⌜ AcceptedAt left (now tree) init ⌝ }
+    requires { ⌜ AcceptedAt (left - 1) (now tree) ty ⌝ }
+    ensures { λ r. ⌜ r ≡ addConst (meant question) (treeAt (left - 1) (now (tree .entry)) ty) (treeAt left (now (tree .entry)) init) ⌝ }
+{
+    let typed = mark_at(tree, ty);
+    match question {
+        Question::TypeofSafe => {
+            if typed != NO {
+                return true;
+            }
+            match mark_at(tree, init) {
+                FX | AW => true,
+                _ => false,
+            }
+        }
+        Question::NonGenericClass => false,
+        Question::ArrayTyped => {
+            if typed == NO {
+                return is_array_lit_init(tree, init, left);
+            }
+            is_array_type(tree, ty, left - 1)
+        }
+    }
+}
+
+// `add_decl`, in the arm for `Decl::Var`: a declarator of a const, `if let Pat::Ident(ident) = &declarator.name`.
+fn add_declarator(tree: &[u8], at: usize, left: usize, name: &[u8], question: Question) -> bool
+    requires { ⌜ AcceptedAt left (now tree) at ⌝ }
+    ensures { λ r. ⌜ r ≡ addDeclarator (meant question) (now (name .entry)) (treeAt left (now (tree .entry)) at) ⌝ }
+{
+    if mark_at(tree, at) != VR {
+        return false;
+    }
+    let pattern = body_at(tree, at);
+    if mark_at(tree, pattern) != BD {
+        return false;
+    }
+    let ident = body_at(tree, pattern);
+    let below = left - 1;
+    if named(tree, ident, below - 1, name) {
+        let ty = record_end(tree, ident, below - 1);
+        let init = record_end(tree, pattern, below);
+        return add_const(tree, init, below, ty, question);
+    }
+    false
+}
+
+// `add_decl`, the arm for `Decl::Var`: the declarators of a const.
+fn add_var(tree: &[u8], at: usize, left: usize, name: &[u8], question: Question) -> bool
+    requires { ⌜ AcceptedAt left (now tree) at ⌝ }
+    ensures { λ r. ⌜ r ≡ addVar (meant question) (now (name .entry)) (treeAt left (now (tree .entry)) at) ⌝ }
+{
+    let head = read_head(tree, at);
+    if head.flags / 2 % 2 != 1 {
+        return false;
+    }
+    let mut n = head.count;
+    let mut declarator = body_at(tree, at);
+    while 0 < n {
+        if add_declarator(tree, declarator, left - 1, name, question) {
+            return true;
+        }
+        declarator = record_end(tree, declarator, left - 1);
+        n -= 1;
+    }
+    false
+}
+
+// `add_decl`, and the arms of `prescan_module_ids` for `ExportDefaultDecl`: a function and a class expression stand beside their name too.
+fn add_decl(tree: &[u8], at: usize, left: usize, name: &[u8], question: Question) -> bool
+    requires { ⌜ AcceptedAt left (now tree) at ⌝ }
+    ensures { λ r. ⌜ r ≡ addDecl (meant question) (now (name .entry)) (treeAt left (now (tree .entry)) at) ⌝ }
+{
+    match mark_at(tree, at) {
+        FD | FX => {
+            if named(tree, body_at(tree, at), left - 1, name) {
+                return add_fn(question);
+            }
+            false
+        }
+        CD | CX => {
+            let ident = body_at(tree, at);
+            if named(tree, ident, left - 1, name) {
+                let class = record_end(tree, ident, left - 1);
+                return add_class(tree, class, left - 1, question);
+            }
+            false
+        }
+        VD => add_var(tree, at, left, name, question),
+        _ => false,
+    }
+}
+
+// An item of the module: a declaration, or what an `ExportDecl` (Ed) or an `ExportDefaultDecl` (Xd) holds.
+fn add_item(tree: &[u8], at: usize, left: usize, name: &[u8], question: Question) -> bool
+    requires { ⌜ AcceptedAt left (now tree) at ⌝ }
+    ensures { λ r. ⌜ r ≡ addItem (meant question) (now (name .entry)) (treeAt left (now (tree .entry)) at) ⌝ }
+{
+    match mark_at(tree, at) {
+        ED | XD => add_decl(tree, body_at(tree, at), left - 1, name, question),
+        _ => add_decl(tree, at, left, name, question),
+    }
+}
+
+// `prescan_module_ids`: whether some item of the module adds the name of the Id at `id`, its context and its symbol, to the set that is asked for.
+pub fn asked(tree: &[u8], id: usize, left: usize, question: Question) -> bool
+    requires { ⌜ AcceptedAt left (now tree) id ⌝ }
+    requires { ⌜ AcceptedAt deepest (now tree) 0 ⌝ }
+    ensures { λ r. ⌜ r ≡ asked (meant question) (kidsOf (treeAt deepest (now (tree .entry)) 0)) (textAt (now (tree .entry)) id) ⌝ }
+{
+    let name = text_at(tree, id);
+    let mut n = count_at(tree, 0);
+    let mut item = body_at(tree, 0);
+    while 0 < n {
+        if add_item(tree, item, DEEPEST - 1, name, question) {
+            return true;
+        }
+        item = record_end(tree, item, DEEPEST - 1);
+        n -= 1;
+    }
+    false
+}
