@@ -1,2 +1,6 @@
 pub mod Made
 mod Sign
+mod Texts
+mod Calls
+mod Templates
+mod Maybe

@@ -9,18 +9,19 @@ use mir.Syntax.{w8}
 use mir.Val.{Fits}
 use lib.ListN.{length, getD, length-append}
 use lib.Seq.{sets, length-sets}
-use Rattle.definition.specs.Tree.{Head, Rec, rec, nil, cons, le4, headBytes, encode, encodes, treeAt, Bytes}
+use Rattle.definition.specs.Tree.{Head, Rec, rec, nil, cons, le4, headBytes, encode, encodes, treeAt}
 use Rattle.definition.specs.Grammar.{mark}
 use Rattle.definition.specs.Children.{AcceptedAt}
 use Rattle.definition.specs.Record.{one, fresh, absent, ident}
 use Rattle.definition.specs.Helpers.{tsKeywordType, tsReadonly, tsTupleElement}
+use Rattle.definition.specs.Typing.{tsRestType}
 use Rattle.records.specs.Fields.{fieldBytes}
 use Rattle.records.specs.Whole.{Whole, partAt}
 use Rattle.records.specs.Wrote.{top, sat, Put}
 use Rattle.records.proofs.Stores.{sets-append, sets-out}
-use Rattle.records.proofs.Whole.{accepted-whole, accepted-part}
+use Rattle.records.proofs.Whole.{accepted-whole, accepted-put, slice-bytes}
 use Rattle.swc_helpers.specs.declared.TsKeywordTypeKind.{TsKeywordTypeKind}
-use Rattle.swc_helpers.specs.Made.{keyword, tsReadonlyFront, tsTupleElementFront}
+use Rattle.swc_helpers.specs.Made.{keyword, tsReadonlyFront, tsTupleElementFront, tsRestTypeFront}
 
 -- ---- writes
 
@@ -38,8 +39,8 @@ put-put {a} {b} {c} {p} {E} {q} {F} {r} h v w =
     let l : length b ≡ length a = ap length (v .bytes) ∙ length-sets a p E in
     record {
       bytes =
-        w .bytes ∙ ap (λ (k : ℕ). sets b k F) (v .position) ∙ sets-sat b p (length E) F (omega arith)
-        ∙ ap (λ (o : List ℕ). sets o (p + length E) F) (v .bytes) ∙ sym (sets-append a p E F);
+          w .bytes ∙ ap (λ (k : ℕ). sets b k F) (v .position) ∙ sets-sat b p (length E) F (omega arith)
+          ∙ ap (λ (o : List ℕ). sets o (p + length E) F) (v .bytes) ∙ sym (sets-append a p E F);
       position = omega (arith, v .position, w .position, length-append E F);
     }
 
@@ -78,6 +79,9 @@ readonly-is t = sym (encode-one _ t refl)
 pub tuple-element-is : (t : Rec) → encode (tsTupleElement t) ≡ tsTupleElementFront ++ encode t
 tuple-element-is t = sym (append-assoc (headBytes (fresh "Tm" 0 []) 2) (encode absent) (encode t) ∙ encode-two _ _ t refl)
 
+pub rest-type-is : (t : Rec) → encode (tsRestType t) ≡ tsRestTypeFront ++ encode t
+rest-type-is t = sym (encode-one _ t refl)
+
 -- ---- keywords
 
 pub keyword-put : {a b : List ℕ} {p : ℕ} {kind k : TsKeywordTypeKind} {q : ℕ} → kind ≡ k → Put a b p (encode (tsKeywordType (keyword k))) q → Put a b p (encode (tsKeywordType (keyword kind))) q
@@ -85,15 +89,10 @@ keyword-put e w = rw e w
 
 -- ---- records of the tree
 
--- what is known of a slice of bytes
-pub are-bytes : (s : List ℕ) → ((i : ℕ) → Fits w8 (getD s i 0)) → Bytes s
-unfolding Bytes
-are-bytes s known i = known i .fits
-
 module _ (left : ℕ) (s : List ℕ) (at : ℕ) (a : AcceptedAt left s at) where
   pub is-whole : Whole left s at
   is-whole = accepted-whole left s at (a .slots) (a .past) (a .checked)
 
   -- a record that is copied
   pub copied : {o b : List ℕ} {p q : ℕ} → ((i : ℕ) → Fits w8 (getD s i 0)) → Put o b p (partAt left s at) q → Put o b p (encode (treeAt left s at)) q
-  copied known w = put-as w (accepted-part left s at (a .slots) (a .past) (are-bytes s known) (a .checked))
+  copied known = accepted-put left s at (a .slots) (a .past) (slice-bytes s known) (a .checked)

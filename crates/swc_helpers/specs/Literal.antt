@@ -1,9 +1,11 @@
 -- A literal of the tree as a value of the code, the bits of a number and its sign. Assumes nothing: these are definitions.
 use Prim.Native.Nat.{ℕ, _+_, _*_, _/_, _%_}
 use mathlib.Core.List.{List, [], _∷_, _++_}
+use mathlib.Core.Bool.{cond}
+use lib.Dec.{eqb}
 use lib.Ieee.{Float, binary64, ofBits}
-use Rattle.definition.specs.Tree.{Rec, u32At}
-use Rattle.definition.specs.Record.{headOf, markOf, textOf, has1}
+use Rattle.definition.specs.Tree.{Rec, headBytes, headAt, u32At}
+use Rattle.definition.specs.Record.{headOf, markOf, textOf, has1, fresh}
 use Rattle.definition.specs.Helpers.{Lit, lStr, lBool, lNull, lNum, lBigInt, lRegex, lJsxText, litKind}
 use Rattle.swc_helpers.specs.declared.literals.Literal.{Literal}
 use Rattle.swc_helpers.specs.declared.literals.Literal.the-variants.{Str, Num, BigInt, Bool, Null, Regex, JsxText}
@@ -27,6 +29,10 @@ numberOf t = ofBits binary64 (u64At t 0)
 abbrev pub turnedBits : ℕ → ℕ
 turnedBits n = (n + 0x8000_0000_0000_0000) % 0x1_0000_0000_0000_0000
 
+-- the sign byte of a big integer, turned, where its first digit is d: "-0n is 0n"
+abbrev pub turnedSign : ℕ → ℕ → ℕ
+turnedSign sign d = cond (eqb d 48) 0 (cond (eqb sign 1) 0 1)
+
 -- ---- literals
 
 -- what each case says of the record r at `at`: a string and a big integer are where they stand, a number is its f64, a boolean is flag 1
@@ -41,3 +47,17 @@ literalBy lJsxText at r = JsxText
 
 abbrev pub literalOf : ℕ → Rec → Literal
 literalOf at r = literalBy (litKind (markOf r)) at r
+
+-- the kind of a literal that was read
+abbrev pub kindOf : Literal → Lit
+kindOf (Str at) = lStr
+kindOf (Num v) = lNum
+kindOf (BigInt at) = lBigInt
+kindOf (Bool b) = lBool
+kindOf Null = lNull
+kindOf Regex = lRegex
+kindOf JsxText = lJsxText
+
+-- the type of the literal at `at` with another text of the same length, before that text
+abbrev pub litFront : List ℕ → ℕ → List ℕ
+litFront s at = headBytes (fresh "Tl" 0 []) 1 ++ headBytes (headAt s at) 0

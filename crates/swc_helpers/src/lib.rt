@@ -2,19 +2,35 @@
 // it at a position, as far as there is room, and returns the position behind it. One that makes a record around a type which is typed later
 // writes what stands before that type.
 ghost use mathlib.Core.Path.{_≡_};
-ghost use mathlib.Core.List.{[], _++_};
-ghost use Prim.Native.Nat.{_+_};
-ghost use lib.ListN.{length};
-ghost use Rattle.definition.specs.Tree.{rec, nil, headBytes, encode, treeAt, le4};
-ghost use Rattle.definition.specs.Children.{AcceptedAt};
-ghost use Rattle.definition.specs.Record.{absent};
+ghost use mathlib.Core.List.{[]};
+ghost use mathlib.Core.Option.{some};
+ghost use Rattle.definition.specs.Tree.{rec, nil, headBytes, encode, treeAt, markAt};
+ghost use Rattle.definition.specs.Children.{AcceptedAt, childAt};
+ghost use Rattle.definition.specs.Grammar.{mark};
+ghost use Rattle.definition.specs.Record.{absent, markOf, kidsOf};
 ghost use Rattle.definition.specs.Helpers.{tsKeywordType, anyTypeAnn, referenceTo, typeRef, tsLitType, regexType, tsTypeQuery};
+ghost use Rattle.definition.specs.Helpers.{objectFreezeCallArg, noExprs, firstCooked, tplToTsType, litKind, maybeLitToTsType};
 ghost use Rattle.records.specs.Fields.{fieldBytes};
 ghost use Rattle.records.specs.Wrote.{Put};
+ghost use Rattle.swc_helpers.specs.Found.{foundIf, isConst, PutMaybe, isObjectFreeze, isQuasi};
 ghost use Rattle.swc_helpers.specs.Made.{freshHead, keyword, tsReadonlyFront, tsTupleElementFront, tsRestTypeFront};
-
+use crate::literals::Literal;
 use records::Head;
-use records::marks::{ID, KW, NO, RF, RO, RT, TF, TL, TM};
+use records::marks::ID;
+use records::marks::KI;
+use records::marks::KW;
+use records::marks::MB;
+use records::marks::NO;
+use records::marks::OP;
+use records::marks::QU;
+use records::marks::RF;
+use records::marks::RO;
+use records::marks::RT;
+use records::marks::SP;
+use records::marks::SS;
+use records::marks::TF;
+use records::marks::TL;
+use records::marks::TM;
 
 pub mod literals;
 
@@ -32,15 +48,31 @@ pub enum TsKeywordTypeKind {
     TsNullKeyword,
 }
 
+// `DeclMutabilityKind`: `Const` where `as_const` is set.
+pub enum DeclMutabilityKind {
+    Const,
+    Mutable,
+}
+
+// What may be found: an offset in the tree.
+pub enum Found {
+    At(usize),
+    Nothing,
+}
+
+// `Option<TsType>`: a type was written, up to this position, or there is none.
+pub enum MaybeType {
+    Typed(usize),
+    Untyped,
+}
+
 // The head of a record that is made afresh, with a text of a length and children of a number: its span is `DUMMY_SP`. Every type that is made
 // has its head from here.
 fn put_fresh(mark: u16, text: usize, count: usize, out: &mut [u8], p: usize) -> usize
-    ensures {
-        λ r. ⌜
-            Put (now (out .entry)) (now (out .exit)) p
-                (fieldBytes (record { mark = mark; flags = 0; start = 0; end = 0; text = text; count = count })) r
-        ⌝
-    }
+    ensures { λ r. ⌜
+        Put (now (out .entry)) (now (out .exit)) p
+        (fieldBytes (record { mark = mark; flags = 0; start = 0; end = 0; text = text; count = count })) r
+        ⌝ }
 {
     records::put_head(
         out,
@@ -166,4 +198,171 @@ pub fn ts_type_query(tree: &[u8], at: usize, left: usize, out: &mut [u8], p: usi
 {
     let q = put_front(TF, 1, out, p);
     records::put_record(tree, at, left, out, q)
+}
+
+// The callee of `object_freeze_call_arg`: `Object.freeze`, where `Object` is the global object.
+fn is_object_freeze(tree: &[u8], at: usize, left: usize, unresolved: u32) -> bool
+    requires { ⌜ AcceptedAt left (now tree) at ⌝ }
+    ensures { λ r. ⌜ r ≡ isObjectFreeze unresolved (treeAt left (now (tree .entry)) at) ⌝ }
+{
+    if records::mark_at(tree, at) != MB {
+        return false;
+    }
+    let obj = records::body_at(tree, at);
+    if !records::text::is_global(tree, obj, left - 1, unresolved, b"Object") {
+        return false;
+    }
+    let prop = records::record_end(tree, obj, left - 1);
+    if records::mark_at(tree, prop) != KI {
+        return false;
+    }
+    records::text::same_text(records::text_at(tree, prop), b"freeze")
+}
+
+// `object_freeze_call_arg`: the argument of a call of `Object.freeze` with one argument, which is no spread.
+pub fn object_freeze_call_arg(tree: &[u8], at: usize, left: usize, unresolved: u32) -> Found
+    requires { ⌜ AcceptedAt left (now tree) at × (markAt (now tree) at ≡ mark "Ca") ⌝ }
+    ensures { λ r. ⌜
+        r ≡ foundIf (objectFreezeCallArg unresolved (kidsOf (treeAt left (now (tree .entry)) at))) (childAt left (now (tree .entry)) at 1)
+        ⌝ }
+{
+    let callee = records::body_at(tree, at);
+    if !is_object_freeze(tree, callee, left - 1, unresolved) {
+        return Found::Nothing;
+    }
+    let count = records::count_at(tree, at);
+    if count < 2 {
+        return Found::Nothing;
+    }
+    let arg = records::record_end(tree, callee, left - 1);
+    match records::mark_at(tree, arg) {
+        OP | SP => return Found::Nothing,
+        _ => {}
+    }
+    if count == 2 {
+        return Found::At(arg);
+    }
+    let next = records::record_end(tree, arg, left - 1);
+    if records::mark_at(tree, next) == OP {
+        return Found::At(arg);
+    }
+    Found::Nothing
+}
+
+// `tpl.exprs.is_empty()`: whether the Te at `at` has only quasis.
+fn no_exprs(tree: &[u8], at: usize, left: usize) -> bool
+    requires { ⌜ AcceptedAt left (now tree) at ⌝ }
+    ensures { λ r. ⌜ r ≡ noExprs (kidsOf (treeAt left (now (tree .entry)) at)) ⌝ }
+{
+    let mut n = records::count_at(tree, at);
+    let mut kid = records::body_at(tree, at);
+    while 0 < n {
+        if !is_quasi(records::mark_at(tree, kid)) {
+            return false;
+        }
+        kid = records::record_end(tree, kid, left - 1);
+        n -= 1;
+    }
+    true
+}
+
+fn is_quasi(mark: u16) -> bool
+    ensures { λ r. ⌜ r ≡ isQuasi mark ⌝ }
+{
+    match mark {
+        QU | OP => true,
+        _ => false,
+    }
+}
+
+// `tpl.quasis.first()` where it is cooked.
+fn first_cooked(tree: &[u8], at: usize, left: usize) -> Found
+    requires { ⌜ AcceptedAt left (now tree) at ⌝ }
+    ensures { λ r. ⌜ r ≡ foundIf (firstCooked (kidsOf (treeAt left (now (tree .entry)) at))) (childAt left (now (tree .entry)) at 0) ⌝ }
+{
+    if records::count_at(tree, at) == 0 {
+        return Found::Nothing;
+    }
+    let quasi = records::body_at(tree, at);
+    let head = records::read_head(tree, quasi);
+    if head.mark != QU {
+        return Found::Nothing;
+    }
+    if head.flags % 2 == 1 {
+        return Found::At(quasi);
+    }
+    Found::Nothing
+}
+
+// `tpl_to_ts_type`: a template without expressions is its first quasi, where a literal is kept, and a string elsewhere.
+pub fn tpl_to_ts_type(
+    tree: &[u8],
+    at: usize,
+    left: usize,
+    kind: DeclMutabilityKind,
+    out: &mut [u8],
+    p: usize,
+) -> usize
+    requires { ⌜ AcceptedAt left (now tree) at ⌝ }
+    ensures { λ r. ⌜
+        Put (now (out .entry)) (now (out .exit)) p
+        (encode (tplToTsType (kidsOf (treeAt left (now (tree .entry)) at)) (isConst kind))) r
+        ⌝ }
+{
+    if let DeclMutabilityKind::Mutable = kind {
+        return ts_keyword_type(TsKeywordTypeKind::TsStringKeyword, out, p);
+    }
+    if !no_exprs(tree, at, left) {
+        return ts_keyword_type(TsKeywordTypeKind::TsStringKeyword, out, p);
+    }
+    let Found::At(quasi) = first_cooked(tree, at, left) else {
+        return ts_keyword_type(TsKeywordTypeKind::TsStringKeyword, out, p);
+    };
+    let q = put_front(TL, 1, out, p);
+    put_leaf(SS, records::text_at(tree, quasi), out, q)
+}
+
+// A keyword as the answer of `maybe_lit_to_ts_type`.
+fn some_keyword(kind: TsKeywordTypeKind, out: &mut [u8], p: usize) -> MaybeType
+    ensures { λ r. ⌜ PutMaybe (now (out .entry)) (now (out .exit)) p (some (tsKeywordType (keyword kind))) r ⌝ }
+{
+    MaybeType::Typed(ts_keyword_type(kind, out, p))
+}
+
+// `maybe_lit_to_ts_type`.
+pub fn maybe_lit_to_ts_type(
+    tree: &[u8],
+    at: usize,
+    left: usize,
+    kind: DeclMutabilityKind,
+    out: &mut [u8],
+    p: usize,
+) -> MaybeType
+    requires { ⌜ AcceptedAt left (now tree) at ⌝ }
+    ensures { λ r. ⌜
+        PutMaybe (now (out .entry)) (now (out .exit)) p
+        (maybeLitToTsType (litKind (markOf (treeAt left (now (tree .entry)) at))) (treeAt left (now (tree .entry)) at) (isConst kind)) r
+        ⌝ }
+{
+    let lit = literals::literal_at(tree, at, left);
+    match kind {
+        DeclMutabilityKind::Const => match lit {
+            Literal::Str(_) => MaybeType::Typed(ts_lit_type(tree, at, left, out, p)),
+            Literal::Bool(_) => MaybeType::Typed(ts_lit_type(tree, at, left, out, p)),
+            Literal::Null => some_keyword(TsKeywordTypeKind::TsNullKeyword, out, p),
+            Literal::Num(_) => MaybeType::Typed(ts_lit_type(tree, at, left, out, p)),
+            Literal::BigInt(_) => MaybeType::Typed(ts_lit_type(tree, at, left, out, p)),
+            Literal::Regex => MaybeType::Typed(regex_type(out, p)),
+            Literal::JsxText => MaybeType::Untyped,
+        },
+        DeclMutabilityKind::Mutable => match lit {
+            Literal::Str(_) => some_keyword(TsKeywordTypeKind::TsStringKeyword, out, p),
+            Literal::Bool(_) => some_keyword(TsKeywordTypeKind::TsBooleanKeyword, out, p),
+            Literal::Null => some_keyword(TsKeywordTypeKind::TsNullKeyword, out, p),
+            Literal::Num(_) => some_keyword(TsKeywordTypeKind::TsNumberKeyword, out, p),
+            Literal::BigInt(_) => some_keyword(TsKeywordTypeKind::TsBigIntKeyword, out, p),
+            Literal::Regex => MaybeType::Typed(regex_type(out, p)),
+            Literal::JsxText => MaybeType::Untyped,
+        },
+    }
 }

@@ -1,7 +1,26 @@
 // Literals as values, and the sign of a number turned.
 ghost use mathlib.Core.Path.{_≡_};
+ghost use mathlib.Core.List.{_++_};
+ghost use Prim.Native.Nat.{_+_, _≤_};
+ghost use lib.ListN.{length, getD};
 ghost use lib.Ieee.{binary64, ofBits};
-ghost use Rattle.swc_helpers.specs.Literal.{turnedBits, le8};
+ghost use Rattle.definition.specs.Tree.{headSize, markAt, bodyAt, encode, treeAt};
+ghost use Rattle.definition.specs.Children.{AcceptedAt};
+ghost use Rattle.definition.specs.Grammar.{mark};
+ghost use Rattle.definition.specs.Record.{textOf};
+ghost use Rattle.definition.specs.Helpers.{tsLitType};
+ghost use Rattle.definition.specs.Typing.{turned, turnedInteger, respelled};
+ghost use Rattle.records.specs.Wrote.{Put};
+ghost use Rattle.swc_helpers.specs.Literal.{u64At, le8, turnedBits, turnedSign, numberOf, literalOf, litFront};
+use crate::put_front;
+use records::Head;
+use records::marks::BI;
+use records::marks::BL;
+use records::marks::NL;
+use records::marks::NU;
+use records::marks::RE;
+use records::marks::SS;
+use records::marks::TL;
 
 // `Lit`: "A literal is a string, a number, a big integer, a boolean, null or a regex; also `Jt` (JSX text)". A string and a big integer are
 // the offsets of their records.
@@ -56,4 +75,100 @@ fn bytes_of(bits: u64) -> [u8; 8]
         (bits / 281474976710656 % 256) as u8,
         (bits / 72057594037927936 % 256) as u8,
     ]
+}
+
+// The bits of the f64 of the Nu at `at`.
+fn bits_at(tree: &[u8], at: usize) -> u64
+    requires { ⌜ at + headSize + 8 ≤ length (now tree) ⌝ }
+    ensures { λ r. ⌜ r ≡ u64At (now (tree .entry)) (at + headSize) ⌝ }
+{
+    let text = at + records::HEAD_SIZE;
+    let low = records::u32_at(tree, text) as u64;
+    let high = records::u32_at(tree, text + 4) as u64;
+    low + 4294967296 * high
+}
+
+// `num.value` of the Nu at `at`.
+pub fn number_at(tree: &[u8], at: usize, left: usize) -> f64
+    requires { ⌜ AcceptedAt left (now tree) at × (markAt (now tree) at ≡ mark "Nu") ⌝ }
+    ensures { λ r. ⌜ r ≡ numberOf (textOf (treeAt left (now (tree .entry)) at)) ⌝ }
+{
+    number_of(bits_at(tree, at))
+}
+
+// The literal at `at`, by its mark; what is no literal is told as JSX text, which has no type either.
+pub fn literal_at(tree: &[u8], at: usize, left: usize) -> Literal
+    requires { ⌜ AcceptedAt left (now tree) at ⌝ }
+    ensures { λ r. ⌜ r ≡ literalOf at (treeAt left (now (tree .entry)) at) ⌝ }
+{
+    let head = records::read_head(tree, at);
+    let mark = head.mark;
+    let flags = head.flags;
+    match mark {
+        SS => Literal::Str(at),
+        BL => Literal::Bool(flags % 2 == 1),
+        NL => Literal::Null,
+        NU => Literal::Num(number_at(tree, at, left)),
+        BI => Literal::BigInt(at),
+        RE => Literal::Regex,
+        _ => Literal::JsxText,
+    }
+}
+
+// The type of a literal of the tree with another text of the same length, before that text: it keeps its span and loses its raw spelling.
+fn put_respelled(tree: &[u8], at: usize, out: &mut [u8], p: usize) -> usize
+    requires { ⌜ bodyAt (now tree) at ≤ length (now tree) ⌝ }
+    ensures { λ r. ⌜ Put (now (out .entry)) (now (out .exit)) p (litFront (now (tree .entry)) at) r ⌝ }
+{
+    let head = records::read_head(tree, at);
+    let q = put_front(TL, 1, out, p);
+    records::put_head(
+        out,
+        q,
+        Head {
+            mark: head.mark,
+            flags: head.flags,
+            start: head.start,
+            end: head.end,
+            text: head.text,
+            count: 0,
+        },
+    )
+}
+
+// `-num.value` of the Nu at `at`, as its type: `ts_lit_type(TsLit::Number(Number { span: num.span, value: -num.value, raw: None }))`.
+pub fn negated_number(tree: &[u8], at: usize, left: usize, out: &mut [u8], p: usize) -> usize
+    requires { ⌜ AcceptedAt left (now tree) at × (markAt (now tree) at ≡ mark "Nu") ⌝ }
+    ensures { λ r. ⌜ Put (now (out .entry)) (now (out .exit)) p (encode (tsLitType (respelled (treeAt left (now (tree .entry)) at) (turned (textOf (treeAt left (now (tree .entry)) at)))))) r ⌝ }
+{
+    let value = number_at(tree, at, left);
+    let bits = negated(value, bits_at(tree, at));
+    let text = bytes_of(bits);
+    let q = put_respelled(tree, at, out, p);
+    records::put_text(out, q, &text)
+}
+
+// The sign byte of a big integer, turned, before its first digit: "-0n is 0n".
+fn turned_sign(sign: u8, digit: u8) -> u8
+    ensures { λ r. ⌜ r ≡ turnedSign sign digit ⌝ }
+{
+    if digit == b'0' {
+        return 0;
+    }
+    if sign == 1 {
+        return 0;
+    }
+    1
+}
+
+// `-(*bigint.value)` of the Bi at `at`, as its type: `ts_lit_type(TsLit::BigInt(BigInt { span: bigint.span, value, raw: None }))`.
+pub fn negated_bigint(tree: &[u8], at: usize, left: usize, out: &mut [u8], p: usize) -> usize
+    requires { ⌜ AcceptedAt left (now tree) at × (markAt (now tree) at ≡ mark "Bi") ⌝ }
+    ensures { λ r. ⌜ Put (now (out .entry)) (now (out .exit)) p (encode (tsLitType (respelled (treeAt left (now (tree .entry)) at) (turnedInteger (textOf (treeAt left (now (tree .entry)) at)))))) r ⌝ }
+{
+    let text = records::text_at(tree, at);
+    let sign = [turned_sign(text[0], text[1])];
+    let q = put_respelled(tree, at, out, p);
+    let r = records::put_text(out, q, &sign);
+    records::put_text(out, r, &text[1..])
 }

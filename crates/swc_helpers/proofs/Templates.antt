@@ -1,0 +1,151 @@
+-- The parts of a template in an accepted tree: whether it has expressions, and its first quasi. Assumes nothing.
+use mathlib.Core.Path.{_≡_, refl, sym, _∙_, ap}
+use mathlib.Core.List.{List, []}
+use mathlib.Core.Bool.{Bool, true, false, cond, _&&_, _||_}
+use mathlib.Core.Logic.{_⊎_, inl, inr, ⊎-elim}
+use Prim.Native.Nat.{ℕ, _-_, _%_, _<_, _≤_}
+use native.Mathlib.Decide.{decLt}
+use native.Mathlib.Omega.{arith}
+use lib.Dec.{eqb}
+use borrow.Author.Tests.{eq-eqb, ne-eqb}
+use Rattle.definition.specs.Tree.{Rec, Recs, rec, nil, markAt, flagsAt, countAt, textAt, bodyAt, readAll, endAt, treeAt, encode, headBytes}
+use Rattle.definition.specs.Grammar.{mark}
+use Rattle.definition.specs.Children.{AcceptedAt, AllAccepted, childAt}
+use Rattle.definition.specs.Record.{headOf, kidsOf, textOf, is, has1, kid, fresh}
+use Rattle.definition.specs.Helpers.{noExprs, firstCooked, tplToTsType, tsLitType, tsKeywordType}
+use Rattle.definition.proofs.Children.{children, child-0, first-one, others, readAll-more, readAll-none}
+use Rattle.definition.proofs.Kids.{mark-is, flags-is, text-is, kids-are, kid-none}
+use Rattle.records.specs.declared.Head as Fields
+use Rattle.records.specs.Fields.{fieldsAt}
+use Rattle.records.specs.Wrote.{Put}
+use Rattle.swc_helpers.specs.declared.DeclMutabilityKind.{DeclMutabilityKind}
+use Rattle.swc_helpers.specs.declared.Found.{Found}
+use Rattle.swc_helpers.specs.declared.Found.the-variants.{At, Nothing}
+use Rattle.swc_helpers.specs.Found.{foundIf, isConst, isQuasi}
+use Rattle.swc_helpers.proofs.Calls.{nothing-found, found-at, first-accepted, first-is}
+
+-- ---- whether it has expressions
+
+pub a-quasi : {m : ℕ} → (m ≡ mark "Op") ⊎ (m ≡ mark "Qu") → true ≡ isQuasi m
+a-quasi h = ⊎-elim (λ e. rw e) (λ e. rw e) h
+
+pub no-quasi-mark : {m : ℕ} → ((m ≡ mark "Op") ⊎ (m ≡ mark "Qu") → ⊥) → false ≡ isQuasi m
+no-quasi-mark h = rw (ne-eqb _ _ (λ e. h (inr e)), ne-eqb _ _ (λ e. h (inl e)))
+
+-- with n children of the record at `at` left, the first of them at x: they are accepted, and those before them are no expressions
+pub record Quasis (left : ℕ) (s : List ℕ) (at n x : ℕ) : Type 0 where
+  pub all : AllAccepted (left - 1) s n x
+  pub same : noExprs (kidsOf (treeAt left s at)) ≡ noExprs (readAll (treeAt (left - 1) s) (endAt (left - 1) s) n x)
+
+pub quasis-start : (left : ℕ) (s : List ℕ) (at : ℕ) → AcceptedAt left s at → (n x : ℕ) → n ≡ countAt s at → x ≡ bodyAt s at → Quasis left s at n x
+quasis-start left s at a n x en ex = rw (en, ex) (record { all = children left s at a; same = ap noExprs (kids-are left s at a) })
+
+module _ (left : ℕ) (s : List ℕ) (at n x : ℕ) (q : Quasis left s at n x) where
+  pub quasis-done : n ≤ 0 → true ≡ noExprs (kidsOf (treeAt left s at))
+  unfolding noExprs
+  quasis-done h = sym (q .same ∙ ap noExprs (readAll-none (treeAt (left - 1) s) (endAt (left - 1) s) n x h))
+
+  module _ (h : 0 < n) where
+    pub quasi-accepted : AcceptedAt (left - 1) s x
+    quasi-accepted = first-one (left - 1) s n x (q .all) h
+
+    one-more : noExprs (kidsOf (treeAt left s at))
+        ≡ (isQuasi (markAt s x) && noExprs (readAll (treeAt (left - 1) s) (endAt (left - 1) s) (n - 1) (endAt (left - 1) s x)))
+    unfolding noExprs
+    one-more =
+        q .same ∙ (ap noExprs (readAll-more (treeAt (left - 1) s) (endAt (left - 1) s) n x h)
+        ∙ ap (λ (m : ℕ). isQuasi m && noExprs (readAll (treeAt (left - 1) s) (endAt (left - 1) s) (n - 1) (endAt (left - 1) s x))) (mark-is (left - 1) s x))
+
+    pub quasis-stop : isQuasi (markAt s x) ≡ false → false ≡ noExprs (kidsOf (treeAt left s at))
+    quasis-stop e = sym (one-more ∙ rw e)
+
+    pub quasis-next : isQuasi (markAt s x) ≡ true → (y : ℕ) → y ≡ endAt (left - 1) s x → Quasis left s at (n - 1) y
+    quasis-next e y ey = rw ey (record { all = others (left - 1) s n x (q .all) h; same = one-more ∙ rw e })
+
+-- ---- its first quasi
+
+pub some-children : {r n : ℕ} → r ≡ n → (r ≡ 0 → ⊥) → 0 < n
+some-children e h = omega arith
+
+module _ (left : ℕ) (s : List ℕ) (at : ℕ) (a : AcceptedAt left s at) where
+  pub no-quasi : countAt s at ≡ 0 → Nothing ≡ foundIf (firstCooked (kidsOf (treeAt left s at))) (childAt left s at 0)
+  no-quasi n = nothing-found _ _ (ap (λ (k : Rec). is "Qu" k && has1 (headOf k)) (kid-none left s at a 0 (omega arith)))
+
+  module _ (x : ℕ) (ex : x ≡ bodyAt s at) (h : Fields.Head) (r : h ≡ fieldsAt s x) (n : countAt s at ≡ 0 → ⊥) where
+    cooked-is : firstCooked (kidsOf (treeAt left s at)) ≡ (eqb (h .mark) (mark "Qu") && eqb (h .flags % 2) 1)
+    cooked-is =
+        ap (λ (k : Rec). is "Qu" k && has1 (headOf k)) (first-is left s at a x ex (omega arith))
+        ∙ ap (λ (m : ℕ). eqb m (mark "Qu") && has1 (headOf (treeAt (left - 1) s x))) (mark-is (left - 1) s x)
+        ∙ ap (λ (f : ℕ). eqb (markAt s x) (mark "Qu") && eqb (f % 2) 1) (flags-is (left - 1) s x)
+        ∙ ap (λ (h : Fields.Head). eqb (h .mark) (mark "Qu") && eqb (h .flags % 2) 1) (sym r)
+
+    pub other-part : (h .mark ≡ mark "Qu" → ⊥) → Nothing ≡ foundIf (firstCooked (kidsOf (treeAt left s at))) (childAt left s at 0)
+    other-part k = nothing-found _ _ (cooked-is ∙ rw (ne-eqb _ _ k))
+
+    module _ (k : h .mark ≡ mark "Qu") where
+      pub cooked : h .flags % 2 ≡ 1 → At x ≡ foundIf (firstCooked (kidsOf (treeAt left s at))) (childAt left s at 0)
+      cooked e = found-at _ _ _ (cooked-is ∙ rw (k, e)) (ex ∙ sym (child-0 left s at))
+
+      pub not-cooked : (h .flags % 2 ≡ 1 → ⊥) → Nothing ≡ foundIf (firstCooked (kidsOf (treeAt left s at))) (childAt left s at 0)
+      not-cooked e = nothing-found _ _ (cooked-is ∙ rw (k, ne-eqb _ _ e))
+
+-- ---- its type
+
+found-false : (b : Bool) (at : ℕ) → Nothing ≡ foundIf b at → b ≡ false
+found-false true at e = absurd (let z : _≡_ {A = ℕ} 0 1 = cc in omega arith)
+found-false false at e = refl
+
+found-true : (b : Bool) (x at : ℕ) → At x ≡ foundIf b at → (b ≡ true) × (x ≡ at)
+found-true true x at e = (refl, cc)
+found-true false x at e = absurd (let z : _≡_ {A = ℕ} 0 1 = cc in omega arith)
+
+module _ (ks : Recs) where
+  pub with-exprs : noExprs ks ≡ false → tsKeywordType "string" ≡ tplToTsType ks true
+  unfolding tplToTsType
+  with-exprs e = rw e
+
+  pub not-found : (at : ℕ) → Nothing ≡ foundIf (firstCooked ks) at → tsKeywordType "string" ≡ tplToTsType ks true
+  unfolding tplToTsType
+  not-found at f = go (noExprs ks) (firstCooked ks) (found-false (firstCooked ks) at f)
+    where
+      go : (b c : Bool) → c ≡ false → tsKeywordType "string" ≡ cond (b && c) (tsLitType (rec (fresh "Ss" 0 (textOf (kid 0 ks))) nil)) (tsKeywordType "string")
+      go true c e = rw e
+      go false c e = refl
+
+  quasi-type : noExprs ks ≡ true → firstCooked ks ≡ true → tsLitType (rec (fresh "Ss" 0 (textOf (kid 0 ks))) nil) ≡ tplToTsType ks true
+  unfolding tplToTsType
+  quasi-type e f = rw (e, f)
+
+module _ (left : ℕ) (s : List ℕ) (at : ℕ) (a : AcceptedAt left s at) (x : ℕ) (f : At x ≡ foundIf (firstCooked (kidsOf (treeAt left s at))) (childAt left s at 0)) where
+  is-cooked : firstCooked (kidsOf (treeAt left s at)) ≡ true
+  is-cooked = found-true (firstCooked (kidsOf (treeAt left s at))) x (childAt left s at 0) f .0
+
+  first-at : x ≡ bodyAt s at
+  first-at = found-true (firstCooked (kidsOf (treeAt left s at))) x (childAt left s at 0) f .1 ∙ child-0 left s at
+
+  -- it is there, since it was found
+  there : 0 < countAt s at
+  there = go (decLt 0 (countAt s at))
+    where
+      go : Dec (0 < countAt s at) → 0 < countAt s at
+      go (yes h) = h
+      go (no h) =
+          let z : _≡_ {A = Bool} false true = sym (ap (λ (k : Rec). is "Qu" k && has1 (headOf k)) (kid-none left s at a 0 (omega arith))) ∙ is-cooked in
+          absurd (let y : _≡_ {A = ℕ} 0 1 = cc in omega arith)
+
+  pub found-accepted : AcceptedAt (left - 1) s x
+  found-accepted = first-accepted left s at a x first-at there
+
+  pub found-type : noExprs (kidsOf (treeAt left s at)) ≡ true → (t : List ℕ) → t ≡ textAt s x
+      → tsLitType (rec (fresh "Ss" 0 t) nil) ≡ tplToTsType (kidsOf (treeAt left s at)) true
+  found-type e t q =
+      ap (λ (t : List ℕ). tsLitType (rec (fresh "Ss" 0 t) nil)) (q ∙ (sym (text-is (left - 1) s x) ∙ sym (ap textOf (first-is left s at a x first-at there))))
+      ∙ quasi-type (kidsOf (treeAt left s at)) e is-cooked
+
+-- what is written for a template of a kind
+pub tpl-put : {a b : List ℕ} {p : ℕ} (ks : Recs) {kind k : DeclMutabilityKind} {t : Rec} {q : ℕ} → kind ≡ k → t ≡ tplToTsType ks (isConst k) → Put a b p (encode t) q → Put a b p (encode (tplToTsType ks (isConst kind))) q
+tpl-put ks e f w = rw (e, ← f) w
+
+pub mutable-is : (ks : Recs) → tsKeywordType "string" ≡ tplToTsType ks false
+unfolding tplToTsType
+mutable-is ks = refl
