@@ -14,7 +14,7 @@ use Rattle.definition.specs.Children.{AcceptedAt}
 use Rattle.definition.specs.Record.{identAt, join, one}
 use Rattle.definition.specs.Transform.{textsFit, allTextsFit}
 use Rattle.definition.proofs.Children.{stands}
-use Rattle.swc_helpers.proofs.Made.{are-bytes}
+use Rattle.records.proofs.Whole.{slice-bytes}
 use Rattle.typing.proofs.Steps.{and-true, and-assoc}
 
 mutual
@@ -28,7 +28,7 @@ mutual
 
 -- a record of an accepted tree
 pub tree-fits : (left : ℕ) (s : List ℕ) (at : ℕ) → AcceptedAt left s at → ((i : ℕ) → mir.Val.Fits w8 (getD s i 0)) → textsFit (treeAt left s at) ≡ true
-tree-fits left s at a known = fits-texts (treeAt left s at) (stands left s at a (are-bytes s known) .fits)
+tree-fits left s at a known = fits-texts (treeAt left s at) (stands left s at a (slice-bytes s known) .fits)
 
 -- the Id of a key
 pub name-fits : (h : Head) (name : List ℕ) → length name ≤ 65531 → textsFit (identAt h name) ≡ true

@@ -1,7 +1,10 @@
 pub mod Counter
-pub mod Readonly
+pub mod Frozen
 pub mod Steps
 pub mod Slots
 pub mod Fits
 pub mod Written
 pub mod Shift
+pub mod Maybe
+pub mod Loops
+pub mod ReadonlyOf

@@ -14,8 +14,7 @@ use Rattle.definition.specs.Helpers.{anyTypeAnn}
 use Rattle.definition.specs.Typing.{orAny}
 use Rattle.definition.specs.Transform.{textsFit, allTextsFit}
 use Rattle.records.specs.declared.Head.{Head as Fields}
-use Rattle.records.specs.Fields as Fields'
-use Rattle.records.specs.Fields.{fieldsAt}
+use Rattle.records.specs.Fields.{fieldsAt, diagOf}
 use Rattle.records.specs.Wrote.{top, sat, Put, Ran}
 use Rattle.records.proofs.Wrote.{put-wrote, ran-none, ran-out, ran-dia, ran-then, ran-back, ran-lower, ran-front, ran-as}
 use Rattle.typing.specs.declared.State.{State}
@@ -161,8 +160,7 @@ pub step-marks : (o : List ℕ) {g g' : List ℕ} {s s' : State} {e : Diag} → 
 step-marks o {g} {g'} {s} {s'} {e} w h = subst (λ (x : State). Step o o g g' s x [] (e ∷ []) (s .n) true) (sym (w .same)) (step-mark o s (w .put) h)
 
 pub marks : (tree : List ℕ) (at code : ℕ) (s : State) {g g' : List ℕ} {h : Fields} {e : ℕ} → h ≡ fieldsAt tree at
-    → Put g g' (s .d) (Fields'.diagBytes code (h .start) (h .end)) e → Marks g g' s (markedTo s e) (diagAt tree at code)
-unfolding Fields'.diagBytes
+    → Put g g' (s .d) (diagBytes (diagOf code (h .start) (h .end))) e → Marks g g' s (markedTo s e) (diagAt tree at code)
 marks tree at code s q w = record { put = rw q at w; same = refl }
 
 -- ---- any in the place of a type

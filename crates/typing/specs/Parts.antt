@@ -1,10 +1,11 @@
 -- The parts of the definition as the functions of the code have them. Assumes nothing: these are definitions.
 use mathlib.Core.List.{List, [], _++_}
-use mathlib.Core.Bool.{Bool, true, false, cond}
+use mathlib.Core.Bool.{Bool, true, false, cond, _||_}
 use Prim.Native.Nat.{ℕ, _+_}
+use lib.Dec.{eqb}
 use Rattle.definition.specs.Tree.{Head, Rec, Recs, rec, nil, le4, headBytes, encode}
 use Rattle.definition.specs.Grammar.{mark}
-use Rattle.definition.specs.Record.{fresh}
+use Rattle.definition.specs.Record.{fresh, is, flagged}
 use Rattle.definition.specs.Typing.{readonlyMembers}
 
 -- the head of a record without text that is made
@@ -18,6 +19,15 @@ identOf start end name = rec (record { mark = mark "Id"; flags = 0; start = star
 -- a Ps before its type: `propertySignature`
 abbrev pub signatureFront : Rec → Bool → ℕ → List ℕ
 signatureFront key readonly f = headBytes (fresh "Ps" (cond readonly 1 0 + f) []) 2 ++ encode key
+
+-- ---- `readonly_of`
+
+-- a member that `readonly_of` knows, or an Op
+abbrev pub isPlain : ℕ → Bool
+isPlain m = eqb m (mark "Ps") || (eqb m (mark "Ix") || eqb m (mark "Op"))
+
+abbrev pub readonlyMember : Rec → Rec
+readonlyMember m = cond (is "Op" m) m (flagged m)
 
 -- the members of an object's type, readonly where `readonly_of` it is wanted
 abbrev pub membersIf : Bool → Recs → Recs

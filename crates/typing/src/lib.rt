@@ -8,6 +8,7 @@ ghost use Rattle.definition.specs.Tree.{headSize};
 ghost use Rattle.typing.specs.Did.{diagAt, backTo, Marks, Filled};
 
 mod made;
+mod readonly;
 
 // Where a typing stands: the positions in the output and in the diagnostics, the name counter, and whether every text that was written fits
 // the two bytes of its length.
