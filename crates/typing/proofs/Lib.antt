@@ -6,5 +6,6 @@ pub mod Fits
 pub mod Written
 pub mod Shift
 pub mod Maybe
+pub mod Arms
 pub mod Loops
 pub mod ReadonlyOf

@@ -1,12 +1,16 @@
 -- The children that the grammar fixes, of the records that typing meets: each is there, accepted, and has one of the marks of its slot.
 -- Assumes nothing.
-use mathlib.Core.Path.{_≡_, refl}
+use mathlib.Core.Path.{_≡_, refl, sym, _∙_}
 use mathlib.Core.List.{List}
+use mathlib.Core.Bool.{true, false}
 use Prim.Native.Nat.{ℕ, _-_}
-use Rattle.definition.specs.Tree.{markAt, bodyAt, endOfAll, endAt}
+use Prim.Native.String.{String}
+use lib.Dec.{eqb}
+use Rattle.definition.specs.Tree.{markAt, bodyAt, endOfAll, endAt, treeAt}
 use Rattle.definition.specs.Grammar.{mark, grammar, known, slots, place, expression, type, pattern, key, optional}
-use Rattle.definition.specs.Children.{AcceptedAt, childAt}
-use Rattle.definition.proofs.Kids.{Child, fixed, first-in, second-in, child-in}
+use Rattle.definition.specs.Children.{AcceptedAt}
+use Rattle.definition.specs.Record.{kidsOf, markOf, kid}
+use Rattle.definition.proofs.Kids.{Child, fixed, first-in, second-in, is-mark, not-mark}
 
 module _ (left : ℕ) (s : List ℕ) (at : ℕ) (a : AcceptedAt left s at) where
   pub kc-expr : markAt s at ≡ mark "Kc" → Child left s at 0 (bodyAt s at) expression
@@ -80,3 +84,11 @@ module _ (left : ℕ) (s : List ℕ) (at : ℕ) (a : AcceptedAt left s at) where
   pub bd-ident : markAt s at ≡ mark "Bd" → Child left s at 0 (bodyAt s at) "Id"
   unfolding grammar known slots place fixed
   bd-ident e = first-in left s at a (mark "Bd") e refl "Id" refl
+
+-- ---- the mark of a child, as a test of the code tells it
+
+pub is-kid : {left : ℕ} {s : List ℕ} {at i p : ℕ} {S : String} → Child left s at i p S → {m n : ℕ} → m ≡ markAt s p → m ≡ n → eqb (markOf (kid i (kidsOf (treeAt left s at)))) n ≡ true
+is-kid {left} {s} {p = p} c {m} {n} e f = rw (c .tree) (is-mark (left - 1) s p n (sym e ∙ f))
+
+pub not-kid : {left : ℕ} {s : List ℕ} {at i p : ℕ} {S : String} → Child left s at i p S → {m n : ℕ} → m ≡ markAt s p → (m ≡ n → ⊥) → eqb (markOf (kid i (kidsOf (treeAt left s at)))) n ≡ false
+not-kid {left} {s} {p = p} c {m} {n} e f = rw (c .tree) (not-mark (left - 1) s p n (λ q. f (e ∙ q)))

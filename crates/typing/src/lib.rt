@@ -7,6 +7,7 @@ ghost use lib.ListN.{length};
 ghost use Rattle.definition.specs.Tree.{headSize};
 ghost use Rattle.typing.specs.Did.{diagAt, backTo, Marks, Filled};
 
+mod leaves;
 mod made;
 mod readonly;
 
