@@ -7,5 +7,6 @@ pub mod Written
 pub mod Shift
 pub mod Maybe
 pub mod Arms
+pub mod LeafArms
 pub mod Loops
 pub mod ReadonlyOf

@@ -13,6 +13,7 @@ ghost use Rattle.swc_helpers.specs.Found.{isConst, PutMaybe};
 ghost use Rattle.swc_helpers.specs.Made.{keyword};
 ghost use Rattle.typing.specs.Did.{idsOf};
 ghost use Rattle.typing.specs.Parts.{numberName, nameType, classType, asType};
+ghost use Rattle.typing.specs.Leaf.{leafType};
 
 use crate::Mode;
 use crate::readonly::readonly_of;
@@ -166,4 +167,28 @@ pub fn array_ident(tree: &[u8], at: usize, left: usize, out: &mut [u8], p: usize
         return MaybeType::Typed(swc_helpers::ts_type_query(tree, at, left, out, p));
     }
     MaybeType::Untyped
+}
+
+// The arms of `expr_to_ts_type` that type nothing below them: `Expr::Lit`, `Expr::Tpl`, `Expr::Ident`, `Expr::Unary`, `Expr::New`, and those that
+// give `None`. `readonly_of` knows none of their types.
+pub fn leaf_type(tree: &[u8], at: usize, left: usize, mode: Mode, out: &mut [u8], p: usize) -> MaybeType
+    requires { ⌜ AcceptedAt left (now tree) at ⌝ }
+    requires { ⌜ AcceptedAt deepest (now tree) 0 ⌝ }
+    ensures { λ r. ⌜ PutMaybe (now (out .entry)) (now (out .exit)) p (leafType (now (tree .entry)) mode left at) r ⌝ }
+{
+    if mode.frozen {
+        return MaybeType::Untyped;
+    }
+    let kind = decl_kind(mode.as_const);
+    match records::mark_at(tree, at) {
+        SS | BL | NL | NU | BI | RE | JT => swc_helpers::maybe_lit_to_ts_type(tree, at, left, kind, out, p),
+        TE => MaybeType::Typed(swc_helpers::tpl_to_ts_type(tree, at, left, kind, out, p)),
+        ID => ident_to_ts_type(tree, at, left, mode.unresolved, mode.as_const, out, p),
+        MI => {
+            let arg = records::body_at(tree, at);
+            unary_type(tree, arg, left - 1, mode.as_const, out, p)
+        }
+        NE => new_type(tree, at, left, out, p),
+        _ => MaybeType::Untyped,
+    }
 }
