@@ -8,5 +8,6 @@ pub mod Shift
 pub mod Maybe
 pub mod Arms
 pub mod LeafArms
+pub mod LeafFits
 pub mod Loops
 pub mod ReadonlyOf
