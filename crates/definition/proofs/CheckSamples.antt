@@ -3,10 +3,10 @@
 use mathlib.Core.Path.{_≡_, refl}
 use mathlib.Core.List.{List, [], _∷_, _++_, map}
 use Prim.Native.Nat.{ℕ, zero, suc}
-use Prim.Native.Char.{Char, code}
+use Prim.Native.Char.{code}
 use Prim.Native.String.{String, [] as ε, _∷_ as _∷ₛ_}
 use lib.ListN.{length, take}
-use Rattle.definition.specs.Tree.{Head, Rec, Recs, rec, nil, cons, le2, le4, headBytes, encode, encodes}
+use Rattle.definition.specs.Tree.{Rec, Recs, rec, nil, cons, le2, le4, headBytes, encode}
 use Rattle.definition.specs.Grammar.{
   mark,
   marks,

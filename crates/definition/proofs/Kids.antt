@@ -13,33 +13,7 @@ use lib.Dec.{eqb}
 use lib.ListN.{length}
 use borrow.Author.Tests.{eqb-true, eqb-false, leb-true, eq-eqb, ne-eqb}
 use Rattle.definition.specs.Tree.{Head, Rec, nil, headSize, markAt, flagsAt, lengthAt, countAt, textAt, bodyAt, headAt, readAll, endOfAll, endAt, treeAt}
-use Rattle.definition.specs.Grammar.{
-  mark,
-  marks,
-  member,
-  Part,
-  Part.one,
-  Part.many,
-  Part.property,
-  Form,
-  Form.empty,
-  Form.eight,
-  Form.integer,
-  Form.identifier,
-  grammar,
-  known,
-  forms,
-  slots,
-  place,
-  allowed,
-  after,
-  least,
-  isProperty,
-  undestructured,
-  expression,
-  type,
-  pattern,
-}
+use Rattle.definition.specs.Grammar.{mark, marks, member, Part, Part.one, Part.many, Part.property, Form, Form.empty, Form.eight, Form.integer, Form.identifier, grammar, known, forms, slots, place, allowed, after, least, isProperty, undestructured, expression, type, pattern}
 use Rattle.definition.specs.Check.{hasForm, isInteger, formOf, slotsOf, inside, Checked.fine, checkAt}
 use Rattle.definition.specs.Children.{AcceptedAt, childAt}
 use Rattle.definition.specs.Record.{headOf, kidsOf, markOf, textOf, absent, kid}

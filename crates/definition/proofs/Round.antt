@@ -85,7 +85,7 @@ module _ (s : List ℕ) (at : ℕ) (h : Head) (n : ℕ) (rest : List ℕ) (fits 
   unfolding headBytes from-start
   length-is = le2-at s (at + 11) (length (h .text)) (fits .text) (at-left s (at + 11) (le2 (length (h .text))) from-count (at-right s at (le2 (h .mark) ++ (h .flags % 256 ∷ (le4 (h .start) ++ le4 (h .end)))) from-length hd))
 
-  count-is : countAt s at ≡ n
+  pub count-is : countAt s at ≡ n
   unfolding headBytes
   count-is = le2-at s (at + 13) n (fits .count) (at-right s at (le2 (h .mark) ++ (h .flags % 256 ∷ (le4 (h .start) ++ (le4 (h .end) ++ le2 (length (h .text)))))) (le2 n) hd)
 
@@ -99,29 +99,29 @@ module _ (s : List ℕ) (at : ℕ) (h : Head) (n : ℕ) (rest : List ℕ) (fits 
   unfolding headAt
   head-is = λ i. record { mark = mark-is i; flags = flags-is i; start = start-is i; end = end-is i; text = text-is i }
 
-  rest-at : At s (bodyAt s at) rest
+  pub rest-at : At s (bodyAt s at) rest
   rest-at = rw length-is (at-right s (at + headSize) (h .text) rest after-head)
 
 -- ---- a record with its children
 
-abbrev Reads : ℕ → List ℕ → ℕ → Rec → Type 0
+abbrev pub Reads : ℕ → List ℕ → ℕ → Rec → Type 0
 Reads d s at r = (treeAt d s at ≡ r) × (endAt d s at ≡ at + length (encode r))
 
-abbrev ReadsAll : ℕ → List ℕ → ℕ → Recs → Type 0
+abbrev pub ReadsAll : ℕ → List ℕ → ℕ → Recs → Type 0
 ReadsAll d s at rs = (readAll (treeAt d s) (endAt d s) (count rs) at ≡ rs) × (endOfAll (endAt d s) (count rs) at ≡ at + length (encodes rs))
 
-reads-nil : (d : ℕ) (s : List ℕ) (at : ℕ) → ReadsAll d s at nil
+pub reads-nil : (d : ℕ) (s : List ℕ) (at : ℕ) → ReadsAll d s at nil
 unfolding encodes readAll endOfAll
 reads-nil d s at = (refl, omega arith)
 
-reads-cons : (r : Rec) (rs : Recs) (d : ℕ) (s : List ℕ) (at : ℕ) → Reads d s at r → ReadsAll d s (endAt d s at) rs → ReadsAll d s at (cons r rs)
+pub reads-cons : (r : Rec) (rs : Recs) (d : ℕ) (s : List ℕ) (at : ℕ) → Reads d s at r → ReadsAll d s (endAt d s at) rs → ReadsAll d s at (cons r rs)
 unfolding encodes readAll endOfAll
 reads-cons r rs d s at one more =
     let t≡ : treeAt d s at ≡ r = one .0 in
     let k≡ : readAll (treeAt d s) (endAt d s) (count rs) (endAt d s at) ≡ rs = more .0 in
     (cc, more .1 ∙ simp length-append (omega arith))
 
-reads-rec : (h : Head) (ks : Recs) (d : ℕ) (s : List ℕ) (at : ℕ) → FitsHead h (count ks) → At s at (headBytes h (count ks) ++ (h .text ++ encodes ks)) →
+pub reads-rec : (h : Head) (ks : Recs) (d : ℕ) (s : List ℕ) (at : ℕ) → FitsHead h (count ks) → At s at (headBytes h (count ks) ++ (h .text ++ encodes ks)) →
     ReadsAll d s (bodyAt s at) ks → Reads (suc d) s at (rec h ks)
 unfolding encode treeAt endAt
 reads-rec h ks d s at f a ih =

@@ -3,6 +3,7 @@ pub mod Grammar
 pub mod Check
 pub mod Children
 pub mod Record
+pub mod Counting
 pub mod Helpers
 pub mod Prescan
 pub mod Names
@@ -11,3 +12,8 @@ pub mod Classes
 pub mod Enums
 pub mod Items
 pub mod Transform
+pub mod Demand3
+pub mod Widths
+pub mod Silence
+pub mod Typed
+pub mod Handbook

@@ -1,67 +1,20 @@
 -- What the definition of the prescan says of the record at an offset, by its mark. Assumes nothing.
 use mathlib.Core.Path.{_≡_, refl, sym, ap, _∙_}
-use mathlib.Core.List.{List, [], _∷_}
-use mathlib.Core.Bool.{Bool, true, false, cond, not, _&&_, _||_}
+use mathlib.Core.List.{List}
+use mathlib.Core.Bool.{Bool, true, false, cond, _&&_, _||_}
 use mathlib.Core.Logic.{_⊎_, inl, inr, ⊎-elim}
 use Prim.Native.Nat.{ℕ, _-_, _/_, _%_, _<_, _≤_}
-use native.Mathlib.Omega.{arith}
 use lib.Dec.{eqb}
 use lib.ListN.{drop}
 use borrow.Author.Tests.{eq-eqb, ne-eqb}
 use Rattle.definition.specs.Tree.{Head, Rec, Recs, rec, nil, cons, markAt, flagsAt, countAt, textAt, bodyAt, headAt, readAll, endAt, treeAt}
 use Rattle.definition.specs.Grammar.{mark, marks, member, _or_, declaration, type, expression, pattern, optional, grammar, known, slots, place}
 use Rattle.definition.specs.Children.{AcceptedAt, AllAccepted}
-use Rattle.definition.specs.Record.{text, sameText, headOf, kidsOf, markOf, textOf, is, isNo, symbolOf, has2, kid}
-use Rattle.definition.specs.Prescan.{
-  ArrayType,
-  ArrayType.aArray,
-  ArrayType.aReadonly,
-  ArrayType.aRef,
-  ArrayType.aOther,
-  arrayTypeKind,
-  refersToArray,
-  isArrayTypeBy,
-  isArrayType,
-  firstIsArrayType,
-  ArrayInit,
-  ArrayInit.iArray,
-  ArrayInit.iThrough,
-  ArrayInit.iAs,
-  ArrayInit.iOther,
-  arrayInitKind,
-  isArrayLitInitBy,
-  isArrayLitInit,
-  firstIsArrayLitInit,
-  Question,
-  Question.typeofSafe,
-  Question.nonGenericClass,
-  Question.arrayTyped,
-  addClass,
-  addConst,
-  named,
-  addDeclarator,
-  addDeclarators,
-  Declared,
-  Declared.dFn,
-  Declared.dClass,
-  Declared.dVar,
-  Declared.dOther,
-  declaredKind,
-  addDeclBy,
-  addFn,
-  addDecl,
-  addItem,
-  asked,
-}
-use Rattle.records.specs.Whole.{Whole}
-use Rattle.records.proofs.Whole.{accepted-whole}
+use Rattle.definition.specs.Record.{text, sameText, kidsOf, markOf, is, isNo, kid}
+use Rattle.definition.specs.Prescan.{ArrayType, ArrayType.aArray, ArrayType.aReadonly, ArrayType.aRef, ArrayType.aOther, arrayTypeKind, refersToArray, isArrayTypeBy, isArrayType, firstIsArrayType, ArrayInit, ArrayInit.iArray, ArrayInit.iThrough, ArrayInit.iAs, ArrayInit.iOther, arrayInitKind, isArrayLitInitBy, isArrayLitInit, firstIsArrayLitInit, Question, Question.typeofSafe, Question.nonGenericClass, Question.arrayTyped, addClass, addConst, named, addDeclarator, addDeclarators, Declared, Declared.dFn, Declared.dClass, Declared.dVar, Declared.dOther, declaredKind, addDeclBy, addFn, addDecl, addItem, asked}
 use Rattle.definition.proofs.Kids.{fixed, Child, placed, wider, member-one, head-is, mark-is, flags-is, kids-are, first-in, second-in}
 use Rattle.definition.proofs.Children.{children, first-one, others, readAll-more, readAll-none}
 use Rattle.prescan.specs.Question.{addVar}
-
--- an accepted record lies in the tree, as `record_end` asks
-pub lies : {left : ℕ} {s : List ℕ} {at : ℕ} → AcceptedAt left s at → Whole left s at
-lies {left} {s} {at} a = accepted-whole left s at (a .slots) (a .past) (a .checked)
 
 -- In each module m is the mark of the record at `at`, as the code read it.
 

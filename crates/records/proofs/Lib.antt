@@ -3,3 +3,5 @@ pub mod Stores
 pub mod Whole
 pub mod Wrote
 pub mod Texts
+pub mod Puts
+pub mod Accepted

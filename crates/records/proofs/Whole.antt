@@ -1,32 +1,16 @@
 -- Laws of `Whole`: a record that lies in the bytes, its children, where it ends; and that an accepted record is whole. Assumes nothing.
-use mathlib.Core.Path.{_≡_, refl, sym, _∙_, ap, subst}
+use mathlib.Core.Path.{_≡_, sym, _∙_, ap, subst}
 use mathlib.Core.List.{List}
 use Prim.Native.Nat.{ℕ, zero, suc, _+_, _-_, _≤_, _<_}
 use native.Mathlib.Omega.{arith}
 use lib.ListN.{length, getD}
 use mir.Syntax.{w8}
 use mir.Val.{Fits}
-use Rattle.definition.specs.Tree.{
-  headSize,
-  headAt,
-  markAt,
-  countAt,
-  bodyAt,
-  Bytes,
-  Rec,
-  rec,
-  Recs,
-  nil,
-  cons,
-  encode,
-  readAll,
-  endOfAll,
-  endAt,
-  treeAt,
-}
+use Rattle.definition.specs.Tree.{headSize, markAt, countAt, bodyAt, Bytes, encode, endOfAll, endAt, treeAt}
 use Rattle.definition.specs.Grammar.{Part, after}
 use Rattle.definition.specs.Check.{inside, Checked.fine, checkAll, checkAt}
 use Rattle.definition.proofs.Accepted.{accepted, accepted-left, first-accepted, check-ends}
+use Rattle.definition.proofs.Children.{endOfAll-more, endOfAll-none}
 use Rattle.definition.proofs.Converse.{encode-treeAt}
 use Rattle.records.specs.Whole.{Each, Whole, partAt}
 use Rattle.records.specs.Wrote.{Put}
@@ -60,12 +44,6 @@ unfolding endAt
 end-step zero s at h = absurd (omega arith)
 end-step (suc left) s at h = ap (λ (k : ℕ). endOfAll (endAt k s) (countAt s at) (bodyAt s at)) (one-less left)
 
-pub tree-step : (left : ℕ) (s : List ℕ) (at : ℕ) → 0 < left
-    → treeAt left s at ≡ rec (headAt s at) (readAll (treeAt (left - 1) s) (endAt (left - 1) s) (countAt s at) (bodyAt s at))
-unfolding treeAt
-tree-step zero s at h = absurd (omega arith)
-tree-step (suc left) s at h = ap (λ (k : ℕ). rec (headAt s at) (readAll (treeAt k s) (endAt k s) (countAt s at) (bodyAt s at))) (one-less left)
-
 module _ (n : ℕ) (h : 0 < n) where
   one-more : n ≡ suc (n - 1)
   one-more = omega arith
@@ -77,35 +55,6 @@ module _ (n : ℕ) (h : 0 < n) where
   pub each-rest : (P : ℕ → Type 0) (end : ℕ → ℕ) (at : ℕ) → Each P end n at → Each P end (n - 1) (end at)
   unfolding Each
   each-rest P end at e = (subst (λ (k : ℕ). Each P end k at) one-more e) .1
-
-  pub ends-step : (end : ℕ → ℕ) (at : ℕ) → endOfAll end n at ≡ endOfAll end (n - 1) (end at)
-  unfolding endOfAll
-  ends-step end at = ap (λ (k : ℕ). endOfAll end k at) one-more
-
-  pub read-step : (read : ℕ → Rec) (end : ℕ → ℕ) (at : ℕ) → readAll read end n at ≡ cons (read at) (readAll read end (n - 1) (end at))
-  unfolding readAll
-  read-step read end at = ap (λ (k : ℕ). readAll read end k at) one-more
-
-pub ends-none : (n : ℕ) (end : ℕ → ℕ) (at : ℕ) → n ≤ 0 → endOfAll end n at ≡ at
-unfolding endOfAll
-ends-none zero end at h = refl
-ends-none (suc n) end at h = absurd (omega arith)
-
-pub read-none : (n : ℕ) (read : ℕ → Rec) (end : ℕ → ℕ) (at : ℕ) → n ≤ 0 → readAll read end n at ≡ nil
-unfolding readAll
-read-none zero read end at h = refl
-read-none (suc n) read end at h = absurd (omega arith)
-
--- the k-th of n
-pub each-at : (P : ℕ → Type 0) (end : ℕ → ℕ) (n k at : ℕ) → k < n → Each P end n at → P (endOfAll end k at)
-unfolding Each endOfAll
-each-at P end zero k at h e = absurd (omega arith)
-each-at P end (suc n) zero at h e = e .0
-each-at P end (suc n) (suc k) at h e = each-at P end n k (end at) (omega arith) (e .1)
-
--- the k-th child, counted from 0
-pub whole-kid : (left : ℕ) (s : List ℕ) (at k : ℕ) → Whole left s at → k < countAt s at → Whole (left - 1) s (endOfAll (endAt (left - 1) s) k (bodyAt s at))
-whole-kid left s at k w h = each-at (Whole (left - 1) s) (endAt (left - 1) s) (countAt s at) k (bodyAt s at) h (whole-kids left s at w)
 
 -- ---- where a record ends
 
@@ -147,11 +96,11 @@ module _ (left : ℕ) (s : List ℕ) (at n c : ℕ) (i : Siblings left s at n c)
   siblings-next h = record {
     pos = i .pos;
     kids = each-rest n h (Whole (left - 1) s) (endAt (left - 1) s) c (i .kids);
-    rest = sym (ends-step n h (endAt (left - 1) s) c) ∙ i .rest;
+    rest = sym (endOfAll-more (endAt (left - 1) s) n c h) ∙ i .rest;
   }
 
   pub siblings-done : n ≤ 0 → c ≡ endAt left s at
-  siblings-done h = sym (ends-none n (endAt (left - 1) s) c h) ∙ i .rest
+  siblings-done h = sym (endOfAll-none (endAt (left - 1) s) n c h) ∙ i .rest
 
 -- ---- an accepted record
 

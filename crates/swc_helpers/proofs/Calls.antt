@@ -1,31 +1,24 @@
 -- `Object.freeze`: its callee and its argument, in an accepted tree. Assumes nothing.
-use mathlib.Core.Path.{_≡_, refl, sym, _∙_, ap, subst}
+use mathlib.Core.Path.{_≡_, refl, sym, _∙_, ap}
 use mathlib.Core.List.{List}
 use mathlib.Core.Bool.{Bool, true, false, not, _&&_}
+use mathlib.Core.Logic.{_⊎_, ⊎-elim}
 use Prim.Native.Nat.{ℕ, _-_, _<_, _≤_}
 use native.Mathlib.Omega.{arith}
 use lib.Dec.{eqb}
-use lib.ListN.{length}
 use borrow.Author.Tests.{eq-eqb, ne-eqb}
-use Rattle.definition.specs.Tree.{Rec, Recs, nil, cons, count, headSize, markAt, countAt, textAt, bodyAt, readAll, endOfAll, endAt, treeAt}
-use Rattle.definition.specs.Grammar.{mark, grammar, known, slots, place, least, expression}
+use Rattle.definition.specs.Tree.{Rec, Recs, nil, cons, count, markAt, countAt, textAt, bodyAt, readAll, endOfAll, endAt, treeAt}
+use Rattle.definition.specs.Grammar.{mark, grammar, known, slots, place, least}
 use Rattle.definition.specs.Children.{AcceptedAt, childAt}
 use Rattle.definition.specs.Record.{text, sameText, kidsOf, textOf, is, kid, ends}
 use Rattle.definition.specs.Helpers.{isGlobal, objectFreezeCallArg}
-use Rattle.definition.proofs.Children.{some-left, itself, child, child-0, child-1, readAll-more, readAll-none}
+use Rattle.definition.proofs.Children.{some-left, child, child-0, child-1, readAll-more, readAll-none}
 use Rattle.definition.proofs.Converse.{count-readAll}
 use Rattle.definition.proofs.Kids.{mark-is, text-is, kids-are, kid-is, at-least}
 use Rattle.swc_helpers.specs.declared.Found.{Found}
 use Rattle.swc_helpers.specs.declared.Found.the-variants.{At, Nothing}
 use Rattle.swc_helpers.specs.Found.{foundIf, isObjectFreeze}
-
--- ---- answers
-
-pub nothing-found : (b : Bool) (at : ℕ) → b ≡ false → Nothing ≡ foundIf b at
-nothing-found b at e = rw e
-
-pub found-at : (b : Bool) (x at : ℕ) → b ≡ true → x ≡ at → At x ≡ foundIf b at
-found-at b x at e q = rw (e, q)
+use Rattle.swc_helpers.proofs.Answers.{nothing-found, found-at}
 
 -- ---- levels
 
@@ -61,51 +54,60 @@ joined true true k b = refl
 joined true false k b = refl
 joined false g k b = refl
 
-module _ (left : ℕ) (s : List ℕ) (at : ℕ) (a : AcceptedAt left s at) (unresolved : ℕ) where
-  pub no-member : (markAt s at ≡ mark "Mb" → ⊥) → false ≡ isObjectFreeze unresolved (treeAt left s at)
-  no-member n = rw (ne-eqb _ _ (λ e. n (sym (mark-is left s at) ∙ e)))
+-- a Mb at `at`, as it was met, with its object at obj
+pub record Member (left : ℕ) (s : List ℕ) (at obj : ℕ) : Type 0 where
+  pub it : AcceptedAt left s at
+  pub marked : markAt s at ≡ mark "Mb"
+  pub body : obj ≡ bodyAt s at
 
-  module _ (e : markAt s at ≡ mark "Mb") where
-    pub two-parts : 2 ≤ countAt s at
-    unfolding grammar known slots place least
-    two-parts = at-least left s at a (mark "Mb") e 2 refl
+-- the same where the object is the unresolved `Object`, with its property at prop
+pub record OfObject (left : ℕ) (s : List ℕ) (at unresolved obj prop : ℕ) : Type 0 where
+  pub member : Member left s at obj
+  pub global : isGlobal unresolved "Object" (treeAt (left - 1) s obj) ≡ true
+  pub behind : prop ≡ endAt (left - 1) s obj
 
-    -- the object and the property
-    module _ (obj : ℕ) (eo : obj ≡ bodyAt s at) where
-      pub object-accepted : AcceptedAt (left - 1) s obj
-      object-accepted = first-accepted left s at a obj eo (omega (arith, two-parts))
+pub no-member : (left : ℕ) (s : List ℕ) (at unresolved : ℕ) → (markAt s at ≡ mark "Mb" → ⊥) → false ≡ isObjectFreeze unresolved (treeAt left s at)
+no-member left s at unresolved n = rw (ne-eqb _ _ (λ e. n (sym (mark-is left s at) ∙ e)))
 
-      freeze-is : isObjectFreeze unresolved (treeAt left s at)
-          ≡ (isGlobal unresolved "Object" (treeAt (left - 1) s obj) && isFreeze (kid 1 (kidsOf (treeAt left s at))))
-      freeze-is =
-          let ks : Recs = kidsOf (treeAt left s at) in
-          ap (λ (m : ℕ). eqb m (mark "Mb") && (isGlobal unresolved "Object" (kid 0 ks) && isFreeze (kid 1 ks))) (mark-is left s at ∙ e)
-          ∙ ap (λ (r : Rec). isGlobal unresolved "Object" r && isFreeze (kid 1 ks)) (first-is left s at a obj eo (omega (arith, two-parts)))
+module _ {left : ℕ} {s : List ℕ} {at obj : ℕ} (m : Member left s at obj) where
+  two-parts : 2 ≤ countAt s at
+  unfolding grammar known slots place least
+  two-parts = at-least left s at (m .it) (mark "Mb") (m .marked) 2 refl
 
-      pub no-object : isGlobal unresolved "Object" (treeAt (left - 1) s obj) ≡ false → false ≡ isObjectFreeze unresolved (treeAt left s at)
-      no-object g = sym (freeze-is ∙ rw g)
+  pub object-accepted : AcceptedAt (left - 1) s obj
+  object-accepted = first-accepted left s at (m .it) obj (m .body) (omega (arith, two-parts))
 
-      module _ (g : isGlobal unresolved "Object" (treeAt (left - 1) s obj) ≡ true) (prop : ℕ) (ep : prop ≡ endAt (left - 1) s obj) where
-        pub property-accepted : AcceptedAt (left - 1) s prop
-        property-accepted = second-accepted left s at a obj eo prop ep (omega (arith, two-parts))
+  freeze-is : (unresolved : ℕ) → isObjectFreeze unresolved (treeAt left s at)
+      ≡ (isGlobal unresolved "Object" (treeAt (left - 1) s obj) && isFreeze (kid 1 (kidsOf (treeAt left s at))))
+  freeze-is unresolved =
+      let ks : Recs = kidsOf (treeAt left s at) in
+      ap (λ (x : ℕ). eqb x (mark "Mb") && (isGlobal unresolved "Object" (kid 0 ks) && isFreeze (kid 1 ks))) (mark-is left s at ∙ m .marked)
+      ∙ ap (λ (r : Rec). isGlobal unresolved "Object" r && isFreeze (kid 1 ks)) (first-is left s at (m .it) obj (m .body) (omega (arith, two-parts)))
 
-        property-is : isObjectFreeze unresolved (treeAt left s at) ≡ (eqb (markAt s prop) (mark "Ki") && sameText (textAt s prop) (text "freeze"))
-        property-is =
-            freeze-is ∙ rw g (
-            ap isFreeze (second-is left s at a obj eo prop ep (omega (arith, two-parts)))
-            ∙ ap (λ (m : ℕ). eqb m (mark "Ki") && sameText (textOf (treeAt (left - 1) s prop)) (text "freeze")) (mark-is (left - 1) s prop)
-            ∙ ap (λ (t : List ℕ). eqb (markAt s prop) (mark "Ki") && sameText t (text "freeze")) (text-is (left - 1) s prop))
+  pub no-object : (unresolved : ℕ) → isGlobal unresolved "Object" (treeAt (left - 1) s obj) ≡ false → false ≡ isObjectFreeze unresolved (treeAt left s at)
+  no-object unresolved g = sym (freeze-is unresolved ∙ rw g)
 
-        pub no-property : (markAt s prop ≡ mark "Ki" → ⊥) → false ≡ isObjectFreeze unresolved (treeAt left s at)
-        no-property n = sym (property-is ∙ rw (ne-eqb _ _ n))
+module _ {left : ℕ} {s : List ℕ} {at unresolved obj prop : ℕ} (o : OfObject left s at unresolved obj prop) where
+  pub property-accepted : AcceptedAt (left - 1) s prop
+  property-accepted = second-accepted left s at (o .member .it) obj (o .member .body) prop (o .behind) (omega (arith, two-parts (o .member)))
 
-        pub a-property : markAt s prop ≡ mark "Ki" → sameText (textAt s prop) (text "freeze") ≡ isObjectFreeze unresolved (treeAt left s at)
-        a-property k = sym (property-is ∙ rw (eq-eqb _ _ k))
+  property-is : isObjectFreeze unresolved (treeAt left s at) ≡ (eqb (markAt s prop) (mark "Ki") && sameText (textAt s prop) (text "freeze"))
+  property-is =
+      freeze-is (o .member) unresolved ∙ rw (o .global) (
+      ap isFreeze (second-is left s at (o .member .it) obj (o .member .body) prop (o .behind) (omega (arith, two-parts (o .member))))
+      ∙ ap (λ (x : ℕ). eqb x (mark "Ki") && sameText (textOf (treeAt (left - 1) s prop)) (text "freeze")) (mark-is (left - 1) s prop)
+      ∙ ap (λ (t : List ℕ). eqb (markAt s prop) (mark "Ki") && sameText t (text "freeze")) (text-is (left - 1) s prop))
+
+  pub no-property : (markAt s prop ≡ mark "Ki" → ⊥) → false ≡ isObjectFreeze unresolved (treeAt left s at)
+  no-property n = sym (property-is ∙ rw (ne-eqb _ _ n))
+
+  pub a-property : markAt s prop ≡ mark "Ki" → (t : List ℕ) → t ≡ textAt s prop → sameText t (text "freeze") ≡ isObjectFreeze unresolved (treeAt left s at)
+  a-property k t e = ap (λ (x : List ℕ). sameText x (text "freeze")) e ∙ sym (property-is ∙ rw (eq-eqb _ _ k))
 
 -- ---- the argument
 
 -- of any children: what the callee and their number say
-pub call-off : (unresolved : ℕ) (ks : Recs) → isObjectFreeze unresolved (kid 0 ks) ≡ false → objectFreezeCallArg unresolved ks ≡ false
+call-off : (unresolved : ℕ) (ks : Recs) → isObjectFreeze unresolved (kid 0 ks) ≡ false → objectFreezeCallArg unresolved ks ≡ false
 unfolding objectFreezeCallArg
 call-off unresolved nil e = refl
 call-off unresolved (cons c nil) e = refl
@@ -122,93 +124,120 @@ call-on : (unresolved : ℕ) (c r : Rec) (rs : Recs) → isObjectFreeze unresolv
 unfolding objectFreezeCallArg
 call-on unresolved c r rs e = joined (is "Mb" c) (isGlobal unresolved "Object" (kid 0 (kidsOf c))) (isFreeze (kid 1 (kidsOf c))) _ ∙ rw e
 
-module _ (left : ℕ) (s : List ℕ) (at : ℕ) (a : AcceptedAt left s at) (e : markAt s at ≡ mark "Ca") (unresolved : ℕ) where
-  abbrev args : Recs
-  args = kidsOf (treeAt left s at)
+-- a Ca at `at`, as it was met, with its callee at callee
+pub record Call (left : ℕ) (s : List ℕ) (at callee : ℕ) : Type 0 where
+  pub it : AcceptedAt left s at
+  pub marked : markAt s at ≡ mark "Ca"
+  pub body : callee ≡ bodyAt s at
 
-  pub one-part : 0 < countAt s at
+-- the same of `Object.freeze`, with a child at arg behind the callee
+pub record Freeze (left : ℕ) (s : List ℕ) (at unresolved callee arg : ℕ) : Type 0 where
+  pub call : Call left s at callee
+  pub freezes : isObjectFreeze unresolved (treeAt (left - 1) s callee) ≡ true
+  pub two : 2 ≤ countAt s at
+  pub behind : arg ≡ endAt (left - 1) s callee
+
+-- the same where that child is an argument, and no spread
+pub record Plain (left : ℕ) (s : List ℕ) (at unresolved callee arg : ℕ) : Type 0 where
+  pub freeze : Freeze left s at unresolved callee arg
+  pub no-op : markAt s arg ≡ mark "Op" → ⊥
+  pub no-spread : markAt s arg ≡ mark "Sp" → ⊥
+
+-- the same with a child at next behind the argument
+pub record Followed (left : ℕ) (s : List ℕ) (at unresolved callee arg next : ℕ) : Type 0 where
+  pub plain : Plain left s at unresolved callee arg
+  pub more : countAt s at ≡ 2 → ⊥
+  pub behind : next ≡ endAt (left - 1) s arg
+
+-- what `object_freeze_call_arg` answers
+abbrev pub Answer : ℕ → List ℕ → ℕ → ℕ → Found
+Answer left s at unresolved = foundIf (objectFreezeCallArg unresolved (kidsOf (treeAt left s at))) (childAt left s at 1)
+
+module _ {left : ℕ} {s : List ℕ} {at callee : ℕ} (k : Call left s at callee) where
+  one-part : 0 < countAt s at
   unfolding grammar known slots place least
-  one-part = at-least left s at a (mark "Ca") e 1 refl
+  one-part = at-least left s at (k .it) (mark "Ca") (k .marked) 1 refl
 
-  module _ (callee : ℕ) (ec : callee ≡ bodyAt s at) where
-    pub callee-accepted : AcceptedAt (left - 1) s callee
-    callee-accepted = first-accepted left s at a callee ec one-part
+  pub callee-accepted : AcceptedAt (left - 1) s callee
+  callee-accepted = first-accepted left s at (k .it) callee (k .body) one-part
 
-    pub other-callee : isObjectFreeze unresolved (treeAt (left - 1) s callee) ≡ false → objectFreezeCallArg unresolved args ≡ false
-    other-callee f = call-off unresolved args (ap (isObjectFreeze unresolved) (first-is left s at a callee ec one-part) ∙ f)
+  pub other-callee : (unresolved : ℕ) → isObjectFreeze unresolved (treeAt (left - 1) s callee) ≡ false → Nothing ≡ Answer left s at unresolved
+  other-callee unresolved f =
+      nothing-found _ _ (call-off unresolved (kidsOf (treeAt left s at)) (ap (isObjectFreeze unresolved) (first-is left s at (k .it) callee (k .body) one-part) ∙ f))
 
-    pub no-argument : countAt s at < 2 → objectFreezeCallArg unresolved args ≡ false
-    no-argument h =
-        call-few unresolved args
-        (omega (arith, ap count (kids-are left s at a), count-readAll (treeAt (left - 1) s) (endAt (left - 1) s) (countAt s at) (bodyAt s at)))
+  pub no-argument : (unresolved n : ℕ) → n ≡ countAt s at → n < 2 → Nothing ≡ Answer left s at unresolved
+  no-argument unresolved n e h =
+      nothing-found _ _ (call-few unresolved (kidsOf (treeAt left s at))
+      (omega (arith, ap count (kids-are left s at (k .it)), count-readAll (treeAt (left - 1) s) (endAt (left - 1) s) (countAt s at) (bodyAt s at))))
 
-    module _ (h : 2 ≤ countAt s at) (f : isObjectFreeze unresolved (treeAt (left - 1) s callee) ≡ true) (arg : ℕ) (ea : arg ≡ endAt (left - 1) s callee) where
-      pub arg-accepted : AcceptedAt (left - 1) s arg
-      arg-accepted = second-accepted left s at a callee ec arg ea (omega arith)
+module _ {left : ℕ} {s : List ℕ} {at unresolved callee arg : ℕ} (f : Freeze left s at unresolved callee arg) where
+  pub arg-accepted : AcceptedAt (left - 1) s arg
+  arg-accepted = let z = f .two in second-accepted left s at (f .call .it) callee (f .call .body) arg (f .behind) (omega arith)
 
-      pub arg-at : arg ≡ childAt left s at 1
-      arg-at = second-at left s at a callee ec arg ea
+  arg-at : arg ≡ childAt left s at 1
+  arg-at = second-at left s at (f .call .it) callee (f .call .body) arg (f .behind)
 
-      abbrev others : Recs
-      others = readAll (treeAt (left - 1) s) (endAt (left - 1) s) (countAt s at - 1 - 1) (endAt (left - 1) s arg)
+  abbrev others : Recs
+  others = readAll (treeAt (left - 1) s) (endAt (left - 1) s) (countAt s at - 1 - 1) (endAt (left - 1) s arg)
 
-      args-are : args ≡ cons (treeAt (left - 1) s callee) (cons (treeAt (left - 1) s arg) others)
-      args-are =
-          let read : ℕ → Rec = treeAt (left - 1) s in
-          let end : ℕ → ℕ = endAt (left - 1) s in
-          let n : ℕ = countAt s at in
-          kids-are left s at a
-          ∙ ap (readAll read end n) (sym ec)
-          ∙ readAll-more read end n callee (omega arith)
-          ∙ ap (λ (x : ℕ). cons (read callee) (readAll read end (n - 1) x)) (sym ea)
-          ∙ ap (cons (read callee)) (readAll-more read end (n - 1) arg (omega arith))
+  args-are : kidsOf (treeAt left s at) ≡ cons (treeAt (left - 1) s callee) (cons (treeAt (left - 1) s arg) others)
+  args-are =
+      let read : ℕ → Rec = treeAt (left - 1) s in
+      let end : ℕ → ℕ = endAt (left - 1) s in
+      let n : ℕ = countAt s at in
+      let two = f .two in
+      kids-are left s at (f .call .it)
+      ∙ ap (readAll read end n) (sym (f .call .body))
+      ∙ readAll-more read end n callee (omega arith)
+      ∙ ap (λ (x : ℕ). cons (read callee) (readAll read end (n - 1) x)) (sym (f .behind))
+      ∙ ap (cons (read callee)) (readAll-more read end (n - 1) arg (omega arith))
 
-      arg-is : objectFreezeCallArg unresolved args ≡ (not (eqb (markAt s arg) (mark "Op")) && (ends others && not (eqb (markAt s arg) (mark "Sp"))))
-      arg-is =
-          ap (objectFreezeCallArg unresolved) args-are
-          ∙ call-on unresolved (treeAt (left - 1) s callee) (treeAt (left - 1) s arg) others f
-          ∙ ap (λ (m : ℕ). not (eqb m (mark "Op")) && (ends others && not (eqb m (mark "Sp")))) (mark-is (left - 1) s arg)
+  arg-is : objectFreezeCallArg unresolved (kidsOf (treeAt left s at)) ≡ (not (eqb (markAt s arg) (mark "Op")) && (ends others && not (eqb (markAt s arg) (mark "Sp"))))
+  arg-is =
+      ap (objectFreezeCallArg unresolved) args-are
+      ∙ call-on unresolved (treeAt (left - 1) s callee) (treeAt (left - 1) s arg) others (f .freezes)
+      ∙ ap (λ (m : ℕ). not (eqb m (mark "Op")) && (ends others && not (eqb m (mark "Sp")))) (mark-is (left - 1) s arg)
 
-      pub is-op : markAt s arg ≡ mark "Op" → objectFreezeCallArg unresolved args ≡ false
-      is-op q = arg-is ∙ rw q
+  pub op-or-spread : {m : ℕ} → m ≡ markAt s arg → (m ≡ mark "Op") ⊎ (m ≡ mark "Sp") → Nothing ≡ Answer left s at unresolved
+  op-or-spread e o = nothing-found _ _ (arg-is ∙ ⊎-elim (λ (q : _ ≡ mark "Op"). rw (sym e ∙ q)) (λ (q : _ ≡ mark "Sp"). rw (sym e ∙ q) (never (ends others))) o)
+    where
+      never : (b : Bool) → (b && false) ≡ false
+      never true = refl
+      never false = refl
 
-      pub is-spread : markAt s arg ≡ mark "Sp" → objectFreezeCallArg unresolved args ≡ false
-      is-spread q = arg-is ∙ rw q (never (ends others))
-        where
-          never : (b : Bool) → (b && false) ≡ false
-          never true = refl
-          never false = refl
+module _ {left : ℕ} {s : List ℕ} {at unresolved callee arg : ℕ} (p : Plain left s at unresolved callee arg) where
+  ends-is : objectFreezeCallArg unresolved (kidsOf (treeAt left s at)) ≡ ends (others (p .freeze))
+  ends-is = arg-is (p .freeze) ∙ rw (ne-eqb _ _ (p .no-op), ne-eqb _ _ (p .no-spread)) (kept (ends (others (p .freeze))))
+    where
+      kept : (b : Bool) → (b && true) ≡ b
+      kept true = refl
+      kept false = refl
 
-      module _ (op : markAt s arg ≡ mark "Op" → ⊥) (sp : markAt s arg ≡ mark "Sp" → ⊥) where
-        ends-is : objectFreezeCallArg unresolved args ≡ ends others
-        ends-is = arg-is ∙ rw (ne-eqb _ _ op, ne-eqb _ _ sp) (kept (ends others))
-          where
-            kept : (b : Bool) → (b && true) ≡ b
-            kept true = refl
-            kept false = refl
+  pub last-one : countAt s at ≡ 2 → At arg ≡ Answer left s at unresolved
+  last-one n =
+      found-at _ _ _
+      (ends-is ∙ ap ends (readAll-none (treeAt (left - 1) s) (endAt (left - 1) s) (countAt s at - 1 - 1) (endAt (left - 1) s arg) (omega arith)))
+      (arg-at (p .freeze))
 
-        pub last-one : countAt s at ≡ 2 → objectFreezeCallArg unresolved args ≡ true
-        last-one n = ends-is ∙ ap ends (readAll-none (treeAt (left - 1) s) (endAt (left - 1) s) (countAt s at - 1 - 1) (endAt (left - 1) s arg) (omega arith))
+module _ {left : ℕ} {s : List ℕ} {at unresolved callee arg next : ℕ} (w : Followed left s at unresolved callee arg next) where
+  third : 2 < countAt s at
+  third = let two = w .plain .freeze .two in let more = w .more in omega arith
 
-        module _ (n : countAt s at ≡ 2 → ⊥) (next : ℕ) (en : next ≡ endAt (left - 1) s arg) where
-          third : 2 < countAt s at
-          third = omega arith
+  pub next-accepted : AcceptedAt (left - 1) s next
+  unfolding endOfAll
+  next-accepted =
+      let third-at : next ≡ childAt left s at 2 = w .behind ∙ ap (endAt (left - 1) s) (arg-at (w .plain .freeze)) in
+      rw third-at (child left s at (w .plain .freeze .call .it) 2 third)
 
-          pub next-accepted : AcceptedAt (left - 1) s next
-          unfolding endOfAll
-          next-accepted =
-              let third-at : next ≡ childAt left s at 2 = en ∙ ap (endAt (left - 1) s) arg-at in
-              rw third-at (child left s at a 2 third)
+  next-is : objectFreezeCallArg unresolved (kidsOf (treeAt left s at)) ≡ eqb (markAt s next) (mark "Op")
+  next-is =
+      ends-is (w .plain)
+      ∙ ap ends (readAll-more (treeAt (left - 1) s) (endAt (left - 1) s) (countAt s at - 1 - 1) (endAt (left - 1) s arg) (omega (arith, third)))
+      ∙ ap (λ (x : ℕ). is "Op" (treeAt (left - 1) s x)) (sym (w .behind))
+      ∙ ap (λ (m : ℕ). eqb m (mark "Op")) (mark-is (left - 1) s next)
 
-          next-is : objectFreezeCallArg unresolved args ≡ eqb (markAt s next) (mark "Op")
-          next-is =
-              ends-is
-              ∙ ap ends (readAll-more (treeAt (left - 1) s) (endAt (left - 1) s) (countAt s at - 1 - 1) (endAt (left - 1) s arg) (omega (arith, third)))
-              ∙ ap (λ (x : ℕ). is "Op" (treeAt (left - 1) s x)) (sym en)
-              ∙ ap (λ (m : ℕ). eqb m (mark "Op")) (mark-is (left - 1) s next)
+  pub then-ops : markAt s next ≡ mark "Op" → At arg ≡ Answer left s at unresolved
+  then-ops q = found-at _ _ _ (next-is ∙ eq-eqb _ _ q) (arg-at (w .plain .freeze))
 
-          pub then-ops : markAt s next ≡ mark "Op" → objectFreezeCallArg unresolved args ≡ true
-          then-ops q = next-is ∙ eq-eqb _ _ q
-
-          pub more-args : (markAt s next ≡ mark "Op" → ⊥) → objectFreezeCallArg unresolved args ≡ false
-          more-args q = next-is ∙ ne-eqb _ _ q
+  pub more-args : (markAt s next ≡ mark "Op" → ⊥) → Nothing ≡ Answer left s at unresolved
+  more-args q = nothing-found _ _ (next-is ∙ ne-eqb _ _ q)

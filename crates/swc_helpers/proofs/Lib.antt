@@ -1,6 +1,7 @@
 pub mod Made
+pub mod Answers
+pub mod Lits
 mod Sign
 mod Texts
 mod Calls
 mod Templates
-mod Maybe

@@ -1,7 +1,6 @@
 -- Writes one after the other, and the bytes of records with few children. Assumes nothing.
 use mathlib.Core.Path.{_≡_, refl, sym, _∙_, ap}
 use mathlib.Core.List.{List, [], _++_, append-nil, append-assoc}
-use mathlib.Core.Logic.{_⊎_, inl, inr, ⊎-elim}
 use Prim.Native.Nat.{ℕ, _+_, _<_, _≤_, _^_}
 use native.Mathlib.Decide.{decLe}
 use native.Mathlib.Omega.{arith}
@@ -21,7 +20,7 @@ use Rattle.records.specs.Wrote.{top, sat, Put}
 use Rattle.records.proofs.Stores.{sets-append, sets-out}
 use Rattle.records.proofs.Whole.{accepted-whole, accepted-put, slice-bytes}
 use Rattle.swc_helpers.specs.declared.TsKeywordTypeKind.{TsKeywordTypeKind}
-use Rattle.swc_helpers.specs.Made.{keyword, tsReadonlyFront, tsTupleElementFront, tsRestTypeFront}
+use Rattle.swc_helpers.specs.Made.{freshFields, keyword, tsReadonlyFront, tsTupleElementFront, tsRestTypeFront}
 
 -- ---- writes
 
@@ -68,9 +67,9 @@ module _ (h : Head) where
   encode-two r s e = rw (e, append-nil)
 
 -- an Id that is made afresh, of which the length of the text is known
-pub ident-is : (name : List ℕ) → fieldBytes (record { mark = mark "Id"; flags = 0; start = 0; end = 0; text = 4 + length name; count = 0 }) ++ (le4 0 ++ name) ≡ encode (ident name)
+pub ident-is : (name : List ℕ) → fieldBytes (freshFields (mark "Id") (4 + length name) 0) ++ (le4 0 ++ name) ≡ encode (ident name)
 unfolding fieldBytes headBytes
-ident-is name = ap (λ (n : ℕ). fieldBytes (record { mark = mark "Id"; flags = 0; start = 0; end = 0; text = n; count = 0 }) ++ (le4 0 ++ name)) (omega arith) ∙ encode-leaf (fresh "Id" 0 (le4 0 ++ name))
+ident-is name = ap (λ (n : ℕ). fieldBytes (freshFields (mark "Id") n 0) ++ (le4 0 ++ name)) (omega arith) ∙ encode-leaf (fresh "Id" 0 (le4 0 ++ name))
 
 -- a record that wraps a type is its front and the type
 pub readonly-is : (t : Rec) → encode (tsReadonly t) ≡ tsReadonlyFront ++ encode t

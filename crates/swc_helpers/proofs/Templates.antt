@@ -1,14 +1,14 @@
 -- The parts of a template in an accepted tree: whether it has expressions, and its first quasi. Assumes nothing.
 use mathlib.Core.Path.{_≡_, refl, sym, _∙_, ap}
-use mathlib.Core.List.{List, []}
-use mathlib.Core.Bool.{Bool, true, false, cond, _&&_, _||_}
+use mathlib.Core.List.{List}
+use mathlib.Core.Bool.{Bool, true, false, cond, _&&_}
 use mathlib.Core.Logic.{_⊎_, inl, inr, ⊎-elim}
 use Prim.Native.Nat.{ℕ, _-_, _%_, _<_, _≤_}
 use native.Mathlib.Decide.{decLt}
 use native.Mathlib.Omega.{arith}
 use lib.Dec.{eqb}
-use borrow.Author.Tests.{eq-eqb, ne-eqb}
-use Rattle.definition.specs.Tree.{Rec, Recs, rec, nil, markAt, flagsAt, countAt, textAt, bodyAt, readAll, endAt, treeAt, encode, headBytes}
+use borrow.Author.Tests.{ne-eqb}
+use Rattle.definition.specs.Tree.{Rec, Recs, rec, nil, markAt, countAt, textAt, bodyAt, readAll, endAt, treeAt, encode}
 use Rattle.definition.specs.Grammar.{mark}
 use Rattle.definition.specs.Children.{AcceptedAt, AllAccepted, childAt}
 use Rattle.definition.specs.Record.{headOf, kidsOf, textOf, is, has1, kid, fresh}
@@ -22,7 +22,8 @@ use Rattle.swc_helpers.specs.declared.DeclMutabilityKind.{DeclMutability
 use Rattle.swc_helpers.specs.declared.Found.{Found}
 use Rattle.swc_helpers.specs.declared.Found.the-variants.{At, Nothing}
 use Rattle.swc_helpers.specs.Found.{foundIf, isConst, isQuasi}
-use Rattle.swc_helpers.proofs.Calls.{nothing-found, found-at, first-accepted, first-is}
+use Rattle.swc_helpers.proofs.Answers.{nothing-found, found-at, is-nothing, is-found}
+use Rattle.swc_helpers.proofs.Calls.{first-accepted, first-is}
 
 -- ---- whether it has expressions
 
@@ -91,14 +92,6 @@ module _ (left : ℕ) (s : List ℕ) (at : ℕ) (a : AcceptedAt left s at) where
 
 -- ---- its type
 
-found-false : (b : Bool) (at : ℕ) → Nothing ≡ foundIf b at → b ≡ false
-found-false true at e = absurd (let z : _≡_ {A = ℕ} 0 1 = cc in omega arith)
-found-false false at e = refl
-
-found-true : (b : Bool) (x at : ℕ) → At x ≡ foundIf b at → (b ≡ true) × (x ≡ at)
-found-true true x at e = (refl, cc)
-found-true false x at e = absurd (let z : _≡_ {A = ℕ} 0 1 = cc in omega arith)
-
 module _ (ks : Recs) where
   pub with-exprs : noExprs ks ≡ false → tsKeywordType "string" ≡ tplToTsType ks true
   unfolding tplToTsType
@@ -106,7 +99,7 @@ module _ (ks : Recs) where
 
   pub not-found : (at : ℕ) → Nothing ≡ foundIf (firstCooked ks) at → tsKeywordType "string" ≡ tplToTsType ks true
   unfolding tplToTsType
-  not-found at f = go (noExprs ks) (firstCooked ks) (found-false (firstCooked ks) at f)
+  not-found at f = go (noExprs ks) (firstCooked ks) (is-nothing (firstCooked ks) at f)
     where
       go : (b c : Bool) → c ≡ false → tsKeywordType "string" ≡ cond (b && c) (tsLitType (rec (fresh "Ss" 0 (textOf (kid 0 ks))) nil)) (tsKeywordType "string")
       go true c e = rw e
@@ -118,10 +111,10 @@ module _ (ks : Recs) where
 
 module _ (left : ℕ) (s : List ℕ) (at : ℕ) (a : AcceptedAt left s at) (x : ℕ) (f : At x ≡ foundIf (firstCooked (kidsOf (treeAt left s at))) (childAt left s at 0)) where
   is-cooked : firstCooked (kidsOf (treeAt left s at)) ≡ true
-  is-cooked = found-true (firstCooked (kidsOf (treeAt left s at))) x (childAt left s at 0) f .0
+  is-cooked = is-found (firstCooked (kidsOf (treeAt left s at))) x (childAt left s at 0) f .0
 
   first-at : x ≡ bodyAt s at
-  first-at = found-true (firstCooked (kidsOf (treeAt left s at))) x (childAt left s at 0) f .1 ∙ child-0 left s at
+  first-at = is-found (firstCooked (kidsOf (treeAt left s at))) x (childAt left s at 0) f .1 ∙ child-0 left s at
 
   -- it is there, since it was found
   there : 0 < countAt s at

@@ -9,11 +9,11 @@ use lib.Dec.{eqb, ltb}
 use lib.ListN.{length, getD, take, drop, length-drop}
 use lib.Seq.{take-all, getD-take, getD-drop}
 use borrow.Author.Tests.{eqb-true, ltb-false, ne-eqb}
-use Rattle.definition.specs.Tree.{Head, Rec, rec, nil, headSize, headBytes, encode, markAt, lengthAt, textAt, bodyAt, headAt, treeAt, Bytes}
+use Rattle.definition.specs.Tree.{Head, rec, nil, headSize, headBytes, encode, markAt, lengthAt, textAt, bodyAt, headAt, treeAt, Bytes}
 use Rattle.definition.specs.Grammar.{mark}
 use Rattle.definition.specs.Check.{isInteger, digits}
 use Rattle.definition.specs.Children.{AcceptedAt}
-use Rattle.definition.specs.Record.{sameText, headOf, textOf, fresh, withText}
+use Rattle.definition.specs.Record.{sameText, textOf, fresh, withText}
 use Rattle.definition.specs.Helpers.{litKind, tsLitType}
 use Rattle.definition.specs.Typing.{turned, turnedInteger, respelled}
 use Rattle.definition.proofs.Children.{itself}

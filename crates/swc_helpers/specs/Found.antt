@@ -10,7 +10,7 @@ use lib.Seq.{sets}
 use Rattle.definition.specs.Tree.{Rec, encode}
 use Rattle.definition.specs.Grammar.{mark}
 use Rattle.definition.specs.Record.{text, sameText, kidsOf, textOf, is, kid}
-use Rattle.definition.specs.Helpers.{isGlobal, Lit, lStr, lBool, lNull, lNum, lBigInt, lRegex, lJsxText}
+use Rattle.definition.specs.Helpers.{isGlobal}
 use Rattle.records.specs.Wrote.{sat}
 use Rattle.swc_helpers.specs.declared.Found.{Found}
 use Rattle.swc_helpers.specs.declared.Found.the-variants.{At, Nothing}

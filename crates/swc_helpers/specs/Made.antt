@@ -1,16 +1,10 @@
--- Records that are made: heads, keywords, the fronts of records that wrap a type which is typed later, and what the writer of a type that may be
--- missing does. Assumes nothing: these are definitions.
-use mathlib.Core.Path.{_≡_}
+-- Records that are made: heads, keywords, and the fronts of records that wrap a type which is typed later. Assumes nothing: these are definitions.
 use mathlib.Core.List.{List, [], _++_}
-use mathlib.Core.Bool.{Bool, true, false}
-use mathlib.Core.Option.{Option, none, some}
 use Prim.Native.Nat.{ℕ}
 use Prim.Native.String.{String}
-use lib.ListN.{length}
-use lib.Seq.{sets}
-use Rattle.definition.specs.Tree.{Head, Rec, headBytes, encode}
+use Rattle.definition.specs.Tree.{Head, headBytes, encode}
 use Rattle.definition.specs.Record.{fresh, absent}
-use Rattle.records.specs.Wrote.{sat}
+use Rattle.records.specs.declared.Head as Fields
 use Rattle.swc_helpers.specs.declared.TsKeywordTypeKind.{TsKeywordTypeKind}
 use Rattle.swc_helpers.specs.declared.TsKeywordTypeKind.the-variants.{
   TsAnyKeyword,
@@ -25,6 +19,10 @@ use Rattle.swc_helpers.specs.declared.TsKeywordTypeKind.the-variants.{
 -- the head of a record that is made afresh with the mark m and the text t: `fresh` by the mark's number
 abbrev pub freshHead : ℕ → List ℕ → Head
 freshHead m t = record { mark = m; flags = 0; start = 0; end = 0; text = t }
+
+-- the same as a value of the code, with a text of a length and n children
+abbrev pub freshFields : ℕ → ℕ → ℕ → Fields.Head
+freshFields m t n = record { mark = m; flags = 0; start = 0; end = 0; text = t; count = n }
 
 -- "`Kw` the keyword"
 abbrev pub keyword : TsKeywordTypeKind → String

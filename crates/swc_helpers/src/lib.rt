@@ -10,10 +10,11 @@ ghost use Rattle.definition.specs.Grammar.{mark};
 ghost use Rattle.definition.specs.Record.{absent, markOf, kidsOf};
 ghost use Rattle.definition.specs.Helpers.{tsKeywordType, anyTypeAnn, referenceTo, typeRef, tsLitType, regexType, tsTypeQuery};
 ghost use Rattle.definition.specs.Helpers.{objectFreezeCallArg, noExprs, firstCooked, tplToTsType, litKind, maybeLitToTsType};
+ghost use Rattle.definition.specs.Typing.{minusBy};
 ghost use Rattle.records.specs.Fields.{fieldBytes};
 ghost use Rattle.records.specs.Wrote.{Put};
 ghost use Rattle.swc_helpers.specs.Found.{foundIf, isConst, PutMaybe, isObjectFreeze, isQuasi};
-ghost use Rattle.swc_helpers.specs.Made.{freshHead, keyword, tsReadonlyFront, tsTupleElementFront, tsRestTypeFront};
+ghost use Rattle.swc_helpers.specs.Made.{freshFields, freshHead, keyword, tsReadonlyFront, tsTupleElementFront, tsRestTypeFront};
 use crate::literals::Literal;
 use records::Head;
 use records::marks::ID;
@@ -48,31 +49,10 @@ pub enum TsKeywordTypeKind {
     TsNullKeyword,
 }
 
-// `DeclMutabilityKind`: `Const` where `as_const` is set.
-pub enum DeclMutabilityKind {
-    Const,
-    Mutable,
-}
-
-// What may be found: an offset in the tree.
-pub enum Found {
-    At(usize),
-    Nothing,
-}
-
-// `Option<TsType>`: a type was written, up to this position, or there is none.
-pub enum MaybeType {
-    Typed(usize),
-    Untyped,
-}
-
 // The head of a record that is made afresh, with a text of a length and children of a number: its span is `DUMMY_SP`. Every type that is made
 // has its head from here.
 fn put_fresh(mark: u16, text: usize, count: usize, out: &mut [u8], p: usize) -> usize
-    ensures { λ r. ⌜
-        Put (now (out .entry)) (now (out .exit)) p
-        (fieldBytes (record { mark = mark; flags = 0; start = 0; end = 0; text = text; count = count })) r
-        ⌝ }
+    ensures { λ r. ⌜ Put (now (out .entry)) (now (out .exit)) p (fieldBytes (freshFields mark text count)) r ⌝ }
 {
     records::put_head(
         out,
@@ -200,6 +180,12 @@ pub fn ts_type_query(tree: &[u8], at: usize, left: usize, out: &mut [u8], p: usi
     records::put_record(tree, at, left, out, q)
 }
 
+// What may be found: an offset in the tree.
+pub enum Found {
+    At(usize),
+    Nothing,
+}
+
 // The callee of `object_freeze_call_arg`: `Object.freeze`, where `Object` is the global object.
 fn is_object_freeze(tree: &[u8], at: usize, left: usize, unresolved: u32) -> bool
     requires { ⌜ AcceptedAt left (now tree) at ⌝ }
@@ -249,6 +235,12 @@ pub fn object_freeze_call_arg(tree: &[u8], at: usize, left: usize, unresolved: u
     Found::Nothing
 }
 
+// `DeclMutabilityKind`: `Const` where `as_const` is set.
+pub enum DeclMutabilityKind {
+    Const,
+    Mutable,
+}
+
 // `tpl.exprs.is_empty()`: whether the Te at `at` has only quasis.
 fn no_exprs(tree: &[u8], at: usize, left: usize) -> bool
     requires { ⌜ AcceptedAt left (now tree) at ⌝ }
@@ -266,6 +258,7 @@ fn no_exprs(tree: &[u8], at: usize, left: usize) -> bool
     true
 }
 
+// Whether a child of a Te is no expression: one of `tpl.quasis`, or an Op.
 fn is_quasi(mark: u16) -> bool
     ensures { λ r. ⌜ r ≡ isQuasi mark ⌝ }
 {
@@ -322,6 +315,12 @@ pub fn tpl_to_ts_type(
     put_leaf(SS, records::text_at(tree, quasi), out, q)
 }
 
+// `Option<TsType>`: a type was written, up to this position, or there is none.
+pub enum MaybeType {
+    Typed(usize),
+    Untyped,
+}
+
 // A keyword as the answer of `maybe_lit_to_ts_type`.
 fn some_keyword(kind: TsKeywordTypeKind, out: &mut [u8], p: usize) -> MaybeType
     ensures { λ r. ⌜ PutMaybe (now (out .entry)) (now (out .exit)) p (some (tsKeywordType (keyword kind))) r ⌝ }
@@ -364,5 +363,41 @@ pub fn maybe_lit_to_ts_type(
             Literal::Regex => MaybeType::Typed(regex_type(out, p)),
             Literal::JsxText => MaybeType::Untyped,
         },
+    }
+}
+
+// The arm of `expr_to_ts_type` for `Expr::Unary`: the type of `-` before the literal at `at`.
+pub fn minus_lit_to_ts_type(
+    tree: &[u8],
+    at: usize,
+    left: usize,
+    kind: DeclMutabilityKind,
+    out: &mut [u8],
+    p: usize,
+) -> MaybeType
+    requires { ⌜ AcceptedAt left (now tree) at ⌝ }
+    ensures { λ r. ⌜
+        PutMaybe (now (out .entry)) (now (out .exit)) p
+        (minusBy (litKind (markOf (treeAt left (now (tree .entry)) at))) (treeAt left (now (tree .entry)) at) (isConst kind)) r
+        ⌝ }
+{
+    match literals::literal_at(tree, at, left) {
+        Literal::Num(_) => match kind {
+            DeclMutabilityKind::Const => {
+                MaybeType::Typed(literals::negated_number(tree, at, left, out, p))
+            }
+            DeclMutabilityKind::Mutable => {
+                some_keyword(TsKeywordTypeKind::TsNumberKeyword, out, p)
+            }
+        },
+        Literal::BigInt(_) => match kind {
+            DeclMutabilityKind::Const => {
+                MaybeType::Typed(literals::negated_bigint(tree, at, left, out, p))
+            }
+            DeclMutabilityKind::Mutable => {
+                some_keyword(TsKeywordTypeKind::TsBigIntKeyword, out, p)
+            }
+        },
+        _ => MaybeType::Untyped,
     }
 }

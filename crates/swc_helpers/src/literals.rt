@@ -1,8 +1,7 @@
 // Literals as values, and the sign of a number turned.
 ghost use mathlib.Core.Path.{_≡_};
-ghost use mathlib.Core.List.{_++_};
 ghost use Prim.Native.Nat.{_+_, _≤_};
-ghost use lib.ListN.{length, getD};
+ghost use lib.ListN.{length};
 ghost use lib.Ieee.{binary64, ofBits};
 ghost use Rattle.definition.specs.Tree.{headSize, markAt, bodyAt, encode, treeAt};
 ghost use Rattle.definition.specs.Children.{AcceptedAt};

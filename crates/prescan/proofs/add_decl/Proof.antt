@@ -1,9 +1,10 @@
 -- `prescan::add_decl` meets its contract: in each arm the mark picks the definition's case. Assumes nothing.
 use mathlib.Core.Path.{sym, _∙_}
 use native.Mathlib.Omega.{arith}
+use Rattle.records.proofs.Accepted.{lies}
 use Rattle.definition.proofs.Children.{itself, some-left}
 use Rattle.prescan.specs.Question.{meant}
-use Rattle.prescan.proofs.Laws.{lies, fn-ident, decl-fn, fn-unnamed, class-ident, class-unnamed, class-child, class-mark, decl-class, decl-var, decl-other}
+use Rattle.prescan.proofs.Laws.{fn-ident, decl-fn, fn-unnamed, class-ident, class-unnamed, class-child, class-mark, decl-class, decl-var, decl-other}
 use borrow.Author.Needs.{needs}
 use Rattle.prescan.proofs.add_decl.Statement.{statement}
 use Rattle.prescan.proofs.add_decl.Tie as tie

@@ -2,9 +2,10 @@
 use mathlib.Core.Path.{sym, _∙_}
 use Prim.Native.Nat.{_-_}
 use native.Mathlib.Omega.{arith}
+use Rattle.records.proofs.Accepted.{lies}
 use Rattle.definition.proofs.Children.{itself, some-left}
 use Rattle.prescan.specs.Question.{meant}
-use Rattle.prescan.proofs.Laws.{lies, declarator-other, pattern-child, declarator-pattern, init-child, ident-child, declarator-unnamed, type-child, declarator-named}
+use Rattle.prescan.proofs.Laws.{declarator-other, pattern-child, declarator-pattern, init-child, ident-child, declarator-unnamed, type-child, declarator-named}
 use Rattle.prescan.proofs.add_declarator.Statement.{statement}
 use Rattle.prescan.proofs.add_declarator.Tie as tie
 

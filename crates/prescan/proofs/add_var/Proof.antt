@@ -5,10 +5,11 @@ use native.Mathlib.Omega.{arith}
 use Rattle.definition.specs.Tree.{treeAt}
 use Rattle.definition.specs.Record.{kidsOf}
 use Rattle.definition.specs.Prescan.{addDeclarator}
+use Rattle.records.proofs.Accepted.{lies}
 use Rattle.definition.proofs.Children.{itself, some-left}
 use Rattle.records.specs.declared.Head.{Head}
 use Rattle.prescan.specs.Question.{meant}
-use Rattle.prescan.proofs.Laws.{lies, var-other, var-const, Declares, declares-step, declares-none, Seek, seek-start, seek-first, seek-here, seek-next, seek-done}
+use Rattle.prescan.proofs.Laws.{var-other, var-const, Declares, declares-step, declares-none, Seek, seek-start, seek-first, seek-here, seek-next, seek-done}
 use Rattle.prescan.proofs.add_var.Statement.{statement}
 use Rattle.prescan.proofs.add_var.Tie as tie
 

@@ -6,9 +6,10 @@ use Rattle.definition.specs.Tree.{treeAt}
 use Rattle.definition.specs.Check.{deepest}
 use Rattle.definition.specs.Record.{kidsOf}
 use Rattle.definition.specs.Prescan.{addItem, asked}
+use Rattle.records.proofs.Accepted.{lies}
 use Rattle.definition.proofs.Children.{itself}
 use Rattle.prescan.specs.Question.{meant}
-use Rattle.prescan.proofs.Laws.{lies, Asks, asks-step, asks-none, Seek, seek-start, seek-first, seek-here, seek-next, seek-done}
+use Rattle.prescan.proofs.Laws.{Asks, asks-step, asks-none, Seek, seek-start, seek-first, seek-here, seek-next, seek-done}
 use Rattle.prescan.proofs.asked.Statement.{statement}
 use Rattle.prescan.proofs.asked.Tie as tie
 

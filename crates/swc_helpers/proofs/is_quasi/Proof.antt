@@ -1,5 +1,4 @@
 -- `is_quasi` meets its contract. Assumes nothing.
-use mathlib.Core.Logic.{inl, inr, ⊎-elim}
 use Rattle.swc_helpers.proofs.Templates.{a-quasi, no-quasi-mark}
 use Rattle.swc_helpers.proofs.is_quasi.Statement.{statement}
 use Rattle.swc_helpers.proofs.is_quasi.Tie as tie

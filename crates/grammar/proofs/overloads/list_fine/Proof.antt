@@ -1,5 +1,5 @@
 -- `grammar::overloads::list_fine` meets its contract: the entries before i are in order. Assumes nothing.
-use mathlib.Core.Path.{_≡_, sym, _∙_}
+use mathlib.Core.Path.{sym, _∙_}
 use Prim.Native.Nat.{_-_}
 use native.Mathlib.Omega.{arith}
 use Rattle.grammar.proofs.Entries.{Passed, list-long, list-parts, passed-start, wrong-mark, backward, passed-turn, passed-all}

@@ -1,6 +1,5 @@
 -- `literals::literal_at` meets its contract. Assumes nothing.
 use mathlib.Core.Path.{_∙_, ap}
-use lib.Ieee.{Float}
 use Rattle.definition.specs.Grammar.{mark}
 use Rattle.definition.specs.Helpers.{litKind}
 use Rattle.definition.proofs.Children.{itself}

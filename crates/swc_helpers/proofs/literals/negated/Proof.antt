@@ -1,8 +1,5 @@
 -- `literals::negated` meets its contract. Assumes nothing.
 use borrow.Author.Needs.{needs}
-use mathlib.Core.Path.{_≡_}
-use lib.Ieee.{binary64, ofBits, ne}
-use mathlib.Core.Bool.{false}
 use Rattle.swc_helpers.proofs.Sign.{negation-is-no-nan, turned-is}
 use Rattle.swc_helpers.proofs.literals.negated.Statement.{statement}
 use Rattle.swc_helpers.proofs.literals.negated.Tie as tie

@@ -1,6 +1,5 @@
 -- `literals::number_at` meets its contract. Assumes nothing.
 use mathlib.Core.Path.{_∙_, ap}
-use Prim.Native.Nat.{ℕ}
 use lib.Ieee.{binary64, ofBits}
 use Rattle.swc_helpers.proofs.Texts.{number-fits, number-is}
 use borrow.Author.Needs.{needs}

@@ -1,7 +1,5 @@
 -- `literals::put_respelled` meets its contract. Assumes nothing.
 use native.Mathlib.Omega.{arith}
-use mathlib.Core.Path.{sym, ap}
-use Rattle.records.specs.Fields.{fieldBytes}
 use Rattle.swc_helpers.proofs.Made.{put-put, put-as}
 use Rattle.swc_helpers.proofs.Texts.{bare-head}
 use borrow.Author.Needs.{needs}

@@ -1,0 +1,16 @@
+-- Reading 20: how long the keys are of which an Id is made. Assumes nothing: these are definitions.
+use Prim.Native.Nat.{ℕ, _≤_}
+use mathlib.Core.Path.{_≡_}
+use lib.ListN.{length}
+use Rattle.definition.specs.Tree.{Rec, Recs, rec, nil, cons}
+use Rattle.definition.specs.Grammar.{mark}
+use Rattle.definition.specs.Record.{markOf, textOf, kid}
+
+-- "A `Kv` whose `Ki` has more than 65,531 bytes would make an `Id` whose text length no head can hold": no Kv of a tree has a Ki of more than `most`
+abbrev mutual
+  pub KeysUpTo : ℕ → Rec → Type 0
+  KeysUpTo most (rec h ks) = (h .mark ≡ mark "Kv" → markOf (kid 0 ks) ≡ mark "Ki" → length (textOf (kid 0 ks)) ≤ most) × AllKeysUpTo most ks
+
+  pub AllKeysUpTo : ℕ → Recs → Type 0
+  AllKeysUpTo most nil = Unit {0}
+  AllKeysUpTo most (cons r rs) = KeysUpTo most r × AllKeysUpTo most rs

@@ -1,0 +1,14 @@
+//! The unchanged Rust of deno_graph's declaration transform as the judge of
+//! the port: record trees go in as swc's syntax trees and come back as records.
+
+pub mod call;
+pub mod decode;
+pub mod encode;
+pub mod fast_check;
+pub mod generate;
+pub mod grammar;
+pub mod lines;
+pub mod measure;
+pub mod notation;
+pub mod notes;
+pub mod record;

@@ -1,0 +1,226 @@
+//! The commands; `oracle` alone lists them.
+
+use std::io::Read;
+use std::io::Write;
+use std::process::ExitCode;
+
+use oracle::call::Answer;
+use oracle::call::call;
+use oracle::lines;
+use oracle::measure::count;
+use oracle::measure::numbered;
+use oracle::measure::twice;
+use oracle::notation;
+use oracle::record::Rec;
+
+const USAGE: &str = "\
+oracle run [--list HEX] [--context N] [--out N] [--diagnostics N] [TREE]
+    the call on one tree, printed as the program `declares` will; with --output
+    the tree that was written comes last, in notation
+oracle show          bytes on standard input, printed in notation
+oracle text TREE     notation, printed as bytes
+oracle gen N SEED    N random cases and those at the limits, and their counts
+oracle twice N SEED  demand 3 over N random cases, each run twice
+oracle cases N SEED [--max BYTES] [--limits]
+    N random cases with their answers, a line each (see lines.rs); trees and
+    outputs of at most so many bytes; with --limits those at the limits first
+oracle replay FILE   runs such lines and compares
+oracle tell FILE     the same lines in notation, to be read
+TREE is in notation, as 'Mo(Xe(Ar))'; without it bytes come from standard input.";
+
+fn main() -> ExitCode {
+  let args: Vec<String> = std::env::args().skip(1).collect();
+  match command(&args) {
+    Ok(()) => ExitCode::SUCCESS,
+    Err(message) => {
+      eprintln!("{message}");
+      ExitCode::FAILURE
+    }
+  }
+}
+
+fn command(args: &[String]) -> Result<(), String> {
+  let rest = args.get(1..).unwrap_or(&[]);
+  match args.first().map(String::as_str) {
+    Some("run") => run(rest),
+    Some("show") => show(),
+    Some("text") => text(rest),
+    Some("gen") => {
+      let counts = count(number(rest.first())?, number(rest.get(1))?);
+      counts.print();
+      match counts.changed + counts.too_many {
+        0 => Ok(()),
+        _ => Err("the last two counts have to be 0".to_string()),
+      }
+    }
+    Some("twice") => {
+      let twice = twice(number(rest.first())?, number(rest.get(1))?);
+      twice.print();
+      match twice.failed.first() {
+        Some(case) => Err(lines::write(case, &lines::outcome(case))),
+        None => Ok(()),
+      }
+    }
+    Some("cases") => cases(rest),
+    Some("replay") => replay(rest),
+    Some("tell") => tell(rest),
+    _ => Err(USAGE.to_string()),
+  }
+}
+
+fn standard_input() -> Result<Vec<u8>, String> {
+  let mut bytes = vec![];
+  std::io::stdin()
+    .read_to_end(&mut bytes)
+    .map_err(|error| error.to_string())?;
+  Ok(bytes)
+}
+
+fn parse_tree(text: &str) -> Result<Vec<u8>, String> {
+  notation::parse(text)?
+    .encode()
+    .ok_or("a text or a number of children is too long".to_string())
+}
+
+fn number<T: std::str::FromStr>(word: Option<&String>) -> Result<T, String> {
+  word
+    .and_then(|word| word.parse().ok())
+    .ok_or(USAGE.to_string())
+}
+
+/// As `declares`: list empty, unresolved context 1, its limits.
+fn run(args: &[String]) -> Result<(), String> {
+  let mut tree = None;
+  let mut list = vec![];
+  let mut unresolved = 1;
+  let mut out = 65_536;
+  let mut diagnostics = 21_840;
+  let mut output = false;
+  let mut words = args.iter();
+  while let Some(word) = words.next() {
+    match word.as_str() {
+      "--list" => {
+        let word = words.next().ok_or(USAGE.to_string())?;
+        list = lines::parse_hex(word).ok_or(USAGE.to_string())?;
+      }
+      "--context" => unresolved = number(words.next())?,
+      "--out" => out = number(words.next())?,
+      "--diagnostics" => diagnostics = number(words.next())?,
+      "--output" => output = true,
+      word => tree = Some(parse_tree(word)?),
+    }
+  }
+  let tree = match tree {
+    Some(tree) => tree,
+    None => standard_input()?,
+  };
+  if tree.len() > 32_768 {
+    println!("too long");
+    return Ok(());
+  }
+  let mut out = vec![0; out];
+  let mut diagnostics = vec![0; diagnostics];
+  let answer = call(&tree, &list, unresolved, &mut out, &mut diagnostics);
+  println!("{answer}");
+  if let Answer::Done(length, count) = answer {
+    for d in diagnostics.chunks(10).take(count) {
+      let (start, end) = oracle::grammar::entry_range(d);
+      println!("{} {start} {end}", d[1] as char);
+    }
+    if output {
+      let (tree, _) = Rec::read(&out[..length], 0).expect("it was written");
+      println!("{}", notation::show(&tree));
+    }
+  }
+  Ok(())
+}
+
+fn show() -> Result<(), String> {
+  let bytes = standard_input()?;
+  match Rec::read(&bytes, 0) {
+    Some((tree, end)) if end == bytes.len() => {
+      println!("{}", notation::show(&tree));
+      Ok(())
+    }
+    _ => Err("these bytes are no tree".to_string()),
+  }
+}
+
+fn text(args: &[String]) -> Result<(), String> {
+  let bytes = parse_tree(args.first().ok_or(USAGE.to_string())?)?;
+  std::io::stdout()
+    .write_all(&bytes)
+    .map_err(|error| error.to_string())
+}
+
+fn cases(args: &[String]) -> Result<(), String> {
+  let wanted: usize = number(args.first())?;
+  let seed = number(args.get(1))?;
+  let mut max = usize::MAX;
+  let mut all = vec![];
+  let mut words = args[2..].iter();
+  while let Some(word) = words.next() {
+    match word.as_str() {
+      "--max" => max = number(words.next())?,
+      "--limits" => all = oracle::generate::limits(),
+      _ => return Err(USAGE.to_string()),
+    }
+  }
+  let mut out = std::io::BufWriter::new(std::io::stdout().lock());
+  let random = (0..)
+    .map(|place| numbered(seed, place, false))
+    .filter(|case| {
+      case.tree.len() <= max && lines::outcome(case).output.len() <= max
+    });
+  for case in all.into_iter().chain(random.take(wanted)) {
+    let line = lines::write(&case, &lines::outcome(&case));
+    writeln!(out, "{line}").map_err(|error| error.to_string())?;
+  }
+  Ok(())
+}
+
+fn read_lines(args: &[String]) -> Result<Vec<String>, String> {
+  let file = args.first().ok_or(USAGE.to_string())?;
+  let text = std::fs::read_to_string(file).map_err(|e| e.to_string())?;
+  Ok(text.lines().map(str::to_string).collect())
+}
+
+fn replay(args: &[String]) -> Result<(), String> {
+  let lines = read_lines(args)?;
+  for (place, line) in lines.iter().enumerate() {
+    let (case, wanted) =
+      lines::read(line).ok_or(format!("line {}: no case", place + 1))?;
+    let got = std::panic::catch_unwind(|| lines::outcome(&case))
+      .map_err(|_| format!("panic at case {}", place + 1))?;
+    if got != wanted {
+      let got = lines::write(&case, &got);
+      return Err(format!("line {}: {line}\nnow: {got}", place + 1));
+    }
+  }
+  println!("cases {}, all as before", lines.len());
+  Ok(())
+}
+
+fn tell(args: &[String]) -> Result<(), String> {
+  let tree = |bytes: &[u8]| match Rec::read(bytes, 0) {
+    Some((tree, end)) if end == bytes.len() => notation::show(&tree),
+    _ => lines::hex(bytes),
+  };
+  for line in read_lines(args)? {
+    let (case, outcome) = lines::read(&line).ok_or("no case".to_string())?;
+    println!("tree {}", tree(&case.tree));
+    print!("unresolved {}", case.unresolved);
+    for entry in case.list.chunks(10).filter(|entry| entry.len() == 10) {
+      let (start, end) = oracle::grammar::entry_range(entry);
+      print!(", listed {start}-{end}");
+    }
+    println!();
+    println!("{}", outcome.answer);
+    for d in outcome.diagnostics.chunks(10) {
+      let (start, end) = oracle::grammar::entry_range(d);
+      println!("{} {start} {end}", d[1] as char);
+    }
+    println!("gives {}\n", tree(&outcome.output));
+  }
+  Ok(())
+}

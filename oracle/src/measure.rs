@@ -1,0 +1,211 @@
+//! Runs over many cases, and what they count.
+
+use std::collections::BTreeMap;
+
+use crate::call::Answer;
+use crate::call::call;
+use crate::decode;
+use crate::encode;
+use crate::generate::Case;
+use crate::generate::Rng;
+use crate::generate::case;
+use crate::generate::limits;
+use crate::grammar::Grammar;
+use crate::grammar::check;
+use crate::lines::outcome;
+use crate::record::Rec;
+
+/// The sizes of the trees, in records; small ones more often.
+const SIZES: [usize; 6] = [6, 12, 12, 30, 30, 120];
+
+/// The case with this number of the run with this seed.
+pub fn numbered(seed: u64, number: u64, ample: bool) -> Case {
+  let mut rng = Rng::new(seed.wrapping_mul(1_000_000_007).wrapping_add(number));
+  let size = *rng.one_of(&SIZES);
+  case(&mut rng, size, ample)
+}
+
+#[derive(Default)]
+pub struct Counts {
+  pub cases: u64,
+  pub accepted: u64,
+  /// By the refusal's number.
+  pub refused: BTreeMap<u8, u64>,
+  /// Records of accepted trees, by mark.
+  pub marks: BTreeMap<String, u64>,
+  /// Diagnostics of calls that were done, by digit.
+  pub diagnostics: BTreeMap<char, u64>,
+  /// Accepted trees that decoding and encoding did not give back.
+  pub changed: u64,
+  /// Accepted trees with more diagnostics than records.
+  pub too_many: u64,
+}
+
+impl Counts {
+  pub fn add(&mut self, case: &Case) {
+    self.cases += 1;
+    let outcome = outcome(case);
+    if let Answer::Refused(no) = outcome.answer {
+      *self.refused.entry(no.number).or_default() += 1;
+    }
+    for d in outcome.diagnostics.chunks(10) {
+      *self.diagnostics.entry(d[1] as char).or_default() += 1;
+    }
+    if check(&case.tree, &case.list).is_err() {
+      return;
+    }
+    self.accepted += 1;
+    let (tree, _) = Rec::read(&case.tree, 0).expect("an accepted tree reads");
+    let mut records = 0;
+    tree.each(&mut |r| {
+      records += 1;
+      *self.marks.entry(r.mark().to_string()).or_default() += 1;
+    });
+    self.too_many += (outcome.diagnostics.len() / 10 > records) as u64;
+    let (module, notes) = decode::module(&tree);
+    if encode::module(&module, &notes) != tree {
+      self.changed += 1;
+    }
+  }
+
+  pub fn print(&self) {
+    println!("cases {}", self.cases);
+    println!("accepted {}", self.accepted);
+    for (number, count) in &self.refused {
+      println!("refused {number}: {count}");
+    }
+    for (digit, count) in &self.diagnostics {
+      println!("diagnostics d{digit}: {count}");
+    }
+    let fewest = Grammar::marks()
+      .map(|mark| (self.marks.get(mark).copied().unwrap_or(0), mark))
+      .min();
+    if let Some((count, mark)) = fewest {
+      println!("records of accepted trees: the rarest mark is {mark}: {count}");
+    }
+    for mark in Grammar::marks() {
+      print!("{mark} {}  ", self.marks.get(mark).copied().unwrap_or(0));
+    }
+    println!();
+    println!("more diagnostics than records: {}", self.too_many);
+    println!("decoded and encoded with a difference: {}", self.changed);
+  }
+}
+
+/// Random cases and those at the limits.
+pub fn count(cases: u64, seed: u64) -> Counts {
+  let mut counts = Counts::default();
+  for case in limits() {
+    counts.add(&case);
+  }
+  for number in 0..cases {
+    counts.add(&numbered(seed, number, false));
+  }
+  counts
+}
+
+/// Demand 3 over random cases, each run twice. The conditions, in document
+/// 01's words: the first call succeeds, its output is accepted, every
+/// expression exported as default in the output is an identifier, and so was
+/// each of a namespace's in the input; the buffers are long enough.
+#[derive(Default)]
+pub struct Twice {
+  pub cases: u64,
+  pub refused: u64,
+  /// The output was not accepted, by the refusal's number.
+  pub output_refused: BTreeMap<u8, u64>,
+  pub default_left: u64,
+  pub default_in_namespace: u64,
+  pub met: u64,
+  /// Met the conditions, and the first call changed the tree.
+  pub changed: u64,
+  /// Met the conditions, and the diagnostics of the calls differ.
+  pub diagnostics_differ: u64,
+  pub failed: Vec<Case>,
+}
+
+const ROOM: usize = 1 << 21;
+
+pub fn twice(cases: u64, seed: u64) -> Twice {
+  let mut count = Twice::default();
+  let mut buffers = [vec![0; ROOM], vec![0; ROOM]];
+  let mut room = [vec![0; ROOM], vec![0; ROOM]];
+  for number in 0..cases {
+    let case = numbered(seed, number, true);
+    count.add(case, &mut buffers, &mut room);
+  }
+  count
+}
+
+impl Twice {
+  fn add(
+    &mut self,
+    case: Case,
+    buffers: &mut [Vec<u8>; 2],
+    room: &mut [Vec<u8>; 2],
+  ) {
+    self.cases += 1;
+    let [first, second] = buffers;
+    let [first_room, second_room] = room;
+    let answer =
+      call(&case.tree, &case.list, case.unresolved, first, first_room);
+    let Answer::Done(length, diagnostics) = answer else {
+      self.refused += 1;
+      return;
+    };
+    let written = &first[..length];
+    if let Err(no) = check(written, &case.list) {
+      *self.output_refused.entry(no.number).or_default() += 1;
+      return;
+    }
+    let output = Rec::read(written, 0).expect("an accepted tree reads").0;
+    let input = Rec::read(&case.tree, 0).expect("an accepted tree reads").0;
+    if !defaults_are_identifiers(&output) {
+      self.default_left += 1;
+      return;
+    }
+    let mut in_namespaces = true;
+    input.each(&mut |r| {
+      in_namespaces &= !r.is("Nb") || defaults_are_identifiers(r);
+    });
+    if !in_namespaces {
+      self.default_in_namespace += 1;
+      return;
+    }
+    self.met += 1;
+    let again = call(written, &case.list, case.unresolved, second, second_room);
+    self.changed += (written != case.tree) as u64;
+    match again {
+      Answer::Done(again, count) if second[..again] == *written => {
+        let same = count == diagnostics
+          && first_room[..10 * count] == second_room[..10 * count];
+        self.diagnostics_differ += !same as u64;
+      }
+      _ => self.failed.push(case),
+    }
+  }
+
+  pub fn print(&self) {
+    println!("cases {}", self.cases);
+    println!("first call refused {}", self.refused);
+    for (number, count) in &self.output_refused {
+      println!("output not accepted, {number}: {count}");
+    }
+    println!("output with a default expression {}", self.default_left);
+    println!(
+      "namespace with a default expression {}",
+      self.default_in_namespace
+    );
+    println!("met the conditions of demand 3: {}", self.met);
+    println!("  of these, changed by the first call: {}", self.changed);
+    println!("  of these, other diagnostics: {}", self.diagnostics_differ);
+    println!("  of these, other bytes: {}", self.failed.len());
+  }
+}
+
+/// Whether every `Xe` in the tree holds an `Id`.
+fn defaults_are_identifiers(tree: &Rec) -> bool {
+  let mut all = true;
+  tree.each(&mut |r| all &= !r.is("Xe") || r.kids[0].is("Id"));
+  all
+}
