@@ -9,22 +9,14 @@ use mir.Val
 use lib.Dec.{ltb}
 use lib.ListN.{length, getD}
 use borrow.Author.Tests.{lt-ltb, le-ltb}
-use Rattle.definition.specs.Tree.{Head, Rec, Recs, rec, nil, cons, treeAt, Fits, FitsAll}
+use Rattle.definition.specs.Tree.{Head, Rec, Recs, rec, nil, cons, treeAt}
 use Rattle.definition.specs.Children.{AcceptedAt}
 use Rattle.definition.specs.Record.{identAt, join, one}
 use Rattle.definition.specs.Transform.{textsFit, allTextsFit}
 use Rattle.definition.proofs.Children.{stands}
+use Rattle.definition.proofs.Widths.{fits-texts}
 use Rattle.records.proofs.Whole.{slice-bytes}
 use Rattle.typing.proofs.Steps.{and-true, and-assoc}
-
-mutual
-  unfolding textsFit allTextsFit
-  pub fits-texts : (r : Rec) → Fits r → textsFit r ≡ true
-  fits-texts (rec h ks) f = rw (lt-ltb _ _ (f .0 .text)) (fits-all ks (f .1))
-
-  pub fits-all : (rs : Recs) → FitsAll rs → allTextsFit rs ≡ true
-  fits-all nil f = refl
-  fits-all (cons r rs) f = rw (fits-texts r (f .0)) (fits-all rs (f .1))
 
 -- a record of an accepted tree
 pub tree-fits : (left : ℕ) (s : List ℕ) (at : ℕ) → AcceptedAt left s at → ((i : ℕ) → mir.Val.Fits w8 (getD s i 0)) → textsFit (treeAt left s at) ≡ true

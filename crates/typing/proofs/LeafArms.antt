@@ -94,10 +94,10 @@ module _ (tree : List ℕ) (m : Mode) (left at : ℕ) where
   unfolding leafBy exprKind marks member
   leaf-ident f e = sym (leaf-at xIdent f (rw e))
 
-  pub leaf-unary : {p : ℕ} → m .frozen ≡ false → markAt tree at ≡ mark "Mi" → Child left tree at 0 p expression
-      → minusBy (litKind (markAt tree p)) (treeAt (left - 1) tree p) (m .as_const) ≡ leafType tree m left at
+  pub leaf-unary : {p : ℕ} {c : Bool} → m .frozen ≡ false → markAt tree at ≡ mark "Mi" → Child left tree at 0 p expression → c ≡ m .as_const
+      → minusBy (litKind (markOf (treeAt (left - 1) tree p))) (treeAt (left - 1) tree p) c ≡ leafType tree m left at
   unfolding leafBy exprKind marks member
-  leaf-unary {p} f e k = sym (leaf-at xUnary f (rw e) ∙ rw (k .tree, mark-is (left - 1) tree p))
+  leaf-unary {p} f e k q = rw q (sym (leaf-at xUnary f (rw e) ∙ rw (k .tree)))
 
   pub leaf-new : m .frozen ≡ false → markAt tree at ≡ mark "Ne" → classType (idsOf tree) (kidsOf t) ≡ leafType tree m left at
   unfolding leafBy exprKind marks member newType

@@ -29,7 +29,6 @@ use Rattle.definition.specs.Helpers.{
   firstCooked,
   tsLitType,
 }
-use Rattle.definition.specs.Names.{digit}
 use Rattle.definition.specs.Prescan.{PrescannedModuleIds}
 use Rattle.definition.specs.Typing.{
   Frozen,
@@ -67,6 +66,7 @@ use Rattle.definition.specs.Typing.{
   exprKind,
 }
 use Rattle.definition.specs.Transform.{textsFit, allTextsFit}
+use Rattle.definition.proofs.Texts.{turned-length, turnedInteger-length}
 use Rattle.typing.specs.declared.Mode.{Mode}
 use Rattle.typing.specs.Did.{idsOf, fitOf}
 use Rattle.typing.specs.Parts.{asType}
@@ -134,22 +134,6 @@ respelled-fits : (l : Rec) (t : List ℕ) → length t ≡ length (textOf l) →
 unfolding textsFit allTextsFit
 respelled-fits l t n e = rw (n, text-fits l e)
 
-turned-length : (t : List ℕ) → length (turned t) ≡ length t
-unfolding turned
-turned-length [] = refl
-turned-length (b ∷ []) = refl
-turned-length (a ∷ b ∷ bs) = ap suc (turned-length (b ∷ bs))
-
-turned-integer-length : (t : List ℕ) → length (turnedInteger t) ≡ length t
-unfolding turnedInteger
-turned-integer-length [] = refl
-turned-integer-length (sign ∷ ds) = go (sameText ds (digit 0 ∷ [])) (eqb sign 1)
-  where
-    go : (a b : Bool) → length (cond a (0 ∷ ds) (cond b (0 ∷ ds) (1 ∷ ds))) ≡ suc (length ds)
-    go true b = refl
-    go false true = refl
-    go false false = refl
-
 minus-fits : (k : Lit) (l : Rec) (c : Bool) → textsFit l ≡ true → fitOf (minusBy k l c) ≡ true
 unfolding minusBy textsFit allTextsFit
 minus-fits lStr l c e = refl
@@ -157,7 +141,7 @@ minus-fits lBool l c e = refl
 minus-fits lNull l c e = refl
 minus-fits lNum l true e = respelled-fits l (turned (textOf l)) (turned-length (textOf l)) e
 minus-fits lNum l false e = refl
-minus-fits lBigInt l true e = respelled-fits l (turnedInteger (textOf l)) (turned-integer-length (textOf l)) e
+minus-fits lBigInt l true e = respelled-fits l (turnedInteger (textOf l)) (turnedInteger-length (textOf l)) e
 minus-fits lBigInt l false e = refl
 minus-fits lRegex l c e = refl
 minus-fits lJsxText l c e = refl

@@ -1,5 +1,4 @@
 pub mod Did
-pub mod Size
 pub mod Parts
 pub mod Moved
 pub mod Leaf

@@ -6,9 +6,9 @@ ghost use Rattle.definition.specs.Tree.{markAt, textAt, treeAt};
 ghost use Rattle.definition.specs.Grammar.{mark};
 ghost use Rattle.definition.specs.Check.{deepest};
 ghost use Rattle.definition.specs.Children.{AcceptedAt};
-ghost use Rattle.definition.specs.Record.{markOf, kidsOf, symbolOf};
-ghost use Rattle.definition.specs.Helpers.{tsKeywordType, tsTypeQuery, litKind};
-ghost use Rattle.definition.specs.Typing.{identToTsType, minusBy};
+ghost use Rattle.definition.specs.Record.{kidsOf, symbolOf};
+ghost use Rattle.definition.specs.Helpers.{tsKeywordType, tsTypeQuery};
+ghost use Rattle.definition.specs.Typing.{identToTsType};
 ghost use Rattle.swc_helpers.specs.Found.{isConst, PutMaybe};
 ghost use Rattle.swc_helpers.specs.Made.{keyword};
 ghost use Rattle.typing.specs.Did.{idsOf};
@@ -114,33 +114,6 @@ fn new_type(tree: &[u8], at: usize, left: usize, out: &mut [u8], p: usize) -> Ma
     MaybeType::Untyped
 }
 
-// `Expr::Unary`, a minus, at its argument.
-fn unary_type(tree: &[u8], at: usize, left: usize, as_const: bool, out: &mut [u8], p: usize) -> MaybeType
-    requires { ⌜ AcceptedAt left (now tree) at ⌝ }
-    ensures {
-        λ r. ⌜
-            PutMaybe (now (out .entry)) (now (out .exit)) p
-                (minusBy (litKind (markAt (now (tree .entry)) at)) (treeAt left (now (tree .entry)) at) as_const) r
-        ⌝
-    }
-{
-    match records::mark_at(tree, at) {
-        NU => {
-            if as_const {
-                return MaybeType::Typed(swc_helpers::literals::negated_number(tree, at, left, out, p));
-            }
-            keyword(TsKeywordTypeKind::TsNumberKeyword, out, p)
-        }
-        BI => {
-            if as_const {
-                return MaybeType::Typed(swc_helpers::literals::negated_bigint(tree, at, left, out, p));
-            }
-            keyword(TsKeywordTypeKind::TsBigIntKeyword, out, p)
-        }
-        _ => MaybeType::Untyped,
-    }
-}
-
 // `Expr::TsAs`, at its type: copied, or `readonly_of` it.
 pub fn as_type(tree: &[u8], at: usize, left: usize, frozen: bool, out: &mut [u8], p: usize) -> MaybeType
     requires { ⌜ AcceptedAt left (now tree) at ⌝ }
@@ -186,7 +159,7 @@ pub fn leaf_type(tree: &[u8], at: usize, left: usize, mode: Mode, out: &mut [u8]
         ID => ident_to_ts_type(tree, at, left, mode.unresolved, mode.as_const, out, p),
         MI => {
             let arg = records::body_at(tree, at);
-            unary_type(tree, arg, left - 1, mode.as_const, out, p)
+            swc_helpers::minus_lit_to_ts_type(tree, arg, left - 1, kind, out, p)
         }
         NE => new_type(tree, at, left, out, p),
         _ => MaybeType::Untyped,

@@ -1,7 +1,8 @@
 -- `leaves::as_type` meets its contract. Assumes nothing.
 use mathlib.Core.Path.{refl}
 use Rattle.swc_helpers.proofs.Made.{is-whole, copied}
-use Rattle.typing.proofs.Maybe.{maybe-as, maybe-some}
+use Rattle.swc_helpers.proofs.Answers.{as-type}
+use Rattle.typing.proofs.Maybe.{maybe-some}
 use borrow.Author.Needs.{needs}
 use Rattle.typing.proofs.leaves.as_type.Statement.{statement}
 use Rattle.typing.proofs.leaves.as_type.Tie as tie
@@ -17,7 +18,7 @@ same-length : tie.Need-same-length
 same-length c = search needs
 
 returns : tie.Need-returns
-returns c = maybe-as (c .before .before .readonly-of .ensures) (rw (c .before .before .before .before .if1 .taken) refl)
+returns c = as-type (c .before .before .readonly-of .ensures) (rw (c .before .before .before .before .if1 .taken) refl)
 
 put-record-requires : tie.Need-put-record-requires
 put-record-requires c κs = is-whole _ _ _ (c .before .before .before .before .pre)

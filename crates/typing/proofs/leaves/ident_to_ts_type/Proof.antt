@@ -1,7 +1,8 @@
 -- `leaves::ident_to_ts_type` meets its contract. Assumes nothing.
 use Rattle.definition.proofs.Children.{itself}
 use Rattle.definition.proofs.Kids.{id-text}
-use Rattle.typing.proofs.Maybe.{maybe-as, maybe-some, maybe-none}
+use Rattle.swc_helpers.proofs.Answers.{as-type}
+use Rattle.typing.proofs.Maybe.{maybe-some, maybe-none}
 use Rattle.typing.proofs.Arms.{safe-test, ident-global, ident-safe, ident-unsafe}
 use borrow.Author.Needs.{needs}
 use Rattle.typing.proofs.leaves.ident_to_ts_type.Statement.{statement}
@@ -23,7 +24,7 @@ same-length : tie.Need-same-length
 same-length c = search needs
 
 returns : tie.Need-returns
-returns c = maybe-as (c .before .before .global-type .ensures) (ident-global _ _ (c .before .before .before .before .before .before .before .before .args .left) (c .before .before .before .before .before .before .before .before .args .tree .now) (c .before .before .before .before .before .before .before .before .args .at) _ (c .before .before .before .before .before .context-at .ensures) (c .before .before .before .before .if1 .taken))
+returns c = as-type (c .before .before .global-type .ensures) (ident-global _ _ (c .before .before .before .before .before .before .before .before .args .left) (c .before .before .before .before .before .before .before .before .args .tree .now) (c .before .before .before .before .before .before .before .before .args .at) _ (c .before .before .before .before .before .context-at .ensures) (c .before .before .before .before .if1 .taken))
 
 asked-requires : tie.Need-asked-requires
 asked-requires c κs = (c .before .before .before .before .pre .0 .0, c .before .before .before .before .pre .1)
