@@ -1,11 +1,12 @@
 -- Loops over the children of a record: what is left of them. Assumes nothing.
-use mathlib.Core.Path.{_≡_, refl, sym, ap, _∙_}
+use mathlib.Core.Path.{_≡_, refl, sym, ap, _∙_, subst}
 use mathlib.Core.List.{List, _++_, append-nil, append-assoc}
-use Prim.Native.Nat.{ℕ, _+_, _-_, _≤_, _<_}
+use Prim.Native.Nat.{ℕ, zero, suc, _+_, _-_, _≤_, _<_}
 use native.Mathlib.Omega.{arith}
-use Rattle.definition.specs.Tree.{Rec, Recs, nil, cons, count, encode, encodes, readAll, endAt, treeAt}
+use Rattle.definition.specs.Tree.{Rec, Recs, nil, cons, count, encode, encodes, countAt, bodyAt, readAll, endOfAll, endAt, treeAt}
+use Rattle.definition.specs.Children.{AcceptedAt, AllAccepted, childAt}
 use Rattle.definition.specs.Record.{one, join}
-use Rattle.definition.proofs.Children.{readAll-more, readAll-none}
+use Rattle.definition.proofs.Children.{children, first-one, others, readAll-more, readAll-none, endOfAll-more, endOfAll-none}
 
 -- n records from c on, with one level less than `left`
 abbrev pub rest : ℕ → List ℕ → ℕ → ℕ → Recs
@@ -39,3 +40,39 @@ encodes-join (cons r a) b = rw (encodes-join a b) (sym (append-assoc (encode r) 
 pub encodes-one : (r : Rec) → encodes (one r) ≡ encode r
 unfolding encodes
 encodes-one r = append-nil (encode r)
+
+-- ---- children that are passed over
+
+pub record Skipping (left : ℕ) (s : List ℕ) (at i k c : ℕ) : Type 0 where
+  pub more : ℕ
+  pub kids : AllAccepted (left - 1) s more c
+  pub few : k ≤ more
+  pub same : childAt left s at i ≡ endOfAll (endAt (left - 1) s) k c
+
+pub skipping-start : (left : ℕ) (s : List ℕ) (at i : ℕ) → AcceptedAt left s at → i ≤ countAt s at → Skipping left s at i i (bodyAt s at)
+skipping-start left s at i a h = record { more = countAt s at; kids = children left s at a; few = h; same = refl }
+
+module _ (left : ℕ) (s : List ℕ) (at i k c : ℕ) (l : Skipping left s at i k c) where
+  pub skipping-first : 0 < k → AcceptedAt (left - 1) s c
+  skipping-first h = first-one (left - 1) s (l .more) c (l .kids) (let f = l .few in omega arith)
+
+  pub skipping-turn : 0 < k → Skipping left s at i (k - 1) (endAt (left - 1) s c)
+  skipping-turn h =
+      let f = l .few in
+      record {
+        more = l .more - 1;
+        kids = others (left - 1) s (l .more) c (l .kids) (omega arith);
+        few = omega arith;
+        same = l .same ∙ endOfAll-more (endAt (left - 1) s) k c h;
+      }
+
+  pub skipping-done : k ≤ 0 → c ≡ childAt left s at i
+  skipping-done h = sym (l .same ∙ endOfAll-none (endAt (left - 1) s) k c h)
+
+-- those behind the first i
+pub rest-accepted : (left : ℕ) (s : List ℕ) (n at i : ℕ) → AllAccepted left s n at → i ≤ n → AllAccepted left s (n - i) (endOfAll (endAt left s) i at)
+unfolding endOfAll
+rest-accepted left s n at zero a h = subst (λ (k : ℕ). AllAccepted left s k at) (omega arith) a
+rest-accepted left s n at (suc i) a h =
+    subst (λ (k : ℕ). AllAccepted left s k (endOfAll (endAt left s) i (endAt left s at))) (omega arith)
+    (rest-accepted left s (n - 1) (endAt left s at) i (others left s n at a (omega arith)) (omega arith))

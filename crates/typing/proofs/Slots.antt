@@ -1,16 +1,17 @@
 -- The children that the grammar fixes, of the records that typing meets: each is there, accepted, and has one of the marks of its slot.
 -- Assumes nothing.
-use mathlib.Core.Path.{_≡_, refl, sym, _∙_}
+use mathlib.Core.Path.{_≡_, refl, sym, ap, _∙_}
 use mathlib.Core.List.{List}
 use mathlib.Core.Bool.{true, false}
-use Prim.Native.Nat.{ℕ, _-_}
+use Prim.Native.Nat.{ℕ, _-_, _<_}
 use Prim.Native.String.{String}
 use lib.Dec.{eqb}
-use Rattle.definition.specs.Tree.{markAt, bodyAt, endOfAll, endAt, treeAt}
+use Rattle.definition.specs.Tree.{markAt, countAt, bodyAt, endOfAll, endAt, treeAt}
 use Rattle.definition.specs.Grammar.{mark, grammar, known, slots, place, expression, type, pattern, key, optional}
-use Rattle.definition.specs.Children.{AcceptedAt}
+use Rattle.definition.specs.Children.{AcceptedAt, childAt}
 use Rattle.definition.specs.Record.{kidsOf, markOf, kid}
-use Rattle.definition.proofs.Kids.{Child, fixed, first-in, second-in, is-mark, not-mark}
+use Rattle.definition.proofs.Kids.{Child, fixed, first-in, second-in, is-mark, not-mark, kid-is}
+use Rattle.definition.proofs.Children.{child}
 
 module _ (left : ℕ) (s : List ℕ) (at : ℕ) (a : AcceptedAt left s at) where
   pub kc-expr : markAt s at ≡ mark "Kc" → Child left s at 0 (bodyAt s at) expression
@@ -92,3 +93,20 @@ is-kid {left} {s} {p = p} c {m} {n} e f = rw (c .tree) (is-mark (left - 1) s p n
 
 pub not-kid : {left : ℕ} {s : List ℕ} {at i p : ℕ} {S : String} → Child left s at i p S → {m n : ℕ} → m ≡ markAt s p → (m ≡ n → ⊥) → eqb (markOf (kid i (kidsOf (treeAt left s at)))) n ≡ false
 not-kid {left} {s} {p = p} c {m} {n} e f = rw (c .tree) (not-mark (left - 1) s p n (λ q. f (e ∙ q)))
+
+-- ---- the first two children, whatever they are
+
+pub record Kid (left : ℕ) (s : List ℕ) (at i p : ℕ) : Type 0 where
+  pub accepted : AcceptedAt (left - 1) s p
+  pub tree : kid i (kidsOf (treeAt left s at)) ≡ treeAt (left - 1) s p
+
+kid-at : (left : ℕ) (s : List ℕ) (at i : ℕ) → AcceptedAt left s at → i < countAt s at → {p : ℕ} → p ≡ childAt left s at i → Kid left s at i p
+kid-at left s at i a h e = rw e (record { accepted = child left s at a i h; tree = kid-is left s at a i h })
+
+pub first-child : (left : ℕ) (s : List ℕ) (at : ℕ) → AcceptedAt left s at → 0 < countAt s at → {p : ℕ} → p ≡ bodyAt s at → Kid left s at 0 p
+unfolding endOfAll
+first-child left s at a h e = kid-at left s at 0 a h e
+
+pub second-child : (left : ℕ) (s : List ℕ) (at : ℕ) → AcceptedAt left s at → 1 < countAt s at → {b p : ℕ} → b ≡ bodyAt s at → p ≡ endAt (left - 1) s b → Kid left s at 1 p
+unfolding endOfAll
+second-child left s at a h e f = kid-at left s at 1 a h (f ∙ ap (endAt (left - 1) s) e)

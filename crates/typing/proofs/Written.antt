@@ -13,16 +13,17 @@ use borrow.Author.Tests.{ne-eqb}
 use Rattle.definition.specs.Tree.{Head, Rec, rec, nil, le4, markAt, textAt, headAt, treeAt, headBytes, encode, encodes}
 use Rattle.definition.specs.Grammar.{mark}
 use Rattle.definition.specs.Record.{headOf, kidsOf, textOf, fresh, identAt, kid}
+use Rattle.definition.specs.Helpers.{anyTypeAnn}
 use Rattle.definition.specs.Typing.{Key, kStr, kNum, kComputed, keyKind, keyExpr, keyFlag}
 use Rattle.definition.specs.Transform.{textsFit}
-use Rattle.definition.proofs.Kids.{Child, head-is, text-is}
+use Rattle.definition.proofs.Kids.{Child, head-is, text-is, is-mark, not-mark}
 use Rattle.records.specs.declared.Head.{Head as Fields}
 use Rattle.records.specs.Fields.{fieldsAt, fieldBytes}
 use Rattle.records.specs.Wrote.{Put}
 use Rattle.swc_helpers.proofs.Made.{put-put, encode-leaf}
 use Rattle.typing.specs.declared.State.{State}
 use Rattle.typing.specs.Did.{Puts, movedTo}
-use Rattle.typing.specs.Parts.{identOf}
+use Rattle.typing.specs.Parts.{identOf, returnType}
 use Rattle.typing.proofs.Steps.{and-true}
 
 pub ident-is : (start end : ℕ) (name : List ℕ)
@@ -119,3 +120,16 @@ puts-then s l v w = record { put = put-put l v (w .put); same = w .same }
 pub signature-is : (b : Bool) {o o' : List ℕ} {p q flags m k : ℕ} → flags ≡ cond b 1 0 + keyFlag (keyKind m) → m ≡ k → Put o o' p (headBytes (fresh "Ps" flags []) 2) q
     → Put o o' p (headBytes (fresh "Ps" (cond b 1 0 + keyFlag (keyKind k)) []) 2) q
 signature-is b e f w = rw (e, f) at w
+
+-- ---- the return type of a function
+
+pub return-absent : (left : ℕ) (s : List ℕ) (at : ℕ) → markAt s at ≡ mark "No" → anyTypeAnn ≡ returnType (treeAt left s at)
+return-absent left s at e = rw (is-mark left s at (mark "No") e)
+
+pub return-given : (left : ℕ) (s : List ℕ) (at : ℕ) → (markAt s at ≡ mark "No" → ⊥) → treeAt left s at ≡ returnType (treeAt left s at)
+return-given left s at e = rw (not-mark left s at (mark "No") e)
+
+-- the Id with a name whose length is known before it
+pub unique-is : (start end k : ℕ) (name : List ℕ) → k ≡ length name
+    → fieldBytes (record { mark = mark "Id"; flags = 0; start = start; end = end; text = 4 + k; count = 0 }) ++ (le4 0 ++ name) ≡ encode (identOf start end name)
+unique-is start end k name e = rw e (ident-is start end name)

@@ -9,6 +9,7 @@ ghost use Rattle.typing.specs.Did.{diagAt, backTo, Marks, Filled};
 
 mod leaves;
 mod made;
+mod params;
 mod readonly;
 
 // Where a typing stands: the positions in the output and in the diagnostics, the name counter, and whether every text that was written fits
