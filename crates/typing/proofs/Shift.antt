@@ -1,15 +1,21 @@
 -- Bytes moved up: the loop that moves them, and a front that is written when the length of its name is known. Assumes nothing.
-use mathlib.Core.Path.{_≡_, refl, sym, ap, _∙_}
-use mathlib.Core.List.{List, _++_}
+use mathlib.Core.Path.{_≡_, refl, sym, ap, _∙_, subst}
+use mathlib.Core.List.{List, [], _∷_, _++_}
+use mathlib.Core.Bool.{Bool, true, false, cond}
 use mathlib.Core.Logic.{_⊎_, inl, inr, ⊎-elim}
-use Prim.Native.Nat.{ℕ, _+_, _-_, _≤_, _<_, min}
+use Prim.Native.Nat.{ℕ, zero, suc, _+_, _-_, _/_, _%_, _≤_, _<_, min}
 use native.Mathlib.Decide.{decLt}
 use native.Mathlib.Omega.{arith}
 use lib.ListN.{length, getD, set, length-set, length-append, List·getD-append}
 use lib.Seq.{sets, length-sets, getD-append-add, getD-set-same, getD-set-other}
-use Rattle.records.specs.Wrote.{top, sat, Wrote}
+use lib.Dec.{ltb}
+use borrow.Author.Tests.{ltb-true, ltb-false}
+use Rattle.definition.specs.Names.{digit, decimalUpTo, genUniqueName}
+use Rattle.records.specs.Wrote.{top, sat, Wrote, Put}
 use Rattle.records.proofs.Stores.{sets-below, sets-above, sets-in}
-use Rattle.typing.specs.Moved.{Moved}
+use Rattle.typing.specs.declared.State.{State}
+use Rattle.typing.specs.Moved.{Moved, Unnamed}
+use Rattle.typing.specs.Parts.{bindingFront, uniqueFront}
 
 less : (m n : ℕ) → (m < n) ⊎ (n ≤ m)
 less m n = go (decLt m n)
@@ -87,4 +93,63 @@ wrote-moved {a} {b} {c} {E} p k by to H w e m h =
           ∙ (w .new j (omega arith) (omega arith) (omega arith)
           ∙ sym (ap (λ (x : ℕ). getD (H ++ E) x 0) y ∙ getD-append-add H E j 0)))))
           (less i (length H));
+    }
+
+-- ---- the length of a generated name
+
+-- more digits where more are allowed, and of a larger number
+digits-step : (most n : ℕ) → length (decimalUpTo (suc most) n) ≡ length (cond (ltb n 10) [] (decimalUpTo most (n / 10))) + 1
+unfolding decimalUpTo
+digits-step most n = length-append (cond (ltb n 10) [] (decimalUpTo most (n / 10))) (digit (n % 10) ∷ [])
+
+cond-length : (b : Bool) (x y : List ℕ) → length x ≤ length y → length (cond b [] x) ≤ length (cond b [] y)
+cond-length true x y h = omega arith
+cond-length false x y h = h
+
+digits-more : (most n : ℕ) → length (decimalUpTo most n) ≤ length (decimalUpTo (suc most) n)
+unfolding decimalUpTo
+digits-more zero n = omega arith
+digits-more (suc most) n =
+    omega (arith, digits-step most n, digits-step (suc most) n, cond-length (ltb n 10) (decimalUpTo most (n / 10)) (decimalUpTo (suc most) (n / 10)) (digits-more most (n / 10)))
+
+digits-fuel : (k most n : ℕ) → length (decimalUpTo most n) ≤ length (decimalUpTo (k + most) n)
+digits-fuel zero most n =
+    let e : zero + most ≡ most = omega arith in
+    rw e (omega arith)
+digits-fuel (suc k) most n =
+    let e : suc k + most ≡ suc (k + most) = omega arith in
+    rw e (omega (arith, digits-fuel k most n, digits-more (k + most) n))
+
+cond-grow : (a b : Bool) (x y : List ℕ) → (a ≡ false → b ≡ true → ⊥) → length x ≤ length y → length (cond a [] x) ≤ length (cond b [] y)
+cond-grow true b x y n h = omega arith
+cond-grow false true x y n h = absurd (n refl refl)
+cond-grow false false x y n h = h
+
+digits-grow : (most n m : ℕ) → n ≤ m → length (decimalUpTo most n) ≤ length (decimalUpTo most m)
+unfolding decimalUpTo
+digits-grow zero n m h = omega arith
+digits-grow (suc most) n m h =
+    omega (arith, digits-step most n, digits-step most m, cond-grow (ltb n 10) (ltb m 10) (decimalUpTo most (n / 10)) (decimalUpTo most (m / 10))
+    (λ e f. let a = ltb-false n 10 e in let b = ltb-true m 10 f in omega arith) (digits-grow most (n / 10) (m / 10) (omega arith)))
+
+pub name-grows : (n m : ℕ) → n ≤ m → uniqueFront n ≤ uniqueFront m
+unfolding genUniqueName
+name-grows n m h =
+    let e : (m - n) + suc n ≡ suc m = omega arith in
+    omega (arith, rw e at (digits-fuel (m - n) (suc n) n), digits-grow (suc m) n m h)
+
+-- ---- a parameter with such a name
+
+pub unnamed : {o b o' : List ℕ} (s made : State) {k l from to next start end : ℕ} → k ≡ uniqueFront (s .n + 1) → l ≡ uniqueFront (made .n + 1) → s .n ≤ made .n
+    → from ≡ sat (s .p) k → to ≡ sat (made .p) (l - k) → Moved o b from (made .p) (l - k) → Put b o' (s .p) (bindingFront start end (genUniqueName (made .n + 1))) next
+    → Unnamed o o' s made (record { p = to; d = made .d; n = made .n + 1; fits = made .fits }) start end
+unnamed {o} {b} {o'} s made {k} {l} e f h g t m w =
+    record {
+      between = b;
+      next = _;
+      by = l - k;
+      size = omega (arith, e, f, name-grows (s .n + 1) (made .n + 1) (omega arith));
+      moved = rw (← e, ← g) m;
+      put = w;
+      state = rw t refl;
     }

@@ -6,13 +6,13 @@ use mathlib.Core.Logic.{_⊎_, ⊎-elim}
 use Prim.Native.Nat.{ℕ, _+_, _-_, _<_, _^_}
 use Prim.Native.String.{String}
 use native.Mathlib.Omega.{arith}
-use lib.ListN.{length}
+use lib.ListN.{length, drop}
 use mir.Val.{boolByte}
 use lib.Dec.{eqb, lit<}
 use borrow.Author.Tests.{ne-eqb}
 use Rattle.definition.specs.Tree.{Head, Rec, rec, nil, le4, markAt, textAt, headAt, treeAt, headBytes, encode, encodes}
 use Rattle.definition.specs.Grammar.{mark}
-use Rattle.definition.specs.Record.{headOf, kidsOf, textOf, fresh, identAt, kid}
+use Rattle.definition.specs.Record.{headOf, kidsOf, textOf, symbolOf, fresh, identAt, kid}
 use Rattle.definition.specs.Helpers.{anyTypeAnn}
 use Rattle.definition.specs.Typing.{Key, kStr, kNum, kComputed, keyKind, keyExpr, keyFlag}
 use Rattle.definition.specs.Transform.{textsFit}
@@ -133,3 +133,14 @@ return-given left s at e = rw (not-mark left s at (mark "No") e)
 pub unique-is : (start end k : ℕ) (name : List ℕ) → k ≡ length name
     → fieldBytes (record { mark = mark "Id"; flags = 0; start = start; end = end; text = 4 + k; count = 0 }) ++ (le4 0 ++ name) ≡ encode (identOf start end name)
 unique-is start end k name e = rw e (ident-is start end name)
+
+-- ---- the member of a shorthand
+
+pub flag-is : (b : Bool) → headBytes (fresh "Ps" (boolByte b) []) 2 ≡ headBytes (fresh "Ps" (cond b 1 0 + 0) []) 2
+flag-is true = refl
+flag-is false = refl
+
+pub short-name : (left : ℕ) (s : List ℕ) (at : ℕ) {h : Fields} {name : List ℕ} → h ≡ fieldsAt s at → name ≡ drop 4 (textAt s at)
+    → identOf (h .start) (h .end) name ≡ identAt (headOf (treeAt left s at)) (symbolOf (treeAt left s at))
+unfolding headAt
+short-name left s at e f = rw (e, f, head-is left s at, text-is left s at)

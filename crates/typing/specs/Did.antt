@@ -13,6 +13,8 @@ use Rattle.definition.specs.Prescan.{PrescannedModuleIds, prescanModuleIds}
 use Rattle.definition.specs.Typing.{readonlyOf, exprToTsType}
 use Rattle.definition.specs.Transform.{textsFit}
 use Rattle.records.specs.Wrote.{Put, Ran}
+use Rattle.swc_helpers.specs.declared.MaybeType.{MaybeType}
+use Rattle.swc_helpers.specs.declared.MaybeType.the-variants.{Typed as Made, Untyped}
 use Rattle.typing.specs.declared.State.{State}
 use Rattle.typing.specs.declared.Mode.{Mode}
 use Rattle.typing.specs.declared.Typed.{Typed}
@@ -89,6 +91,11 @@ pub record Gave (o o' g g' : List ℕ) (s : State) (r : Typed) (x : Out Recs) : 
 pub record Filled (o o' g g' : List ℕ) (t : Typed) (r : State) (e : Diag) : Type 0 where
   pub typed : (s : State) → t ≡ Some s → (r ≡ s) × (o' ≡ o) × (g' ≡ g)
   pub any : (s : State) → t ≡ None s → Step o o' g g' s r (encode anyTypeAnn) (e ∷ []) (s .n) true
+
+-- the answer of a helper that wrote where `s` stood
+abbrev pub typedAs : State → MaybeType → Typed
+typedAs s (Made q) = Some (record { p = q; d = s .d; n = s .n; fits = s .fits })
+typedAs s Untyped = None s
 
 -- at another position of the output, or of the diagnostics
 abbrev pub movedTo : State → ℕ → State

@@ -1,11 +1,27 @@
 // The types of expressions: `expr_to_ts_type`, `pat_to_ts_fn_param`, `ident_to_ts_type` and `readonly_of`. A type is written at a position of
 // the output and diagnostics at a position of theirs, as far as there is room; a typing that fails goes back to its position in the output.
-
 ghost use mathlib.Core.Path.{_≡_};
+ghost use mathlib.Core.List.{[]};
 ghost use Prim.Native.Nat.{_+_, _≤_};
 ghost use lib.ListN.{length};
-ghost use Rattle.definition.specs.Tree.{headSize};
-ghost use Rattle.typing.specs.Did.{diagAt, backTo, Marks, Filled};
+ghost use Rattle.definition.specs.Tree.{headSize, markAt};
+ghost use Rattle.definition.specs.Grammar.{mark};
+ghost use Rattle.typing.specs.Did.{Ready, typeOf, diagAt, backTo, typedAs, Marks, Did, Gave, Filled};
+ghost use Rattle.typing.specs.Below.{tupleType, elementType, restType, memberType, paramType, functionMark, paramsFrom, functionOf, patType};
+ghost use Rattle.typing.specs.Below.{Gives, countedOf, DidAll};
+
+use crate::leaves::array_ident;
+use crate::leaves::as_type;
+use crate::leaves::ident_to_ts_type;
+use crate::leaves::leaf_type;
+use crate::made::put_keyed;
+use crate::made::put_ranged;
+use crate::params::child_at;
+use crate::params::put_fn_front;
+use records::HEAD_SIZE;
+use records::marks::{AG, AR, AS, AW, BD, CA, D1, D2, D3, D4, FT, FX, ID, KV, LI, NO, OB, OP, PA, PB, PE, PO, RS, SH, SP, TC, TS, TU};
+use swc_helpers::Found;
+use swc_helpers::MaybeType;
 
 mod leaves;
 mod made;
@@ -33,6 +49,18 @@ pub struct Mode {
     pub as_const: bool,
     pub as_readonly: bool,
     pub frozen: bool,
+}
+
+// Records that were made one after the other: where the typing stands behind them, and how many they are.
+pub struct Counted {
+    pub s: State,
+    pub count: usize,
+}
+
+// The elements of a tuple that a child of an array gives, or that the array has no type.
+pub enum Elements {
+    All(Counted),
+    Failed(State),
 }
 
 // Back to where a typing that failed began: its diagnostics and its names stay.
@@ -75,5 +103,29 @@ fn or_any(tree: &[u8], at: usize, code: u16, t: Typed, out: &mut [u8], diagnosti
             next.p = swc_helpers::any_type_ann(out, s.p);
             mark_diagnostic(tree, at, code, diagnostics, next)
         }
+    }
+}
+
+// The answer of a helper as that of a typing.
+fn answer_of(s: State, made: MaybeType) -> Typed
+    ensures { λ r. ⌜ r ≡ typedAs s made ⌝ }
+{
+    match made {
+        MaybeType::Typed(q) => {
+            let mut next = s;
+            next.p = q;
+            Typed::Some(next)
+        }
+        MaybeType::Untyped => Typed::None(s),
+    }
+}
+
+// `filter_map`: a record that may be missing is one record or none.
+fn one_or_none(t: Typed) -> Counted
+    ensures { λ r. ⌜ r ≡ countedOf t ⌝ }
+{
+    match t {
+        Typed::Some(s) => Counted { s, count: 1 },
+        Typed::None(s) => Counted { s, count: 0 },
     }
 }

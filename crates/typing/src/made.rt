@@ -6,7 +6,8 @@ ghost use Prim.Native.Nat.{_+_, _≤_, min};
 ghost use lib.ListN.{length};
 ghost use Rattle.definition.specs.Tree.{headSize, headBytes, encode, markAt, textAt, headAt, treeAt};
 ghost use Rattle.definition.specs.Children.{AcceptedAt};
-ghost use Rattle.definition.specs.Record.{fresh, identAt};
+ghost use Rattle.definition.specs.Record.{headOf, symbolOf, fresh, identAt};
+ghost use Rattle.definition.specs.Grammar.{mark};
 ghost use Rattle.definition.specs.Typing.{keyKind, keyFlag, keyExpr};
 ghost use Rattle.definition.specs.Transform.{textsFit};
 ghost use Rattle.records.specs.Wrote.{Put};
@@ -152,6 +153,22 @@ pub fn put_keyed(tree: &[u8], at: usize, left: usize, readonly: bool, out: &mut 
     let mut next = s;
     next.p = put_signature(flags, out, s.p);
     put_key(tree, at, left, out, next)
+}
+
+// `TsPropertySignature` with the name of the Id at `at`, before its type.
+pub fn put_shorthand(tree: &[u8], at: usize, left: usize, readonly: bool, out: &mut [u8], p: usize) -> usize
+    requires { ⌜ AcceptedAt left (now tree) at × (markAt (now tree) at ≡ mark "Id") ⌝ }
+    ensures {
+        λ r. ⌜
+            Put (now (out .entry)) (now (out .exit)) p
+                (signatureFront
+                    (identAt (headOf (treeAt left (now (tree .entry)) at)) (symbolOf (treeAt left (now (tree .entry)) at))) readonly 0) r
+        ⌝
+    }
+{
+    let head = records::read_head(tree, at);
+    let q = put_signature(readonly as u8, out, p);
+    put_ident(head.start, head.end, records::text::symbol_at(tree, at), out, q)
 }
 
 fn least(a: usize, b: usize) -> usize
