@@ -9,5 +9,7 @@ pub mod Maybe
 pub mod Arms
 pub mod LeafArms
 pub mod LeafFits
+pub mod ByPlace
 pub mod Loops
 pub mod ReadonlyOf
+pub mod Props

@@ -193,3 +193,7 @@ filled {o} {o1} {o2} {g} {g1} {g2} {s} {r} {t} {x} {e} w f = go (x .0) (w .answe
     go (some t) a z =
         let u = f .typed (w .after) a in
         rw (u .0, u .1, u .2) z
+
+-- a write that is given up at once
+pub step-drop : {o o' : List ℕ} (g : List ℕ) (s : State) {E : List ℕ} {q : ℕ} → Put o o' (s .p) E q → s .p ≤ top → s .d ≤ top → Step o o' g g s s [] [] (s .n) true
+step-drop g s w h k = step-back h (step-put g s w k)

@@ -1,7 +1,7 @@
 // The types of expressions: `expr_to_ts_type`, `pat_to_ts_fn_param`, `ident_to_ts_type` and `readonly_of`. A type is written at a position of
 // the output and diagnostics at a position of theirs, as far as there is room; a typing that fails goes back to its position in the output.
 ghost use mathlib.Core.Path.{_≡_};
-ghost use mathlib.Core.List.{[]};
+ghost use mathlib.Core.Bool.{_||_};
 ghost use Prim.Native.Nat.{_+_, _≤_};
 ghost use lib.ListN.{length};
 ghost use Rattle.definition.specs.Tree.{headSize, markAt};
@@ -16,6 +16,7 @@ use crate::leaves::ident_to_ts_type;
 use crate::leaves::leaf_type;
 use crate::made::put_keyed;
 use crate::made::put_ranged;
+use crate::made::put_shorthand;
 use crate::params::child_at;
 use crate::params::put_fn_front;
 use records::HEAD_SIZE;
@@ -128,4 +129,44 @@ fn one_or_none(t: Typed) -> Counted
         Typed::Some(s) => Counted { s, count: 1 },
         Typed::None(s) => Counted { s, count: 0 },
     }
+}
+
+// Whether a member is readonly: `as_readonly`, or `readonly_of` the object's type.
+fn is_readonly(mode: Mode) -> bool
+    ensures { λ r. ⌜ r ≡ (mode .as_readonly || mode .frozen) ⌝ }
+{
+    if mode.as_readonly {
+        return true;
+    }
+    mode.frozen
+}
+
+// A property that gives no member: a diagnostic at it.
+fn skipped(tree: &[u8], at: usize, code: u16, diagnostics: &mut [u8], s: State) -> Counted
+    requires { ⌜ at + headSize ≤ length (now tree) ⌝ }
+    ensures { λ r. ⌜ Marks (now (diagnostics .entry)) (now (diagnostics .exit)) s (r .s) (diagAt (now (tree .entry)) at code) × (r .count ≡ 0) ⌝ }
+{
+    let next = mark_diagnostic(tree, at, code, diagnostics, s);
+    Counted { s: next, count: 0 }
+}
+
+// `Prop::Shorthand`.
+fn shorthand(tree: &[u8], at: usize, left: usize, mode: Mode, out: &mut [u8], diagnostics: &mut [u8], s: State) -> Counted
+    requires { ⌜ Ready left (now tree) at (s .n) × (markAt (now tree) at ≡ mark "Sh") ⌝ }
+    ensures {
+        λ r. ⌜
+            Gives (now (out .entry)) (now (out .exit)) (now (diagnostics .entry)) (now (diagnostics .exit)) s r
+                (memberType (now (tree .entry)) mode left at (s .n))
+        ⌝
+    }
+{
+    let ident = records::body_at(tree, at);
+    let q = put_shorthand(tree, ident, left - 1, is_readonly(mode), out, s.p);
+    let made = ident_to_ts_type(tree, ident, left - 1, mode.unresolved, mode.as_const, out, q);
+    let MaybeType::Typed(end) = made else {
+        return skipped(tree, at, D3, diagnostics, s);
+    };
+    let mut next = s;
+    next.p = end;
+    Counted { s: next, count: 1 }
 }
