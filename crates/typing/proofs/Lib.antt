@@ -1,0 +1,15 @@
+pub mod Counter
+pub mod Frozen
+pub mod Steps
+pub mod Slots
+pub mod Fits
+pub mod Written
+pub mod Shift
+pub mod Maybe
+pub mod Arms
+pub mod LeafArms
+pub mod LeafFits
+pub mod ByPlace
+pub mod Loops
+pub mod ReadonlyOf
+pub mod Props

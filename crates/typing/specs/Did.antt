@@ -1,0 +1,109 @@
+-- What a typing is asked, what it gives, and what it did to the two buffers. Assumes nothing: these are definitions.
+use mathlib.Core.Path.{_≡_}
+use mathlib.Core.List.{List, [], _∷_}
+use mathlib.Core.Bool.{Bool, true, false, _&&_}
+use mathlib.Core.Option.{Option, none, some}
+use Prim.Native.Nat.{ℕ, _≤_}
+use Rattle.definition.specs.Tree.{Rec, Recs, nil, cons, encode, encodes, startAt, lastAt, treeAt}
+use Rattle.definition.specs.Check.{deepest}
+use Rattle.definition.specs.Children.{AcceptedAt}
+use Rattle.definition.specs.Record.{kidsOf, one, given, Diag, diagBytes, diagsBytes, Out, onValue}
+use Rattle.definition.specs.Helpers.{anyTypeAnn}
+use Rattle.definition.specs.Prescan.{PrescannedModuleIds, prescanModuleIds}
+use Rattle.definition.specs.Typing.{readonlyOf, exprToTsType}
+use Rattle.definition.specs.Transform.{textsFit}
+use Rattle.records.specs.Wrote.{Put, Ran}
+use Rattle.swc_helpers.specs.declared.MaybeType.{MaybeType}
+use Rattle.swc_helpers.specs.declared.MaybeType.the-variants.{Typed as Made, Untyped}
+use Rattle.typing.specs.declared.State.{State}
+use Rattle.typing.specs.declared.Mode.{Mode}
+use Rattle.typing.specs.declared.Typed.{Typed}
+use Rattle.typing.specs.declared.Typed.the-variants.{Some, None}
+
+-- ---- what is asked
+
+-- the record at `at` of an accepted tree, with `left` levels left; no more names were made than bytes stand before it
+pub record Ready (left : ℕ) (tree : List ℕ) (at n : ℕ) : Type 0 where
+  pub accepted : AcceptedAt left tree at
+  pub root : AcceptedAt deepest tree 0
+  pub low : n ≤ at
+
+-- the module-level names of a tree
+unfoldable pub idsOf : List ℕ → PrescannedModuleIds
+idsOf tree = prescanModuleIds (kidsOf (treeAt deepest tree 0))
+
+-- `readonly_of` a type, where it is wanted
+abbrev pub frozenIf : Bool → Out (Option Rec) → Out (Option Rec)
+frozenIf false o = o
+frozenIf true o = onValue (λ (t : Option Rec). given t none readonlyOf) o
+
+-- the type of the expression at `at`
+unfoldable pub typeOf : List ℕ → Mode → ℕ → ℕ → ℕ → Out (Option Rec)
+typeOf tree m left at n = frozenIf (m .frozen) (exprToTsType (idsOf tree) (m .unresolved) (treeAt left tree at) (m .as_const) (m .as_readonly) n)
+
+-- ---- what was done
+
+-- only E was written, where `s` stood in the output; f says whether its texts fit
+pub record Puts (o o' : List ℕ) (s s' : State) (E : List ℕ) (f : Bool) : Type 0 where
+  pub put : Put o o' (s .p) E (s' .p)
+  pub same : s' ≡ record { p = s' .p; d = s .d; n = s .n; fits = s .fits && f }
+
+-- a diagnostic at the range of the record at `at`
+abbrev pub diagAt : List ℕ → ℕ → ℕ → Diag
+diagAt tree at code = record { mark = code; start = startAt tree at; end = lastAt tree at }
+
+-- only the diagnostic e was marked
+pub record Marks (g g' : List ℕ) (s s' : State) (e : Diag) : Type 0 where
+  pub put : Put g g' (s .d) (diagBytes e) (s' .d)
+  pub same : s' ≡ record { p = s .p; d = s' .d; n = s .n; fits = s .fits }
+
+-- the bytes E and the diagnostics ds were written where `s` stood, the counter became n, and f says whether the texts of E fit
+pub record Step (o o' g g' : List ℕ) (s s' : State) (E : List ℕ) (ds : List Diag) (n : ℕ) (f : Bool) : Type 0 where
+  pub ran : Ran o o' g g' (s .p) (s .d) (s' .p) (s' .d) E (diagsBytes ds)
+  pub counter : s' .n ≡ n
+  pub fits : s' .fits ≡ (s .fits && f)
+
+abbrev pub answerOf : Option Rec → State → Typed
+answerOf none s = None s
+answerOf (some t) s = Some s
+
+abbrev pub bytesOf : Option Rec → List ℕ
+bytesOf none = []
+bytesOf (some t) = encode t
+
+abbrev pub fitOf : Option Rec → Bool
+fitOf none = true
+fitOf (some t) = textsFit t
+
+-- a typing that gives x: whether there is a type, what was written, and where it stands behind that
+pub record Did (o o' g g' : List ℕ) (s : State) (r : Typed) (x : Out (Option Rec)) : Type 0 where
+  pub after : State
+  pub answer : r ≡ answerOf (x .0) after
+  pub step : Step o o' g g' s after (bytesOf (x .0)) (x .1) (x .2) (fitOf (x .0))
+
+-- the same where the definition gives no record or one
+pub record Gave (o o' g g' : List ℕ) (s : State) (r : Typed) (x : Out Recs) : Type 0 where
+  pub value : Option Rec
+  pub same : x .0 ≡ given value nil one
+  pub did : Did o o' g g' s r (value, x .1, x .2)
+
+-- a type t, or any and the diagnostic e
+pub record Filled (o o' g g' : List ℕ) (t : Typed) (r : State) (e : Diag) : Type 0 where
+  pub typed : (s : State) → t ≡ Some s → (r ≡ s) × (o' ≡ o) × (g' ≡ g)
+  pub any : (s : State) → t ≡ None s → Step o o' g g' s r (encode anyTypeAnn) (e ∷ []) (s .n) true
+
+-- the answer of a helper that wrote where `s` stood
+abbrev pub typedAs : State → MaybeType → Typed
+typedAs s (Made q) = Some (record { p = q; d = s .d; n = s .n; fits = s .fits })
+typedAs s Untyped = None s
+
+-- at another position of the output, or of the diagnostics
+abbrev pub movedTo : State → ℕ → State
+movedTo s q = record { p = q; d = s .d; n = s .n; fits = s .fits }
+
+abbrev pub markedTo : State → ℕ → State
+markedTo s e = record { p = s .p; d = e; n = s .n; fits = s .fits }
+
+-- where a typing that began at s stands when it has failed at s'
+abbrev pub backTo : State → State → State
+backTo s s' = record { p = s .p; d = s' .d; n = s' .n; fits = s .fits }

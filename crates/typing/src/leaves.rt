@@ -1,0 +1,167 @@
+// The arms of `expr_to_ts_type` that type nothing below them, and `ident_to_ts_type`.
+ghost use mathlib.Core.Path.{_≡_};
+ghost use mathlib.Core.Option.{none, some};
+ghost use mathlib.Core.Bool.{cond};
+ghost use Rattle.definition.specs.Tree.{markAt, textAt, treeAt};
+ghost use Rattle.definition.specs.Grammar.{mark};
+ghost use Rattle.definition.specs.Check.{deepest};
+ghost use Rattle.definition.specs.Children.{AcceptedAt};
+ghost use Rattle.definition.specs.Record.{kidsOf, symbolOf};
+ghost use Rattle.definition.specs.Helpers.{tsKeywordType, tsTypeQuery};
+ghost use Rattle.definition.specs.Typing.{identToTsType};
+ghost use Rattle.swc_helpers.specs.Found.{isConst, PutMaybe};
+ghost use Rattle.swc_helpers.specs.Made.{keyword};
+ghost use Rattle.typing.specs.Did.{idsOf};
+ghost use Rattle.typing.specs.Parts.{numberName, nameType, classType, asType};
+ghost use Rattle.typing.specs.Leaf.{leafType};
+
+use crate::Mode;
+use crate::readonly::readonly_of;
+use prescan::Question;
+use records::marks::{BI, BL, ID, JT, MI, NE, NL, NO, NU, RE, SS, TE};
+use records::text::same_text;
+use swc_helpers::DeclMutabilityKind;
+use swc_helpers::MaybeType;
+use swc_helpers::TsKeywordTypeKind;
+
+// `match as_const { true => DeclMutabilityKind::Const, false => DeclMutabilityKind::Mutable }`.
+fn decl_kind(as_const: bool) -> DeclMutabilityKind
+    ensures { λ r. ⌜ isConst r ≡ as_const ⌝ }
+{
+    if as_const {
+        return DeclMutabilityKind::Const;
+    }
+    DeclMutabilityKind::Mutable
+}
+
+// `ts_keyword_type` as an answer.
+fn keyword(kind: TsKeywordTypeKind, out: &mut [u8], p: usize) -> MaybeType
+    ensures { λ r. ⌜ PutMaybe (now (out .entry)) (now (out .exit)) p (some (tsKeywordType (keyword kind))) r ⌝ }
+{
+    MaybeType::Typed(swc_helpers::ts_keyword_type(kind, out, p))
+}
+
+// `"NaN" | "Infinity" =>` of the `match` in `ident_to_ts_type`, and what follows it.
+fn number_name(tree: &[u8], at: usize, left: usize, out: &mut [u8], p: usize) -> MaybeType
+    requires { ⌜ AcceptedAt left (now tree) at × (markAt (now tree) at ≡ mark "Id") ⌝ }
+    ensures { λ r. ⌜ PutMaybe (now (out .entry)) (now (out .exit)) p (numberName (symbolOf (treeAt left (now (tree .entry)) at))) r ⌝ }
+{
+    let name = records::text::symbol_at(tree, at);
+    if same_text(name, b"NaN") {
+        return keyword(TsKeywordTypeKind::TsNumberKeyword, out, p);
+    }
+    if same_text(name, b"Infinity") {
+        return keyword(TsKeywordTypeKind::TsNumberKeyword, out, p);
+    }
+    MaybeType::Untyped
+}
+
+// `ident_to_ts_type` of an unresolved name: `match ident.sym.as_str()`.
+fn global_type(tree: &[u8], at: usize, left: usize, as_const: bool, out: &mut [u8], p: usize) -> MaybeType
+    requires { ⌜ AcceptedAt left (now tree) at × (markAt (now tree) at ≡ mark "Id") ⌝ }
+    ensures { λ r. ⌜ PutMaybe (now (out .entry)) (now (out .exit)) p (nameType (symbolOf (treeAt left (now (tree .entry)) at)) as_const) r ⌝ }
+{
+    if !as_const {
+        return number_name(tree, at, left, out, p);
+    }
+    if same_text(records::text::symbol_at(tree, at), b"undefined") {
+        return keyword(TsKeywordTypeKind::TsUndefinedKeyword, out, p);
+    }
+    number_name(tree, at, left, out, p)
+}
+
+// `ident_to_ts_type`.
+pub fn ident_to_ts_type(tree: &[u8], at: usize, left: usize, unresolved: u32, as_const: bool, out: &mut [u8], p: usize) -> MaybeType
+    requires { ⌜ AcceptedAt left (now tree) at × (markAt (now tree) at ≡ mark "Id") ⌝ }
+    requires { ⌜ AcceptedAt deepest (now tree) 0 ⌝ }
+    ensures {
+        λ r. ⌜
+            PutMaybe (now (out .entry)) (now (out .exit)) p
+                (identToTsType (idsOf (now (tree .entry))) unresolved (treeAt left (now (tree .entry)) at) as_const) r
+        ⌝
+    }
+{
+    if records::text::context_at(tree, at) == unresolved {
+        return global_type(tree, at, left, as_const, out, p);
+    }
+    if prescan::asked(tree, at, left, Question::TypeofSafe) {
+        return MaybeType::Typed(swc_helpers::ts_type_query(tree, at, left, out, p));
+    }
+    MaybeType::Untyped
+}
+
+// `Expr::New`: "of a non-generic class declared in this module".
+fn new_type(tree: &[u8], at: usize, left: usize, out: &mut [u8], p: usize) -> MaybeType
+    requires { ⌜ AcceptedAt left (now tree) at × (markAt (now tree) at ≡ mark "Ne") ⌝ }
+    requires { ⌜ AcceptedAt deepest (now tree) 0 ⌝ }
+    ensures {
+        λ r. ⌜
+            PutMaybe (now (out .entry)) (now (out .exit)) p (classType (idsOf (now (tree .entry))) (kidsOf (treeAt left (now (tree .entry)) at))) r
+        ⌝
+    }
+{
+    let ident = records::body_at(tree, at);
+    if records::mark_at(tree, ident) != ID {
+        return MaybeType::Untyped;
+    }
+    let type_args = records::record_end(tree, ident, left - 1);
+    if records::mark_at(tree, type_args) != NO {
+        return MaybeType::Untyped;
+    }
+    if prescan::asked(tree, ident, left - 1, Question::NonGenericClass) {
+        return MaybeType::Typed(swc_helpers::reference_to(tree, ident, left - 1, out, p));
+    }
+    MaybeType::Untyped
+}
+
+// `Expr::TsAs`, at its type: copied, or `readonly_of` it.
+pub fn as_type(tree: &[u8], at: usize, left: usize, frozen: bool, out: &mut [u8], p: usize) -> MaybeType
+    requires { ⌜ AcceptedAt left (now tree) at ⌝ }
+    ensures { λ r. ⌜ PutMaybe (now (out .entry)) (now (out .exit)) p (asType frozen (treeAt left (now (tree .entry)) at)) r ⌝ }
+{
+    if frozen {
+        return readonly_of(tree, at, left, out, p);
+    }
+    MaybeType::Typed(records::put_record(tree, at, left, out, p))
+}
+
+// An array-typed Id that is spread: `Expr::Ident(ident) if self.array_typed_ids.contains(&ident.to_id())`.
+pub fn array_ident(tree: &[u8], at: usize, left: usize, out: &mut [u8], p: usize) -> MaybeType
+    requires { ⌜ AcceptedAt left (now tree) at ⌝ }
+    requires { ⌜ AcceptedAt deepest (now tree) 0 ⌝ }
+    ensures {
+        λ r. ⌜
+            PutMaybe (now (out .entry)) (now (out .exit)) p
+                (cond (idsOf (now (tree .entry)) .arrayTyped (textAt (now (tree .entry)) at)) (some (tsTypeQuery (treeAt left (now (tree .entry)) at))) none) r
+        ⌝
+    }
+{
+    if prescan::asked(tree, at, left, Question::ArrayTyped) {
+        return MaybeType::Typed(swc_helpers::ts_type_query(tree, at, left, out, p));
+    }
+    MaybeType::Untyped
+}
+
+// The arms of `expr_to_ts_type` that type nothing below them: `Expr::Lit`, `Expr::Tpl`, `Expr::Ident`, `Expr::Unary`, `Expr::New`, and those that
+// give `None`. `readonly_of` knows none of their types.
+pub fn leaf_type(tree: &[u8], at: usize, left: usize, mode: Mode, out: &mut [u8], p: usize) -> MaybeType
+    requires { ⌜ AcceptedAt left (now tree) at ⌝ }
+    requires { ⌜ AcceptedAt deepest (now tree) 0 ⌝ }
+    ensures { λ r. ⌜ PutMaybe (now (out .entry)) (now (out .exit)) p (leafType (now (tree .entry)) mode left at) r ⌝ }
+{
+    if mode.frozen {
+        return MaybeType::Untyped;
+    }
+    let kind = decl_kind(mode.as_const);
+    match records::mark_at(tree, at) {
+        SS | BL | NL | NU | BI | RE | JT => swc_helpers::maybe_lit_to_ts_type(tree, at, left, kind, out, p),
+        TE => MaybeType::Typed(swc_helpers::tpl_to_ts_type(tree, at, left, kind, out, p)),
+        ID => ident_to_ts_type(tree, at, left, mode.unresolved, mode.as_const, out, p),
+        MI => {
+            let arg = records::body_at(tree, at);
+            swc_helpers::minus_lit_to_ts_type(tree, arg, left - 1, kind, out, p)
+        }
+        NE => new_type(tree, at, left, out, p),
+        _ => MaybeType::Untyped,
+    }
+}
