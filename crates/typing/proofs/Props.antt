@@ -151,7 +151,7 @@ module _ (tree : List ℕ) (m : Mode) (left at n : ℕ) where
   pub member-key-value : {p q : ℕ} → AcceptedAt left tree at → markAt tree at ≡ mark "Kv" → Child left tree at 0 p key → Child left tree at 1 q expression
       → memberType tree m left at n
       ≡ onValue (λ ty. one (propertySignature (keyExpr (keyKind (markAt tree p)) (treeAt (left - 1) tree p)) (m .as_readonly || m .frozen) (keyFlag (keyKind (markAt tree p))) ty))
-        (orAny (exprToTsType (idsOf tree) (m .unresolved) (treeAt (left - 1) tree q) (m .as_const) (m .as_readonly) n) (diagAt tree q (mark "d2") ∷ []))
+      (orAny (exprToTsType (idsOf tree) (m .unresolved) (treeAt (left - 1) tree q) (m .as_const) (m .as_readonly) n) (diagAt tree q (mark "d2") ∷ []))
   unfolding propKind propBy
   member-key-value {p} {q} a e j k =
       let ids : PrescannedModuleIds = idsOf tree in

@@ -129,8 +129,13 @@ digits-grow : (most n m : ℕ) → n ≤ m → length (decimalUpTo most n) ≤ l
 unfolding decimalUpTo
 digits-grow zero n m h = omega arith
 digits-grow (suc most) n m h =
-    omega (arith, digits-step most n, digits-step most m, cond-grow (ltb n 10) (ltb m 10) (decimalUpTo most (n / 10)) (decimalUpTo most (m / 10))
-    (λ e f. let a = ltb-false n 10 e in let b = ltb-true m 10 f in omega arith) (digits-grow most (n / 10) (m / 10) (omega arith)))
+    omega (
+      arith,
+      digits-step most n,
+      digits-step most m,
+      cond-grow (ltb n 10) (ltb m 10) (decimalUpTo most (n / 10)) (decimalUpTo most (m / 10))
+          (λ e f. let a = ltb-false n 10 e in let b = ltb-true m 10 f in omega arith) (digits-grow most (n / 10) (m / 10) (omega arith)),
+    )
 
 pub name-grows : (n m : ℕ) → n ≤ m → uniqueFront n ≤ uniqueFront m
 unfolding genUniqueName

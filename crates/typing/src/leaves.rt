@@ -14,11 +14,21 @@ ghost use Rattle.swc_helpers.specs.Made.{keyword};
 ghost use Rattle.typing.specs.Did.{idsOf};
 ghost use Rattle.typing.specs.Parts.{numberName, nameType, classType, asType};
 ghost use Rattle.typing.specs.Leaf.{leafType};
-
 use crate::Mode;
 use crate::readonly::readonly_of;
 use prescan::Question;
-use records::marks::{BI, BL, ID, JT, MI, NE, NL, NO, NU, RE, SS, TE};
+use records::marks::BI;
+use records::marks::BL;
+use records::marks::ID;
+use records::marks::JT;
+use records::marks::MI;
+use records::marks::NE;
+use records::marks::NL;
+use records::marks::NO;
+use records::marks::NU;
+use records::marks::RE;
+use records::marks::SS;
+use records::marks::TE;
 use records::text::same_text;
 use swc_helpers::DeclMutabilityKind;
 use swc_helpers::MaybeType;
@@ -57,7 +67,14 @@ fn number_name(tree: &[u8], at: usize, left: usize, out: &mut [u8], p: usize) ->
 }
 
 // `ident_to_ts_type` of an unresolved name: `match ident.sym.as_str()`.
-fn global_type(tree: &[u8], at: usize, left: usize, as_const: bool, out: &mut [u8], p: usize) -> MaybeType
+fn global_type(
+    tree: &[u8],
+    at: usize,
+    left: usize,
+    as_const: bool,
+    out: &mut [u8],
+    p: usize,
+) -> MaybeType
     requires { ⌜ AcceptedAt left (now tree) at × (markAt (now tree) at ≡ mark "Id") ⌝ }
     ensures { λ r. ⌜ PutMaybe (now (out .entry)) (now (out .exit)) p (nameType (symbolOf (treeAt left (now (tree .entry)) at)) as_const) r ⌝ }
 {
@@ -71,15 +88,21 @@ fn global_type(tree: &[u8], at: usize, left: usize, as_const: bool, out: &mut [u
 }
 
 // `ident_to_ts_type`.
-pub fn ident_to_ts_type(tree: &[u8], at: usize, left: usize, unresolved: u32, as_const: bool, out: &mut [u8], p: usize) -> MaybeType
+pub fn ident_to_ts_type(
+    tree: &[u8],
+    at: usize,
+    left: usize,
+    unresolved: u32,
+    as_const: bool,
+    out: &mut [u8],
+    p: usize,
+) -> MaybeType
     requires { ⌜ AcceptedAt left (now tree) at × (markAt (now tree) at ≡ mark "Id") ⌝ }
     requires { ⌜ AcceptedAt deepest (now tree) 0 ⌝ }
-    ensures {
-        λ r. ⌜
-            PutMaybe (now (out .entry)) (now (out .exit)) p
-                (identToTsType (idsOf (now (tree .entry))) unresolved (treeAt left (now (tree .entry)) at) as_const) r
-        ⌝
-    }
+    ensures { λ r. ⌜
+        PutMaybe (now (out .entry)) (now (out .exit)) p
+        (identToTsType (idsOf (now (tree .entry))) unresolved (treeAt left (now (tree .entry)) at) as_const) r
+        ⌝ }
 {
     if records::text::context_at(tree, at) == unresolved {
         return global_type(tree, at, left, as_const, out, p);
@@ -94,11 +117,9 @@ pub fn ident_to_ts_type(tree: &[u8], at: usize, left: usize, unresolved: u32, as
 fn new_type(tree: &[u8], at: usize, left: usize, out: &mut [u8], p: usize) -> MaybeType
     requires { ⌜ AcceptedAt left (now tree) at × (markAt (now tree) at ≡ mark "Ne") ⌝ }
     requires { ⌜ AcceptedAt deepest (now tree) 0 ⌝ }
-    ensures {
-        λ r. ⌜
-            PutMaybe (now (out .entry)) (now (out .exit)) p (classType (idsOf (now (tree .entry))) (kidsOf (treeAt left (now (tree .entry)) at))) r
-        ⌝
-    }
+    ensures { λ r. ⌜
+        PutMaybe (now (out .entry)) (now (out .exit)) p (classType (idsOf (now (tree .entry))) (kidsOf (treeAt left (now (tree .entry)) at))) r
+        ⌝ }
 {
     let ident = records::body_at(tree, at);
     if records::mark_at(tree, ident) != ID {
@@ -115,7 +136,14 @@ fn new_type(tree: &[u8], at: usize, left: usize, out: &mut [u8], p: usize) -> Ma
 }
 
 // `Expr::TsAs`, at its type: copied, or `readonly_of` it.
-pub fn as_type(tree: &[u8], at: usize, left: usize, frozen: bool, out: &mut [u8], p: usize) -> MaybeType
+pub fn as_type(
+    tree: &[u8],
+    at: usize,
+    left: usize,
+    frozen: bool,
+    out: &mut [u8],
+    p: usize,
+) -> MaybeType
     requires { ⌜ AcceptedAt left (now tree) at ⌝ }
     ensures { λ r. ⌜ PutMaybe (now (out .entry)) (now (out .exit)) p (asType frozen (treeAt left (now (tree .entry)) at)) r ⌝ }
 {
@@ -129,12 +157,10 @@ pub fn as_type(tree: &[u8], at: usize, left: usize, frozen: bool, out: &mut [u8]
 pub fn array_ident(tree: &[u8], at: usize, left: usize, out: &mut [u8], p: usize) -> MaybeType
     requires { ⌜ AcceptedAt left (now tree) at ⌝ }
     requires { ⌜ AcceptedAt deepest (now tree) 0 ⌝ }
-    ensures {
-        λ r. ⌜
-            PutMaybe (now (out .entry)) (now (out .exit)) p
-                (cond (idsOf (now (tree .entry)) .arrayTyped (textAt (now (tree .entry)) at)) (some (tsTypeQuery (treeAt left (now (tree .entry)) at))) none) r
-        ⌝
-    }
+    ensures { λ r. ⌜
+        PutMaybe (now (out .entry)) (now (out .exit)) p
+        (cond (idsOf (now (tree .entry)) .arrayTyped (textAt (now (tree .entry)) at)) (some (tsTypeQuery (treeAt left (now (tree .entry)) at))) none) r
+        ⌝ }
 {
     if prescan::asked(tree, at, left, Question::ArrayTyped) {
         return MaybeType::Typed(swc_helpers::ts_type_query(tree, at, left, out, p));
@@ -144,7 +170,14 @@ pub fn array_ident(tree: &[u8], at: usize, left: usize, out: &mut [u8], p: usize
 
 // The arms of `expr_to_ts_type` that type nothing below them: `Expr::Lit`, `Expr::Tpl`, `Expr::Ident`, `Expr::Unary`, `Expr::New`, and those that
 // give `None`. `readonly_of` knows none of their types.
-pub fn leaf_type(tree: &[u8], at: usize, left: usize, mode: Mode, out: &mut [u8], p: usize) -> MaybeType
+pub fn leaf_type(
+    tree: &[u8],
+    at: usize,
+    left: usize,
+    mode: Mode,
+    out: &mut [u8],
+    p: usize,
+) -> MaybeType
     requires { ⌜ AcceptedAt left (now tree) at ⌝ }
     requires { ⌜ AcceptedAt deepest (now tree) 0 ⌝ }
     ensures { λ r. ⌜ PutMaybe (now (out .entry)) (now (out .exit)) p (leafType (now (tree .entry)) mode left at) r ⌝ }
@@ -154,7 +187,14 @@ pub fn leaf_type(tree: &[u8], at: usize, left: usize, mode: Mode, out: &mut [u8]
     }
     let kind = decl_kind(mode.as_const);
     match records::mark_at(tree, at) {
-        SS | BL | NL | NU | BI | RE | JT => swc_helpers::maybe_lit_to_ts_type(tree, at, left, kind, out, p),
+        SS | BL | NL | NU | BI | RE | JT => swc_helpers::maybe_lit_to_ts_type(
+            tree,
+            at,
+            left,
+            kind,
+            out,
+            p,
+        ),
         TE => MaybeType::Typed(swc_helpers::tpl_to_ts_type(tree, at, left, kind, out, p)),
         ID => ident_to_ts_type(tree, at, left, mode.unresolved, mode.as_const, out, p),
         MI => {

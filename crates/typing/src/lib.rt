@@ -9,7 +9,6 @@ ghost use Rattle.definition.specs.Grammar.{mark};
 ghost use Rattle.typing.specs.Did.{Ready, typeOf, diagAt, backTo, typedAs, Marks, Did, Gave, Filled};
 ghost use Rattle.typing.specs.Below.{tupleType, elementType, restType, memberType, paramType, functionMark, paramsFrom, functionOf, patType};
 ghost use Rattle.typing.specs.Below.{Gives, countedOf, DidAll};
-
 use crate::leaves::array_ident;
 use crate::leaves::as_type;
 use crate::leaves::ident_to_ts_type;
@@ -20,7 +19,34 @@ use crate::made::put_shorthand;
 use crate::params::child_at;
 use crate::params::put_fn_front;
 use records::HEAD_SIZE;
-use records::marks::{AG, AR, AS, AW, BD, CA, D1, D2, D3, D4, FT, FX, ID, KV, LI, NO, OB, OP, PA, PB, PE, PO, RS, SH, SP, TC, TS, TU};
+use records::marks::AG;
+use records::marks::AR;
+use records::marks::AS;
+use records::marks::AW;
+use records::marks::BD;
+use records::marks::CA;
+use records::marks::D1;
+use records::marks::D2;
+use records::marks::D3;
+use records::marks::D4;
+use records::marks::FT;
+use records::marks::FX;
+use records::marks::ID;
+use records::marks::KV;
+use records::marks::LI;
+use records::marks::NO;
+use records::marks::OB;
+use records::marks::OP;
+use records::marks::PA;
+use records::marks::PB;
+use records::marks::PE;
+use records::marks::PO;
+use records::marks::RS;
+use records::marks::SH;
+use records::marks::SP;
+use records::marks::TC;
+use records::marks::TS;
+use records::marks::TU;
 use swc_helpers::Found;
 use swc_helpers::MaybeType;
 
@@ -88,14 +114,19 @@ fn mark_diagnostic(tree: &[u8], at: usize, code: u16, diagnostics: &mut [u8], s:
 }
 
 // A type, or `any` and a diagnostic at the expression that has none, as for an element of an array and the value of a property.
-fn or_any(tree: &[u8], at: usize, code: u16, t: Typed, out: &mut [u8], diagnostics: &mut [u8]) -> State
+fn or_any(
+    tree: &[u8],
+    at: usize,
+    code: u16,
+    t: Typed,
+    out: &mut [u8],
+    diagnostics: &mut [u8],
+) -> State
     requires { ⌜ at + headSize ≤ length (now tree) ⌝ }
-    ensures {
-        λ r. ⌜
-            Filled (now (out .entry)) (now (out .exit)) (now (diagnostics .entry)) (now (diagnostics .exit)) t r
-                (diagAt (now (tree .entry)) at code)
-        ⌝
-    }
+    ensures { λ r. ⌜
+        Filled (now (out .entry)) (now (out .exit)) (now (diagnostics .entry)) (now (diagnostics .exit)) t r
+        (diagAt (now (tree .entry)) at code)
+        ⌝ }
 {
     match t {
         Typed::Some(s) => s,
@@ -151,18 +182,32 @@ fn skipped(tree: &[u8], at: usize, code: u16, diagnostics: &mut [u8], s: State) 
 }
 
 // `Prop::Shorthand`.
-fn shorthand(tree: &[u8], at: usize, left: usize, mode: Mode, out: &mut [u8], diagnostics: &mut [u8], s: State) -> Counted
+fn shorthand(
+    tree: &[u8],
+    at: usize,
+    left: usize,
+    mode: Mode,
+    out: &mut [u8],
+    diagnostics: &mut [u8],
+    s: State,
+) -> Counted
     requires { ⌜ Ready left (now tree) at (s .n) × (markAt (now tree) at ≡ mark "Sh") ⌝ }
-    ensures {
-        λ r. ⌜
-            Gives (now (out .entry)) (now (out .exit)) (now (diagnostics .entry)) (now (diagnostics .exit)) s r
-                (memberType (now (tree .entry)) mode left at (s .n))
-        ⌝
-    }
+    ensures { λ r. ⌜
+        Gives (now (out .entry)) (now (out .exit)) (now (diagnostics .entry)) (now (diagnostics .exit)) s r
+        (memberType (now (tree .entry)) mode left at (s .n))
+        ⌝ }
 {
     let ident = records::body_at(tree, at);
     let q = put_shorthand(tree, ident, left - 1, is_readonly(mode), out, s.p);
-    let made = ident_to_ts_type(tree, ident, left - 1, mode.unresolved, mode.as_const, out, q);
+    let made = ident_to_ts_type(
+        tree,
+        ident,
+        left - 1,
+        mode.unresolved,
+        mode.as_const,
+        out,
+        q,
+    );
     let MaybeType::Typed(end) = made else {
         return skipped(tree, at, D3, diagnostics, s);
     };

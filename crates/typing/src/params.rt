@@ -11,7 +11,6 @@ ghost use Rattle.definition.specs.Names.{genUniqueName};
 ghost use Rattle.records.specs.Wrote.{sat, Put};
 ghost use Rattle.typing.specs.Moved.{Unnamed};
 ghost use Rattle.typing.specs.Parts.{returnType, bindingFront, uniqueFront};
-
 use crate::State;
 use crate::made::move_up;
 use crate::made::put_ident;
@@ -19,7 +18,9 @@ use crate::made::put_ranged;
 use names::unique;
 use records::HEAD_SIZE;
 use records::Head;
-use records::marks::{BD, ID, NO};
+use records::marks::BD;
+use records::marks::ID;
+use records::marks::NO;
 
 // "4-byte context"
 const CONTEXT_SIZE: usize = 4;
@@ -38,13 +39,11 @@ fn put_return_type(tree: &[u8], at: usize, left: usize, out: &mut [u8], p: usize
 // `type_params` and the return type of the Fu or the Aw at `at`, behind the head of the type that is made of it.
 pub fn put_fn_front(tree: &[u8], at: usize, left: usize, out: &mut [u8], p: usize) -> usize
     requires { ⌜ AcceptedAt left (now tree) at × (2 ≤ countAt (now tree) at) ⌝ }
-    ensures {
-        λ r. ⌜
-            Put (now (out .entry)) (now (out .exit)) p
-                (encode (kid 0 (kidsOf (treeAt left (now (tree .entry)) at)))
-                    ++ encode (returnType (kid 1 (kidsOf (treeAt left (now (tree .entry)) at))))) r
-        ⌝
-    }
+    ensures { λ r. ⌜
+        Put (now (out .entry)) (now (out .exit)) p
+        (encode (kid 0 (kidsOf (treeAt left (now (tree .entry)) at)))
+        ++ encode (returnType (kid 1 (kidsOf (treeAt left (now (tree .entry)) at))))) r
+        ⌝ }
 {
     let type_params = records::body_at(tree, at);
     let return_type = records::record_end(tree, type_params, left - 1);
@@ -78,18 +77,22 @@ pub fn put_binding(start: u32, end: u32, name: &[u8], out: &mut [u8], p: usize) 
 pub fn put_named(tree: &[u8], at: usize, left: usize, out: &mut [u8], p: usize) -> usize
     requires { ⌜ AcceptedAt left (now tree) at × (markAt (now tree) at ≡ mark "Ag") ⌝ }
     requires { ⌜ markAt (now tree) (bodyAt (now tree) at) ≡ mark "Bd" ⌝ }
-    ensures {
-        λ r. ⌜
-            Put (now (out .entry)) (now (out .exit)) p
-                (bindingFront (startAt (now (tree .entry)) at) (lastAt (now (tree .entry)) at)
-                    (symbolOf (kid 0 (kidsOf (kid 0 (kidsOf (treeAt left (now (tree .entry)) at))))))) r
-        ⌝
-    }
+    ensures { λ r. ⌜
+        Put (now (out .entry)) (now (out .exit)) p
+        (bindingFront (startAt (now (tree .entry)) at) (lastAt (now (tree .entry)) at)
+        (symbolOf (kid 0 (kidsOf (kid 0 (kidsOf (treeAt left (now (tree .entry)) at))))))) r
+        ⌝ }
 {
     let head = records::read_head(tree, at);
     let pattern = records::body_at(tree, at);
     let ident = records::body_at(tree, pattern);
-    put_binding(head.start, head.end, records::text::symbol_at(tree, ident), out, p)
+    put_binding(
+        head.start,
+        head.end,
+        records::text::symbol_at(tree, ident),
+        out,
+        p,
+    )
 }
 
 // The same with a name that is generated.
@@ -123,9 +126,7 @@ pub fn put_unnamed(tree: &[u8], at: usize, out: &mut [u8], s: State, made: State
     requires { ⌜ at + headSize ≤ length (now tree) ⌝ }
     requires { ⌜ (s .n ≤ made .n) × (made .n < length (now tree)) ⌝ }
     requires { ⌜ sat (s .p) (uniqueFront (s .n + 1)) ≤ made .p ⌝ }
-    ensures {
-        λ r. ⌜ Unnamed (now (out .entry)) (now (out .exit)) s made r (startAt (now (tree .entry)) at) (lastAt (now (tree .entry)) at) ⌝
-    }
+    ensures { λ r. ⌜ Unnamed (now (out .entry)) (now (out .exit)) s made r (startAt (now (tree .entry)) at) (lastAt (now (tree .entry)) at) ⌝ }
 {
     let head = records::read_head(tree, at);
     let counter = made.n + 1;
