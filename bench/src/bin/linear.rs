@@ -1,16 +1,6 @@
 //! The check of a tree, timed: how many times the time twice the bytes take.
+use bench::check;
 use std::time::{Duration, Instant};
-
-unsafe extern "C" {
-    fn dts_check(tree: *const u8, tree_len: usize, list: *const u8, list_len: usize, place: *mut u64) -> u32;
-}
-
-/// The check of a tree and a list: 0 and the tree's length, or the refusal's number and its place.
-fn check(tree: &[u8], list: &[u8]) -> (u32, u64) {
-    let mut place = 0;
-    let number = unsafe { dts_check(tree.as_ptr(), tree.len(), list.as_ptr(), list.len(), &mut place) };
-    (number, place)
-}
 
 fn record(mark: &str, text: &[u8], children: &[Vec<u8>]) -> Vec<u8> {
     let mut bytes = mark.as_bytes().to_vec();
