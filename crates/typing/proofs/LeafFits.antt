@@ -225,3 +225,6 @@ readonly-by-fits fOther t e = refl
 
 pub as-fits : (b : Bool) (t : Rec) → textsFit t ≡ true → fitOf (asType b t) ≡ true
 as-fits b t e = cond-fits b (readonlyOf t) (some t) (readonly-by-fits (frozenKind (markOf t)) t e) e
+
+pub query-fits-if : (b : Bool) (t : Rec) → textsFit t ≡ true → fitOf (cond b (some (tsTypeQuery t)) none) ≡ true
+query-fits-if b t e = cond-fits b (some (tsTypeQuery t)) none (query-fits t e) refl

@@ -48,17 +48,17 @@ memberType tree m left at n = onValue (membersIf (m .frozen)) (prop (idsOf tree)
 -- ---- functions
 
 -- a parameter of a function (a Pa), or of an arrow (a pattern)
-abbrev pub paramBy : Bool → PrescannedModuleIds → ℕ → Rec → ℕ → Out Recs
-paramBy true ids ctx p n = fnParam ids ctx p n
-paramBy false ids ctx p n = patToTsFnParam ids ctx p n
+abbrev pub paramOf : Bool → PrescannedModuleIds → ℕ → Rec → ℕ → Out Recs
+paramOf true ids ctx p n = fnParam ids ctx p n
+paramOf false ids ctx p n = patToTsFnParam ids ctx p n
 
 unfoldable pub paramType : List ℕ → ℕ → Bool → ℕ → ℕ → ℕ → Out Recs
-paramType tree ctx fn left at n = paramBy fn (idsOf tree) ctx (treeAt left tree at) n
+paramType tree ctx fn left at n = paramOf fn (idsOf tree) ctx (treeAt left tree at) n
 
 unfoldable pub paramsBy : Bool → PrescannedModuleIds → ℕ → Recs → ℕ → Out Recs
 paramsBy fn ids ctx nil n = pure nil n
 paramsBy fn ids ctx (cons p ps) n =
-    let a : Out Recs = paramBy fn ids ctx p n in
+    let a : Out Recs = paramOf fn ids ctx p n in
     let b : Out Recs = paramsBy fn ids ctx ps (a .2) in
     (join (a .0) (b .0), a .1 ++ b .1, b .2)
 

@@ -37,6 +37,10 @@ abbrev pub frozenIf : Bool → Out (Option Rec) → Out (Option Rec)
 frozenIf false o = o
 frozenIf true o = onValue (λ (t : Option Rec). given t none readonlyOf) o
 
+-- as_const and as_readonly off
+abbrev pub mutableMode : ℕ → Mode
+mutableMode ctx = record { unresolved = ctx; as_const = false; as_readonly = false; frozen = false }
+
 -- the type of the expression at `at`
 unfoldable pub typeOf : List ℕ → Mode → ℕ → ℕ → ℕ → Out (Option Rec)
 typeOf tree m left at n = frozenIf (m .frozen) (exprToTsType (idsOf tree) (m .unresolved) (treeAt left tree at) (m .as_const) (m .as_readonly) n)

@@ -6,7 +6,7 @@ ghost use Rattle.definition.specs.Tree.{markAt, textAt, treeAt};
 ghost use Rattle.definition.specs.Grammar.{mark};
 ghost use Rattle.definition.specs.Check.{deepest};
 ghost use Rattle.definition.specs.Children.{AcceptedAt};
-ghost use Rattle.definition.specs.Record.{kidsOf, symbolOf};
+ghost use Rattle.definition.specs.Record.{kidsOf, symbolOf, kid};
 ghost use Rattle.definition.specs.Helpers.{tsKeywordType, tsTypeQuery};
 ghost use Rattle.definition.specs.Typing.{identToTsType};
 ghost use Rattle.swc_helpers.specs.Found.{isConst, PutMaybe};
@@ -135,7 +135,7 @@ fn new_type(tree: &[u8], at: usize, left: usize, out: &mut [u8], p: usize) -> Ma
     MaybeType::Untyped
 }
 
-// `Expr::TsAs`, at its type: copied, or `readonly_of` it.
+// `Expr::TsAs`: its type, copied, or `readonly_of` it.
 pub fn as_type(
     tree: &[u8],
     at: usize,
@@ -144,13 +144,15 @@ pub fn as_type(
     out: &mut [u8],
     p: usize,
 ) -> MaybeType
-    requires { ⌜ AcceptedAt left (now tree) at ⌝ }
-    ensures { λ r. ⌜ PutMaybe (now (out .entry)) (now (out .exit)) p (asType frozen (treeAt left (now (tree .entry)) at)) r ⌝ }
+    requires { ⌜ AcceptedAt left (now tree) at × (markAt (now tree) at ≡ mark "As") ⌝ }
+    ensures { λ r. ⌜ PutMaybe (now (out .entry)) (now (out .exit)) p (asType frozen (kid 1 (kidsOf (treeAt left (now (tree .entry)) at)))) r ⌝ }
 {
+    let expr = records::body_at(tree, at);
+    let type_ann = records::record_end(tree, expr, left - 1);
     if frozen {
-        return readonly_of(tree, at, left, out, p);
+        return readonly_of(tree, type_ann, left - 1, out, p);
     }
-    MaybeType::Typed(records::put_record(tree, at, left, out, p))
+    MaybeType::Typed(records::put_record(tree, type_ann, left - 1, out, p))
 }
 
 // An array-typed Id that is spread: `Expr::Ident(ident) if self.array_typed_ids.contains(&ident.to_id())`.

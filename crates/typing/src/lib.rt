@@ -4,9 +4,9 @@ ghost use mathlib.Core.Path.{_≡_};
 ghost use mathlib.Core.Bool.{_||_};
 ghost use Prim.Native.Nat.{_+_, _≤_};
 ghost use lib.ListN.{length};
-ghost use Rattle.definition.specs.Tree.{headSize, markAt};
+ghost use Rattle.definition.specs.Tree.{headSize, markAt, bodyAt};
 ghost use Rattle.definition.specs.Grammar.{mark};
-ghost use Rattle.typing.specs.Did.{Ready, typeOf, diagAt, backTo, typedAs, Marks, Did, Gave, Filled};
+ghost use Rattle.typing.specs.Did.{Ready, mutableMode, typeOf, diagAt, backTo, typedAs, Marks, Did, Gave, Filled};
 ghost use Rattle.typing.specs.Below.{tupleType, elementType, restType, memberType, paramType, functionMark, paramsFrom, functionOf, patType};
 ghost use Rattle.typing.specs.Below.{Gives, countedOf, DidAll};
 use crate::leaves::array_ident;
@@ -18,6 +18,9 @@ use crate::made::put_ranged;
 use crate::made::put_shorthand;
 use crate::params::child_at;
 use crate::params::put_fn_front;
+use crate::params::put_named;
+use crate::params::put_unnamed;
+use crate::params::unique_binding_size;
 use records::HEAD_SIZE;
 use records::marks::AG;
 use records::marks::AR;
@@ -214,4 +217,525 @@ fn shorthand(
     let mut next = s;
     next.p = end;
     Counted { s: next, count: 1 }
+}
+
+// How the default of a parameter is typed: `self.expr_to_ts_type(*assign_pat.right, false, false)`.
+fn mutable(unresolved: u32) -> Mode
+    ensures { λ r. ⌜ r ≡ mutableMode unresolved ⌝ }
+{
+    Mode {
+        unresolved,
+        as_const: false,
+        as_readonly: false,
+        frozen: false,
+    }
+}
+
+// The number of children before the parameters: of a Fu its type parameters, its return type and its body, of an Aw the first two.
+fn params_from(function: bool) -> usize
+    ensures { λ r. ⌜ r ≡ paramsFrom function ⌝ }
+{
+    if function {
+        return 3;
+    }
+    2
+}
+
+// `expr_to_ts_type`: the type of the expression at `at`, arm by arm.
+pub fn expr_to_ts_type(
+    tree: &[u8],
+    at: usize,
+    left: usize,
+    mode: Mode,
+    out: &mut [u8],
+    diagnostics: &mut [u8],
+    s: State,
+) -> Typed
+    requires { ⌜ Ready left (now tree) at (s .n) ⌝ }
+    ensures { λ r. ⌜
+        Did (now (out .entry)) (now (out .exit)) (now (diagnostics .entry)) (now (diagnostics .exit)) s r
+        (typeOf (now (tree .entry)) mode left at (s .n))
+        ⌝ }
+{
+    match records::mark_at(tree, at) {
+        AR => array_type(tree, at, left, mode, out, diagnostics, s),
+        OB => object_type(tree, at, left, mode, out, diagnostics, s),
+        TC => {
+            let mut asserted = mode;
+            asserted.as_const = true;
+            asserted.as_readonly = true;
+            let expr = records::body_at(tree, at);
+            expr_to_ts_type(tree, expr, left - 1, asserted, out, diagnostics, s)
+        }
+        TS => {
+            let expr = records::body_at(tree, at);
+            expr_to_ts_type(tree, expr, left - 1, mode, out, diagnostics, s)
+        }
+        AS => answer_of(s, as_type(tree, at, left, mode.frozen, out, s.p)),
+        FX => {
+            let fu = child_at(tree, at, left, 1);
+            function_type(
+                tree,
+                fu,
+                left - 1,
+                mode.unresolved,
+                true,
+                out,
+                diagnostics,
+                s,
+            )
+        }
+        AW => function_type(tree, at, left, mode.unresolved, false, out, diagnostics, s),
+        CA => call_type(tree, at, left, mode, out, diagnostics, s),
+        _ => answer_of(s, leaf_type(tree, at, left, mode, out, s.p)),
+    }
+}
+
+// `Expr::Array`: a tuple, readonly where `as_readonly` or `readonly_of` asks for it.
+fn array_type(
+    tree: &[u8],
+    at: usize,
+    left: usize,
+    mode: Mode,
+    out: &mut [u8],
+    diagnostics: &mut [u8],
+    s: State,
+) -> Typed
+    requires { ⌜ Ready left (now tree) at (s .n) × (markAt (now tree) at ≡ mark "Ar") ⌝ }
+    ensures { λ r. ⌜
+        Did (now (out .entry)) (now (out .exit)) (now (diagnostics .entry)) (now (diagnostics .exit)) s r
+        (typeOf (now (tree .entry)) mode left at (s .n))
+        ⌝ }
+{
+    if !is_readonly(mode) {
+        return tuple_type(tree, at, left, mode, out, diagnostics, s);
+    }
+    let mut next = s;
+    next.p = swc_helpers::ts_readonly(out, s.p);
+    match tuple_type(tree, at, left, mode, out, diagnostics, next) {
+        Typed::Some(made) => Typed::Some(made),
+        Typed::None(failed) => Typed::None(back(s, failed)),
+    }
+}
+
+// `TsTupleType`, from the elements of the Ar at `at`.
+fn tuple_type(
+    tree: &[u8],
+    at: usize,
+    left: usize,
+    mode: Mode,
+    out: &mut [u8],
+    diagnostics: &mut [u8],
+    s: State,
+) -> Typed
+    requires { ⌜ Ready left (now tree) at (s .n) ⌝ }
+    ensures { λ r. ⌜
+        Did (now (out .entry)) (now (out .exit)) (now (diagnostics .entry)) (now (diagnostics .exit)) s r
+        (tupleType (now (tree .entry)) mode left at (s .n))
+        ⌝ }
+{
+    let head = records::read_head(tree, at);
+    let mut n = head.count;
+    let mut child = records::body_at(tree, at);
+    let mut next = s;
+    next.p = records::advance(s.p, HEAD_SIZE);
+    let mut count = 0;
+    while 0 < n {
+        match element_type(tree, child, left - 1, mode, out, diagnostics, next) {
+            Elements::All(made) => {
+                next = made.s;
+                count += made.count;
+            }
+            Elements::Failed(failed) => {
+                return Typed::None(back(s, failed));
+            }
+        }
+        child = records::record_end(tree, child, left - 1);
+        n -= 1;
+    }
+    put_ranged(TU, head.start, head.end, count, out, s.p);
+    Typed::Some(next)
+}
+
+// One of `arr.elems`; the Ops of the array stand behind them.
+fn element_type(
+    tree: &[u8],
+    at: usize,
+    left: usize,
+    mode: Mode,
+    out: &mut [u8],
+    diagnostics: &mut [u8],
+    s: State,
+) -> Elements
+    requires { ⌜ Ready left (now tree) at (s .n) ⌝ }
+    ensures { λ r. ⌜
+        DidAll (now (out .entry)) (now (out .exit)) (now (diagnostics .entry)) (now (diagnostics .exit)) s r
+        (elementType (now (tree .entry)) mode left at (s .n))
+        ⌝ }
+{
+    let mut next = s;
+    match records::mark_at(tree, at) {
+        OP => Elements::All(Counted { s, count: 0 }),
+        SP => spread_type(tree, at, left, mode, out, diagnostics, s),
+        NO => {
+            let q = swc_helpers::ts_tuple_element(out, s.p);
+            next.p = swc_helpers::any_type_ann(out, q);
+            Elements::All(Counted { s: next, count: 1 })
+        }
+        _ => {
+            let mut inner = mode;
+            inner.frozen = false;
+            next.p = swc_helpers::ts_tuple_element(out, s.p);
+            let t = expr_to_ts_type(tree, at, left, inner, out, diagnostics, next);
+            let made = or_any(tree, at, D1, t, out, diagnostics);
+            Elements::All(Counted { s: made, count: 1 })
+        }
+    }
+}
+
+// `expr_or_spread.spread.is_some()`: a rest of what is spread, or "give up on the whole array".
+fn spread_type(
+    tree: &[u8],
+    at: usize,
+    left: usize,
+    mode: Mode,
+    out: &mut [u8],
+    diagnostics: &mut [u8],
+    s: State,
+) -> Elements
+    requires { ⌜ Ready left (now tree) at (s .n) × (markAt (now tree) at ≡ mark "Sp") ⌝ }
+    ensures { λ r. ⌜
+        DidAll (now (out .entry)) (now (out .exit)) (now (diagnostics .entry)) (now (diagnostics .exit)) s r
+        (elementType (now (tree .entry)) mode left at (s .n))
+        ⌝ }
+{
+    let expr = records::body_at(tree, at);
+    let q = swc_helpers::ts_tuple_element(out, s.p);
+    let mut next = s;
+    next.p = swc_helpers::ts_rest_type(out, q);
+    match rest_type(tree, expr, left - 1, mode, out, diagnostics, next) {
+        Typed::Some(made) => Elements::All(Counted { s: made, count: 1 }),
+        Typed::None(failed) => {
+            let given_up = back(s, failed);
+            Elements::Failed(mark_diagnostic(tree, at, D4, diagnostics, given_up))
+        }
+    }
+}
+
+// `rest_type`: an array-typed name, or an array literal (`as_readonly` off).
+fn rest_type(
+    tree: &[u8],
+    at: usize,
+    left: usize,
+    mode: Mode,
+    out: &mut [u8],
+    diagnostics: &mut [u8],
+    s: State,
+) -> Typed
+    requires { ⌜ Ready left (now tree) at (s .n) ⌝ }
+    ensures { λ r. ⌜
+        Did (now (out .entry)) (now (out .exit)) (now (diagnostics .entry)) (now (diagnostics .exit)) s r
+        (restType (now (tree .entry)) mode left at (s .n))
+        ⌝ }
+{
+    match records::mark_at(tree, at) {
+        ID => answer_of(s, array_ident(tree, at, left, out, s.p)),
+        AR => {
+            let mut inner = mode;
+            inner.as_readonly = false;
+            inner.frozen = false;
+            expr_to_ts_type(tree, at, left, inner, out, diagnostics, s)
+        }
+        _ => Typed::None(s),
+    }
+}
+
+// `Expr::Object`: a type literal of the members that its properties give.
+fn object_type(
+    tree: &[u8],
+    at: usize,
+    left: usize,
+    mode: Mode,
+    out: &mut [u8],
+    diagnostics: &mut [u8],
+    s: State,
+) -> Typed
+    requires { ⌜ Ready left (now tree) at (s .n) × (markAt (now tree) at ≡ mark "Ob") ⌝ }
+    ensures { λ r. ⌜
+        Did (now (out .entry)) (now (out .exit)) (now (diagnostics .entry)) (now (diagnostics .exit)) s r
+        (typeOf (now (tree .entry)) mode left at (s .n))
+        ⌝ }
+{
+    let head = records::read_head(tree, at);
+    let mut n = head.count;
+    let mut child = records::body_at(tree, at);
+    let mut next = s;
+    next.p = records::advance(s.p, HEAD_SIZE);
+    let mut count = 0;
+    while 0 < n {
+        let made = property_type(tree, child, left - 1, mode, out, diagnostics, next);
+        next = made.s;
+        count += made.count;
+        child = records::record_end(tree, child, left - 1);
+        n -= 1;
+    }
+    put_ranged(LI, head.start, head.end, count, out, s.p);
+    Typed::Some(next)
+}
+
+// One of `obj.props`.
+fn property_type(
+    tree: &[u8],
+    at: usize,
+    left: usize,
+    mode: Mode,
+    out: &mut [u8],
+    diagnostics: &mut [u8],
+    s: State,
+) -> Counted
+    requires { ⌜ Ready left (now tree) at (s .n) ⌝ }
+    ensures { λ r. ⌜
+        Gives (now (out .entry)) (now (out .exit)) (now (diagnostics .entry)) (now (diagnostics .exit)) s r
+        (memberType (now (tree .entry)) mode left at (s .n))
+        ⌝ }
+{
+    match records::mark_at(tree, at) {
+        KV => key_value(tree, at, left, mode, out, diagnostics, s),
+        SH => shorthand(tree, at, left, mode, out, diagnostics, s),
+        SP => skipped(tree, at, D4, diagnostics, s),
+        OP => Counted { s, count: 0 },
+        _ => skipped(tree, at, D3, diagnostics, s),
+    }
+}
+
+// `Prop::KeyValue`.
+fn key_value(
+    tree: &[u8],
+    at: usize,
+    left: usize,
+    mode: Mode,
+    out: &mut [u8],
+    diagnostics: &mut [u8],
+    s: State,
+) -> Counted
+    requires { ⌜ Ready left (now tree) at (s .n) × (markAt (now tree) at ≡ mark "Kv") ⌝ }
+    ensures { λ r. ⌜
+        Gives (now (out .entry)) (now (out .exit)) (now (diagnostics .entry)) (now (diagnostics .exit)) s r
+        (memberType (now (tree .entry)) mode left at (s .n))
+        ⌝ }
+{
+    let key = records::body_at(tree, at);
+    let value = records::record_end(tree, key, left - 1);
+    let mut inner = mode;
+    inner.frozen = false;
+    let next = put_keyed(tree, key, left - 1, is_readonly(mode), out, s);
+    let t = expr_to_ts_type(tree, value, left - 1, inner, out, diagnostics, next);
+    let made = or_any(tree, value, D2, t, out, diagnostics);
+    Counted { s: made, count: 1 }
+}
+
+// `Expr::Call`: of `Object.freeze`, `readonly_of` the type of its argument.
+fn call_type(
+    tree: &[u8],
+    at: usize,
+    left: usize,
+    mode: Mode,
+    out: &mut [u8],
+    diagnostics: &mut [u8],
+    s: State,
+) -> Typed
+    requires { ⌜ Ready left (now tree) at (s .n) × (markAt (now tree) at ≡ mark "Ca") ⌝ }
+    ensures { λ r. ⌜
+        Did (now (out .entry)) (now (out .exit)) (now (diagnostics .entry)) (now (diagnostics .exit)) s r
+        (typeOf (now (tree .entry)) mode left at (s .n))
+        ⌝ }
+{
+    let found = swc_helpers::object_freeze_call_arg(tree, at, left, mode.unresolved);
+    let Found::At(arg) = found else {
+        return Typed::None(s);
+    };
+    let mut frozen = mode;
+    frozen.frozen = true;
+    let inner_type = expr_to_ts_type(tree, arg, left - 1, frozen, out, diagnostics, s);
+    let Typed::Some(next) = inner_type else {
+        return inner_type;
+    };
+    Typed::Some(next)
+}
+
+// `Expr::Fn`, at its Fu, and `Expr::Arrow`: a function's type.
+fn function_type(
+    tree: &[u8],
+    at: usize,
+    left: usize,
+    unresolved: u32,
+    function: bool,
+    out: &mut [u8],
+    diagnostics: &mut [u8],
+    s: State,
+) -> Typed
+    requires { ⌜ Ready left (now tree) at (s .n) × (markAt (now tree) at ≡ functionMark function) ⌝ }
+    ensures { λ r. ⌜
+        Did (now (out .entry)) (now (out .exit)) (now (diagnostics .entry)) (now (diagnostics .exit)) s r
+        (functionOf (now (tree .entry)) unresolved function left at (s .n))
+        ⌝ }
+{
+    let head = records::read_head(tree, at);
+    let first = params_from(function);
+    let mut n = head.count - first;
+    let mut child = child_at(tree, at, left, first);
+    let q = records::advance(s.p, HEAD_SIZE);
+    let mut next = s;
+    next.p = put_fn_front(tree, at, left, out, q);
+    let mut count = 0;
+    while 0 < n {
+        let made = param_type(
+            tree,
+            child,
+            left - 1,
+            unresolved,
+            function,
+            out,
+            diagnostics,
+            next,
+        );
+        next = made.s;
+        count += made.count;
+        child = records::record_end(tree, child, left - 1);
+        n -= 1;
+    }
+    put_ranged(FT, head.start, head.end, 2 + count, out, s.p);
+    Typed::Some(next)
+}
+
+// One of `fn_expr.function.params`, a Pa, or of `arrow_expr.params`, a pattern; the Ops stand behind them.
+fn param_type(
+    tree: &[u8],
+    at: usize,
+    left: usize,
+    unresolved: u32,
+    function: bool,
+    out: &mut [u8],
+    diagnostics: &mut [u8],
+    s: State,
+) -> Counted
+    requires { ⌜ Ready left (now tree) at (s .n) ⌝ }
+    ensures { λ r. ⌜
+        Gives (now (out .entry)) (now (out .exit)) (now (diagnostics .entry)) (now (diagnostics .exit)) s r
+        (paramType (now (tree .entry)) unresolved function left at (s .n))
+        ⌝ }
+{
+    if !function {
+        return one_or_none(pat_to_ts_fn_param(tree, at, left, unresolved, out, diagnostics, s));
+    }
+    if records::mark_at(tree, at) != PA {
+        return Counted { s, count: 0 };
+    }
+    let pattern = records::body_at(tree, at);
+    one_or_none(pat_to_ts_fn_param(tree, pattern, left - 1, unresolved, out, diagnostics, s))
+}
+
+// `pat_to_ts_fn_param`.
+pub fn pat_to_ts_fn_param(
+    tree: &[u8],
+    at: usize,
+    left: usize,
+    unresolved: u32,
+    out: &mut [u8],
+    diagnostics: &mut [u8],
+    s: State,
+) -> Typed
+    requires { ⌜ Ready left (now tree) at (s .n) ⌝ }
+    ensures { λ r. ⌜
+        Gave (now (out .entry)) (now (out .exit)) (now (diagnostics .entry)) (now (diagnostics .exit)) s r
+        (patType (now (tree .entry)) unresolved left at (s .n))
+        ⌝ }
+{
+    match records::mark_at(tree, at) {
+        BD | PB | RS | PO => {
+            let mut next = s;
+            next.p = records::put_record(tree, at, left, out, s.p);
+            Typed::Some(next)
+        }
+        AG => {
+            let pattern = records::body_at(tree, at);
+            if records::mark_at(tree, pattern) == BD {
+                return named_param(tree, at, left, unresolved, out, diagnostics, s);
+            }
+            unnamed_param(tree, at, left, unresolved, out, diagnostics, s)
+        }
+        PE => {
+            let expr = records::body_at(tree, at);
+            Typed::None(mark_diagnostic(tree, expr, D1, diagnostics, s))
+        }
+        _ => Typed::None(s),
+    }
+}
+
+// `Pat::Assign` of a name: the parameter has that name and the type of the default.
+fn named_param(
+    tree: &[u8],
+    at: usize,
+    left: usize,
+    unresolved: u32,
+    out: &mut [u8],
+    diagnostics: &mut [u8],
+    s: State,
+) -> Typed
+    requires { ⌜ Ready left (now tree) at (s .n) × (markAt (now tree) at ≡ mark "Ag") ⌝ }
+    requires { ⌜ markAt (now tree) (bodyAt (now tree) at) ≡ mark "Bd" ⌝ }
+    ensures { λ r. ⌜
+        Gave (now (out .entry)) (now (out .exit)) (now (diagnostics .entry)) (now (diagnostics .exit)) s r
+        (patType (now (tree .entry)) unresolved left at (s .n))
+        ⌝ }
+{
+    let right = child_at(tree, at, left, 1);
+    let mut next = s;
+    next.p = put_named(tree, at, left, out, s.p);
+    match expr_to_ts_type(
+        tree,
+        right,
+        left - 1,
+        mutable(unresolved),
+        out,
+        diagnostics,
+        next,
+    ) {
+        Typed::Some(made) => Typed::Some(made),
+        Typed::None(failed) => Typed::None(back(s, failed)),
+    }
+}
+
+// `Pat::Assign` of another pattern: the parameter's name is generated once the default has been typed.
+fn unnamed_param(
+    tree: &[u8],
+    at: usize,
+    left: usize,
+    unresolved: u32,
+    out: &mut [u8],
+    diagnostics: &mut [u8],
+    s: State,
+) -> Typed
+    requires { ⌜ Ready left (now tree) at (s .n) × (markAt (now tree) at ≡ mark "Ag") ⌝ }
+    requires { ⌜ (markAt (now tree) (bodyAt (now tree) at) ≡ mark "Bd" → ⊥) ⌝ }
+    ensures { λ r. ⌜
+        Gave (now (out .entry)) (now (out .exit)) (now (diagnostics .entry)) (now (diagnostics .exit)) s r
+        (patType (now (tree .entry)) unresolved left at (s .n))
+        ⌝ }
+{
+    let right = child_at(tree, at, left, 1);
+    let mut next = s;
+    next.p = records::advance(s.p, unique_binding_size(s.n + 1));
+    match expr_to_ts_type(
+        tree,
+        right,
+        left - 1,
+        mutable(unresolved),
+        out,
+        diagnostics,
+        next,
+    ) {
+        Typed::Some(made) => Typed::Some(put_unnamed(tree, at, out, s, made)),
+        Typed::None(failed) => Typed::None(back(s, failed)),
+    }
 }

@@ -1,0 +1,59 @@
+-- `call_type`, a member of the cycle, meets its contract. Assumes nothing.
+use Prim.Native.Nat.{ℕ}
+use borrow.Author.Needs.{needs}
+use mathlib.Core.Path.{sym, _∙_}
+use native.Mathlib.Omega.{arith}
+use Rattle.definition.proofs.Children.{some-left}
+use Rattle.swc_helpers.proofs.Answers.{is-nothing, is-found}
+use Rattle.typing.proofs.Steps.{did-as, did-none, did-told, step-none}
+use Rattle.typing.proofs.ExprArms.{type-other-call, freeze-ready, freeze-is}
+use Rattle.typing.proofs.call_type.Reads as call-type
+use Rattle.typing.proofs.expr_to_ts_type.Reads as expr-to-ts-type
+use Rattle.swc_helpers.proofs.object_freeze_call_arg.Reads as object-freeze-call-arg-reads
+use Rattle.typing.proofs.+array_type+call_type+element_type+expr_to_ts_type+function_type+key_value+named_param+object_type+param_type+pat_to_ts_fn_param+property_type+rest_type+spread_type+tuple_type+unnamed_param.Lts-call_type as call-type-lts
+use Rattle.typing.proofs.+array_type+call_type+element_type+expr_to_ts_type+function_type+key_value+named_param+object_type+param_type+pat_to_ts_fn_param+property_type+rest_type+spread_type+tuple_type+unnamed_param.Proof.Base.{call-type-at, expr-to-ts-type-below}
+
+abbrev pub calls : ℕ → call-type-lts.Claims
+calls t = (object-freeze-call-arg-reads.Asked, object-freeze-call-arg-reads.Learnt, expr-to-ts-type-below t, expr-to-ts-type.Post)
+
+pub object-freeze-call-arg-requires : (t : ℕ) → call-type-lts.Need-object-freeze-call-arg-requires (calls t) (call-type-at t) call-type.Post
+object-freeze-call-arg-requires t c κs = ((c .before .before .before .pre .1 .0 .accepted), c .before .before .before .pre .1 .1)
+
+pub enum-known-found : (t : ℕ) → call-type-lts.Need-enum-known-found (calls t) (call-type-at t) call-type.Post
+enum-known-found t c = search needs
+
+pub enum-told : (t : ℕ) → call-type-lts.Need-enum-told (calls t) (call-type-at t) call-type.Post
+enum-told t c = search needs
+
+pub returns : (t : ℕ) → call-type-lts.Need-returns (calls t) (call-type-at t) call-type.Post
+returns t c = did-as (did-none (step-none _ _ (c .before .before .before .before .before .before .args .s) (omega (arith, c .before .before .before .before .before .before .good)) (omega (arith, c .before .before .before .before .before .before .good)))) (sym (type-other-call (c .before .before .before .before .before .before .args .tree .now) (c .before .before .before .before .before .before .args .mode) (c .before .before .before .before .before .before .args .left) (c .before .before .before .before .before .before .args .at) (c .before .before .before .before .before .before .args .s .n) (c .before .before .before .before .before .before .pre .1 .1) (is-nothing _ _ (sym (c .enum-told .given .1) ∙ c .before .before .object-freeze-call-arg .ensures))))
+
+pub sub-expr-to-ts-type : (t : ℕ) → call-type-lts.Need-sub-expr-to-ts-type (calls t) (call-type-at t) call-type.Post
+sub-expr-to-ts-type t c = omega (arith, some-left _ _ _ (c .before .before .before .before .before .before .before .pre .1 .0 .accepted))
+
+pub expr-to-ts-type-requires : (t : ℕ) → call-type-lts.Need-expr-to-ts-type-requires (calls t) (call-type-at t) call-type.Post
+expr-to-ts-type-requires t c κs = (omega (arith, c .before .before .before .before .before .before .before .before .before .pre .0, some-left _ _ _ (c .before .before .before .before .before .before .before .before .before .pre .1 .0 .accepted)), freeze-ready (c .before .before .before .before .before .before .before .before .before .args .tree .now) (c .before .before .before .before .before .before .before .before .before .args .mode) (c .before .before .before .before .before .before .before .before .before .args .left) (c .before .before .before .before .before .before .before .before .before .args .at) (c .before .before .before .before .before .before .before .before .before .args .s .n) (c .before .before .before .before .before .before .before .before .before .pre .1 .0) (c .before .before .before .before .before .before .before .before .before .pre .1 .1) (is-found _ _ _ (sym (c .before .before .before .found .given .1) ∙ c .before .before .before .before .before .object-freeze-call-arg .ensures)))
+
+pub enum-known-inner-type : (t : ℕ) → call-type-lts.Need-enum-known-inner-type (calls t) (call-type-at t) call-type.Post
+enum-known-inner-type t c = search needs
+
+pub enum-told-2 : (t : ℕ) → call-type-lts.Need-enum-told-2 (calls t) (call-type-at t) call-type.Post
+enum-told-2 t c = search needs
+
+pub returns-2 : (t : ℕ) → call-type-lts.Need-returns-2 (calls t) (call-type-at t) call-type.Post
+returns-2 t c = did-as (c .before .before .before .before .before .before .expr-to-ts-type .ensures) (freeze-is (c .before .before .before .before .before .before .before .before .before .before .before .before .before .before .before .before .args .tree .now) (c .before .before .before .before .before .before .before .before .before .before .before .before .before .before .before .before .args .mode) (c .before .before .before .before .before .before .before .before .before .before .before .before .before .before .before .before .args .left) (c .before .before .before .before .before .before .before .before .before .before .before .before .before .before .before .before .args .at) (c .before .before .before .before .before .before .before .before .before .before .before .before .before .before .before .before .args .s .n) (c .before .before .before .before .before .before .before .before .before .before .before .before .before .before .before .before .pre .1 .0 .accepted) (c .before .before .before .before .before .before .before .before .before .before .before .before .before .before .before .before .pre .1 .1) (is-found _ _ _ (sym (c .before .before .before .before .before .before .before .before .before .before .found .given .1) ∙ c .before .before .before .before .before .before .before .before .before .before .before .before .object-freeze-call-arg .ensures)))
+
+pub same-length : (t : ℕ) → call-type-lts.Need-same-length (calls t) (call-type-at t) call-type.Post
+same-length t c = returns-2 t c .step .ran .out .same
+
+pub same-length-2 : (t : ℕ) → call-type-lts.Need-same-length-2 (calls t) (call-type-at t) call-type.Post
+same-length-2 t c = returns-2 t c .step .ran .dia .same
+
+pub returns-3 : (t : ℕ) → call-type-lts.Need-returns-3 (calls t) (call-type-at t) call-type.Post
+returns-3 t c = did-told (c .before .inner-type .given .1) (did-as (c .before .before .before .before .before .before .before .expr-to-ts-type .ensures) (freeze-is (c .before .before .before .before .before .before .before .before .before .before .before .before .before .before .before .before .before .args .tree .now) (c .before .before .before .before .before .before .before .before .before .before .before .before .before .before .before .before .before .args .mode) (c .before .before .before .before .before .before .before .before .before .before .before .before .before .before .before .before .before .args .left) (c .before .before .before .before .before .before .before .before .before .before .before .before .before .before .before .before .before .args .at) (c .before .before .before .before .before .before .before .before .before .before .before .before .before .before .before .before .before .args .s .n) (c .before .before .before .before .before .before .before .before .before .before .before .before .before .before .before .before .before .pre .1 .0 .accepted) (c .before .before .before .before .before .before .before .before .before .before .before .before .before .before .before .before .before .pre .1 .1) (is-found _ _ _ (sym (c .before .before .before .before .before .before .before .before .before .before .before .found .given .1) ∙ c .before .before .before .before .before .before .before .before .before .before .before .before .before .object-freeze-call-arg .ensures))))
+
+pub same-length-3 : (t : ℕ) → call-type-lts.Need-same-length-3 (calls t) (call-type-at t) call-type.Post
+same-length-3 t c = returns-3 t c .step .ran .out .same
+
+pub same-length-4 : (t : ℕ) → call-type-lts.Need-same-length-4 (calls t) (call-type-at t) call-type.Post
+same-length-4 t c = returns-3 t c .step .ran .dia .same

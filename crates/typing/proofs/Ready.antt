@@ -1,0 +1,28 @@
+-- What a typing asks, of the children of a record of which it was asked. Assumes nothing.
+use mathlib.Core.Path.{_≡_, refl, sym, ap, _∙_}
+use mathlib.Core.List.{List}
+use Prim.Native.Nat.{ℕ, _+_, _-_, _≤_}
+use Prim.Native.String.{String}
+use native.Mathlib.Omega.{arith}
+use Rattle.definition.specs.Tree.{bodyAt, endAt}
+use Rattle.definition.specs.Children.{AcceptedAt, childAt}
+use Rattle.definition.proofs.Children.{end-after, child-1}
+use Rattle.definition.proofs.Kids.{Child, placed}
+use Rattle.typing.specs.Did.{Ready}
+
+module _ {left : ℕ} {tree : List ℕ} {at n : ℕ} (r : Ready left tree at n) where
+  -- the first child
+  pub ready-first : {p i : ℕ} {S : String} → Child left tree at i p S → p ≡ bodyAt tree at → Ready (left - 1) tree p n
+  ready-first k e = record { accepted = k .accepted; root = r .root; low = omega (arith, r .low, e) }
+
+  -- the second one, behind the first
+  pub ready-second : {b p i j : ℕ} {S T : String} → Child left tree at i b S → b ≡ bodyAt tree at → Child left tree at j p T → p ≡ endAt (left - 1) tree b → Ready (left - 1) tree p n
+  ready-second {b} j e k f = record { accepted = k .accepted; root = r .root; low = omega (arith, r .low, e, f, end-after (left - 1) tree b (j .accepted)) }
+
+-- where the second child begins
+pub second-at : (left : ℕ) (tree : List ℕ) (at : ℕ) {p : ℕ} → p ≡ childAt left tree at 1 → p ≡ endAt (left - 1) tree (bodyAt tree at)
+second-at left tree at e = e ∙ child-1 left tree at
+
+-- the same record, at another state
+pub ready-on : {left : ℕ} {tree : List ℕ} {at n m : ℕ} → Ready left tree at n → m ≡ n → Ready left tree at m
+ready-on {at = at} r e = record { accepted = r .accepted; root = r .root; low = omega (arith, r .low, e) }
