@@ -1,7 +1,10 @@
-// Links the archive that `rt staticlib grammar` writes.
+// Links the archives that `rt staticlib grammar` and, for the binary `typing`, `rt staticlib timed` write.
 fn main() {
     let root = std::env::var("CARGO_MANIFEST_DIR").unwrap();
-    println!("cargo:rustc-link-search=native={root}/../target/staticlib");
+    let archives = format!("{root}/../target/staticlib");
+    println!("cargo:rustc-link-search=native={archives}");
     println!("cargo:rustc-link-lib=static=grammar");
-    println!("cargo:rerun-if-changed={root}/../target/staticlib/libgrammar.a");
+    println!("cargo:rerun-if-changed={archives}/libgrammar.a");
+    println!("cargo:rustc-link-arg-bin=typing={archives}/libtimed.a");
+    println!("cargo:rerun-if-changed={archives}/libtimed.a");
 }

@@ -17,3 +17,10 @@ fn leaves() {
   let stdin = oracle::leaves::stdin(&trees);
   same("leaves", &stdin, &oracle::leaves::stdout(&trees));
 }
+
+#[test]
+fn types() {
+  let trees = oracle::types::trees();
+  let stdin = oracle::leaves::stdin(&trees);
+  same("types", &stdin, &oracle::types::stdout(&trees));
+}

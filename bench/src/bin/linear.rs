@@ -1,18 +1,6 @@
 //! The check of a tree, timed: how many times the time twice the bytes take.
-use bench::check;
+use bench::{check, record};
 use std::time::{Duration, Instant};
-
-fn record(mark: &str, text: &[u8], children: &[Vec<u8>]) -> Vec<u8> {
-    let mut bytes = mark.as_bytes().to_vec();
-    bytes.extend([0; 9]);
-    bytes.extend((text.len() as u16).to_le_bytes());
-    bytes.extend((children.len() as u16).to_le_bytes());
-    bytes.extend(text);
-    for child in children {
-        bytes.extend(child);
-    }
-    bytes
-}
 
 /// A module of items, as many as fit in n bytes.
 fn module(item: Vec<u8>, n: usize) -> Vec<u8> {
