@@ -4,6 +4,7 @@ ghost use Rattle.definition.specs.Check.{deepest};
 ghost use Rattle.definition.specs.Children.{AcceptedAt};
 ghost use Rattle.definition.specs.Grammar.{mark};
 ghost use Rattle.definition.specs.Tree.{markAt};
+ghost use Rattle.prescan.specs.Scope.{Skips};
 ghost use mathlib.Core.Path.{_≡_};
 use grammar::Checked;
 use grammar::Refusal;
@@ -11,6 +12,7 @@ use libc::STDIN_FILENO;
 use libc::STDOUT_FILENO;
 use names::Key;
 use prescan::Question;
+use prescan::Scope;
 use records::marks::AR;
 use records::marks::AS;
 use records::marks::AW;
@@ -246,15 +248,16 @@ fn show_call(tree: &[u8], at: usize, left: usize)
 
 // ---- Identifiers: the three questions, and the types that are made of a name
 
-fn show_questions(tree: &[u8], at: usize, left: usize)
+fn show_questions(tree: &[u8], at: usize, left: usize, scope: Scope)
     requires { ⌜ AcceptedAt left (now tree) at ⌝ }
     requires { ⌜ AcceptedAt deepest (now tree) 0 ⌝ }
+    requires { ⌜ Skips (now tree) scope ⌝ }
 {
-    let safe = prescan::asked(tree, at, left, Question::TypeofSafe);
+    let safe = prescan::asked(tree, at, left, scope, Question::TypeofSafe);
     print_bool(at, b"typeof_safe", safe);
-    let class = prescan::asked(tree, at, left, Question::NonGenericClass);
+    let class = prescan::asked(tree, at, left, scope, Question::NonGenericClass);
     print_bool(at, b"non_generic_class", class);
-    let array = prescan::asked(tree, at, left, Question::ArrayTyped);
+    let array = prescan::asked(tree, at, left, scope, Question::ArrayTyped);
     print_bool(at, b"array_typed", array);
 }
 
@@ -297,11 +300,12 @@ fn show_rest(tree: &[u8], at: usize, left: usize)
     print_written(&out, end);
 }
 
-fn show_identifier(tree: &[u8], at: usize, left: usize)
+fn show_identifier(tree: &[u8], at: usize, left: usize, scope: Scope)
     requires { ⌜ AcceptedAt left (now tree) at × (markAt (now tree) at ≡ mark "Id") ⌝ }
     requires { ⌜ AcceptedAt deepest (now tree) 0 ⌝ }
+    requires { ⌜ Skips (now tree) scope ⌝ }
 {
-    show_questions(tree, at, left);
+    show_questions(tree, at, left, scope);
     show_type_ref(tree, at, left);
     show_query(tree, at, left);
     show_reference(tree, at, left);
@@ -318,9 +322,10 @@ fn mark_of(tree: &[u8], at: usize, left: usize) -> u16
 }
 
 // The lines of the record at `at`, by its mark.
-fn show_record(tree: &[u8], at: usize, left: usize)
+fn show_record(tree: &[u8], at: usize, left: usize, scope: Scope)
     requires { ⌜ AcceptedAt left (now tree) at ⌝ }
     requires { ⌜ AcceptedAt deepest (now tree) 0 ⌝ }
+    requires { ⌜ Skips (now tree) scope ⌝ }
 {
     match mark_of(tree, at, left) {
         KI | KC => show_key(tree, at, left),
@@ -337,7 +342,7 @@ fn show_record(tree: &[u8], at: usize, left: usize)
         }
         ID => {
             show_expression(tree, at, left);
-            show_identifier(tree, at, left);
+            show_identifier(tree, at, left, scope);
         }
         TE => {
             show_expression(tree, at, left);
@@ -356,16 +361,36 @@ fn show_record(tree: &[u8], at: usize, left: usize)
 }
 
 // The lines of the record at `at` and of all below it.
-fn show_all(tree: &[u8], at: usize, left: usize)
+fn show_all(tree: &[u8], at: usize, left: usize, scope: Scope)
     requires { ⌜ AcceptedAt left (now tree) at ⌝ }
     requires { ⌜ AcceptedAt deepest (now tree) 0 ⌝ }
+    requires { ⌜ Skips (now tree) scope ⌝ }
 {
-    show_record(tree, at, left);
+    show_record(tree, at, left, scope);
     let mut n = records::count_at(tree, at);
     let mut kid = records::body_at(tree, at);
     while 0 < n {
-        show_all(tree, kid, left - 1);
+        show_all(tree, kid, left - 1, scope);
         kid = records::record_end(tree, kid, left - 1);
+        n -= 1;
+    }
+}
+
+// The lines of the items of a module; it has none itself.
+fn show_items(tree: &[u8])
+    requires { ⌜ AcceptedAt deepest (now tree) 0 ⌝ }
+{
+    let mut n = records::count_at(tree, 0);
+    let mut item = records::body_at(tree, 0);
+    while 0 < n {
+        let end = records::record_end(tree, item, records::DEEPEST - 1);
+        let scope = Scope {
+            unresolved: UNRESOLVED,
+            item,
+            end,
+        };
+        show_all(tree, item, records::DEEPEST - 1, scope);
+        item = end;
         n -= 1;
     }
 }
@@ -384,7 +409,7 @@ fn show_tree(tree: &[u8]) {
     match found {
         Checked::Fine(end) => {
             print(b"accepted\n");
-            show_all(tree, 0, records::DEEPEST);
+            show_items(tree);
         }
         Checked::Refused(refusal, place) => show_refusal(refusal, place),
     }

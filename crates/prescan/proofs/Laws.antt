@@ -3,12 +3,14 @@ use mathlib.Core.Path.{_≡_, refl, sym, ap, _∙_}
 use mathlib.Core.List.{List}
 use mathlib.Core.Bool.{Bool, true, false, cond, _&&_, _||_}
 use mathlib.Core.Logic.{_⊎_, inl, inr, ⊎-elim}
-use Prim.Native.Nat.{ℕ, _-_, _/_, _%_, _<_, _≤_}
+use Prim.Native.Nat.{ℕ, zero, suc, _-_, _/_, _%_, _<_, _≤_}
+use native.Mathlib.Omega.{arith}
 use lib.Dec.{eqb}
 use lib.ListN.{drop}
 use borrow.Author.Tests.{eq-eqb, ne-eqb}
 use Rattle.definition.specs.Tree.{Head, Rec, Recs, rec, nil, cons, markAt, flagsAt, countAt, textAt, bodyAt, headAt, readAll, endAt, treeAt}
 use Rattle.definition.specs.Grammar.{mark, marks, member, _or_, declaration, type, expression, pattern, optional, grammar, known, slots, place}
+use Rattle.definition.specs.Check.{checkAll}
 use Rattle.definition.specs.Children.{AcceptedAt, AllAccepted}
 use Rattle.definition.specs.Record.{text, sameText, kidsOf, markOf, is, isNo, kid}
 use Rattle.definition.specs.Prescan.{ArrayType, ArrayType.aArray, ArrayType.aReadonly, ArrayType.aRef, ArrayType.aOther, arrayTypeKind, refersToArray, isArrayTypeBy, isArrayType, firstIsArrayType, ArrayInit, ArrayInit.iArray, ArrayInit.iThrough, ArrayInit.iAs, ArrayInit.iOther, arrayInitKind, isArrayLitInitBy, isArrayLitInit, firstIsArrayLitInit, Question, Question.typeofSafe, Question.nonGenericClass, Question.arrayTyped, addClass, addConst, named, addDeclarator, addDeclarators, Declared, Declared.dFn, Declared.dClass, Declared.dVar, Declared.dOther, declaredKind, addDeclBy, addFn, addDecl, addItem, asked}
@@ -255,6 +257,12 @@ pub record Seek (F : Recs → Bool) (whole : Recs) (left : ℕ) (s : List ℕ) (
   pub all : AllAccepted left s n c
   pub rest : F whole ≡ F (readAll (treeAt left s) (endAt left s) n c)
 
+-- where none is left, none stands anywhere
+seek-elsewhere : {F : Recs → Bool} {whole : Recs} {left : ℕ} {s : List ℕ} (n : ℕ) {c d : ℕ} → Seek F whole left s n c → ((n ≡ 0 → ⊥) → d ≡ c) → Seek F whole left s n d
+unfolding checkAll readAll
+seek-elsewhere zero {d = d} i q = record { all = record { slots = i .all .slots; past = d; checked = refl }; rest = i .rest }
+seek-elsewhere (suc n) i q = rw (q (λ z. omega arith)) i
+
 pub seek-start : (F : Recs → Bool) {left : ℕ} {s : List ℕ} {at : ℕ} → AcceptedAt left s at → {n c : ℕ} → n ≡ countAt s at → c ≡ bodyAt s at →
     Seek F (kidsOf (treeAt left s at)) (left - 1) s n c
 seek-start F {left} {s} {at} a nq cq = rw (nq, cq) (record { all = children left s at a; rest = ap F (kids-are left s at a) })
@@ -274,8 +282,9 @@ module _ {F : Recs → Bool} {whole : Recs} {left : ℕ} {s : List ℕ} {n c : �
     pub seek-here : f (treeAt left s c) ≡ true → F whole ≡ true
     seek-here e = turn ∙ rw e
 
-    pub seek-next : f (treeAt left s c) ≡ false → {d : ℕ} → d ≡ endAt left s c → Seek F whole left s (n - 1) d
-    seek-next e dq = rw dq (record { all = others left s n c (i .all) h; rest = turn ∙ rw e })
+    -- the next stands at d, unless that was the last
+    pub seek-next : f (treeAt left s c) ≡ false → {d : ℕ} → ((n ≡ 1 → ⊥) → d ≡ endAt left s c) → Seek F whole left s (n - 1) d
+    seek-next e dq = seek-elsewhere (n - 1) (record { all = others left s n c (i .all) h; rest = turn ∙ rw e }) (λ more. dq (λ one. more (omega arith)))
 
 -- ---- the declarators of a const
 

@@ -1,13 +1,15 @@
 // `prescan_module_ids`: the three sets of module-level names, as questions put to the items of the module.
 ghost use mathlib.Core.Path.{_≡_};
 ghost use Prim.Native.Nat.{_-_};
-ghost use Rattle.definition.specs.Tree.{markAt, textAt, treeAt};
+ghost use Rattle.definition.specs.Tree.{markAt, textAt, endAt, treeAt};
 ghost use Rattle.definition.specs.Grammar.{mark};
 ghost use Rattle.definition.specs.Check.{deepest};
 ghost use Rattle.definition.specs.Children.{AcceptedAt};
 ghost use Rattle.definition.specs.Record.{kidsOf};
 ghost use Rattle.definition.specs.Prescan.{isArrayType, refersToArray, isArrayLitInit, addFn, addClass, addConst, named, addDeclarator, addDecl, addItem, asked};
+ghost use Rattle.records.specs.Whole.{Whole};
 ghost use Rattle.prescan.specs.Question.{meant, addVar};
+ghost use Rattle.prescan.specs.Scope.{Skips};
 use records::DEEPEST;
 use records::body_at;
 use records::count_at;
@@ -44,6 +46,14 @@ pub enum Question {
     TypeofSafe,
     NonGenericClass,
     ArrayTyped,
+}
+
+// The unresolved context, and the item of the module in which the names stand: where it begins and where it ends, so that a walk over the items
+// needs not walk that one.
+pub struct Scope {
+    pub unresolved: u32,
+    pub item: usize,
+    pub end: usize,
 }
 
 // The arm of `is_array_type` for `TsTypeRef`, at the name: `Array` or `ReadonlyArray` in any context, "only its symbol counts".
@@ -174,6 +184,29 @@ fn add_declarator(tree: &[u8], at: usize, left: usize, name: &[u8], question: Qu
     false
 }
 
+// Where the record behind the one at `at` begins, which is the first of n; the last is not walked, since none stands behind it.
+fn next_one(tree: &[u8], at: usize, left: usize, n: usize) -> usize
+    requires { ⌜ Whole left (now tree) at ⌝ }
+    ensures { λ r. ⌜ ((n ≡ 1 → ⊥) → r ≡ endAt left (now (tree .entry)) at) ⌝ }
+{
+    if n == 1 {
+        return at;
+    }
+    record_end(tree, at, left)
+}
+
+// The same for an item of the module; the one in which the names stand is not walked either.
+fn next_item(tree: &[u8], at: usize, n: usize, scope: Scope) -> usize
+    requires { ⌜ Whole (deepest - 1) (now tree) at ⌝ }
+    requires { ⌜ Skips (now tree) scope ⌝ }
+    ensures { λ r. ⌜ ((n ≡ 1 → ⊥) → r ≡ endAt (deepest - 1) (now (tree .entry)) at) ⌝ }
+{
+    if at == scope.item {
+        return scope.end;
+    }
+    next_one(tree, at, DEEPEST - 1, n)
+}
+
 // `add_decl`, the arm for `Decl::Var`: the declarators of a const.
 fn add_var(tree: &[u8], at: usize, left: usize, name: &[u8], question: Question) -> bool
     requires { ⌜ AcceptedAt left (now tree) at ⌝ }
@@ -189,7 +222,7 @@ fn add_var(tree: &[u8], at: usize, left: usize, name: &[u8], question: Question)
         if add_declarator(tree, declarator, left - 1, name, question) {
             return true;
         }
-        declarator = record_end(tree, declarator, left - 1);
+        declarator = next_one(tree, declarator, left - 1, n);
         n -= 1;
     }
     false
@@ -232,9 +265,10 @@ fn add_item(tree: &[u8], at: usize, left: usize, name: &[u8], question: Question
 }
 
 // `prescan_module_ids`: whether some item of the module adds the name of the Id at `id`, its context and its symbol, to the set that is asked for.
-pub fn asked(tree: &[u8], id: usize, left: usize, question: Question) -> bool
+pub fn asked(tree: &[u8], id: usize, left: usize, scope: Scope, question: Question) -> bool
     requires { ⌜ AcceptedAt left (now tree) id ⌝ }
     requires { ⌜ AcceptedAt deepest (now tree) 0 ⌝ }
+    requires { ⌜ Skips (now tree) scope ⌝ }
     ensures { λ r. ⌜ r ≡ asked (meant question) (kidsOf (treeAt deepest (now (tree .entry)) 0)) (textAt (now (tree .entry)) id) ⌝ }
 {
     let name = text_at(tree, id);
@@ -244,7 +278,7 @@ pub fn asked(tree: &[u8], id: usize, left: usize, question: Question) -> bool
         if add_item(tree, item, DEEPEST - 1, name, question) {
             return true;
         }
-        item = record_end(tree, item, DEEPEST - 1);
+        item = next_item(tree, item, n, scope);
         n -= 1;
     }
     false

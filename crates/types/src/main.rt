@@ -5,10 +5,12 @@ ghost use mathlib.Core.Path.{_≡_};
 ghost use lib.ListN.{length};
 ghost use Rattle.definition.specs.Check.{deepest};
 ghost use Rattle.definition.specs.Children.{AcceptedAt};
+ghost use Rattle.prescan.specs.Scope.{Skips};
 use grammar::Checked;
 use grammar::Refusal;
 use libc::STDIN_FILENO;
 use libc::STDOUT_FILENO;
+use prescan::Scope;
 use records::marks::XE;
 use typing::Mode;
 use typing::State;
@@ -103,6 +105,7 @@ fn show_label(at: usize, mode: Mode) {
 fn dry_run(tree: &[u8], at: usize, left: usize, mode: Mode) -> State
     requires { ⌜ AcceptedAt left (now tree) at ⌝ }
     requires { ⌜ AcceptedAt deepest (now tree) 0 ⌝ }
+    requires { ⌜ Skips (now tree) (mode .scope) ⌝ }
 {
     let mut out = [0u8; 1];
     let mut diagnostics = [0u8; 1];
@@ -124,6 +127,7 @@ fn dry_run(tree: &[u8], at: usize, left: usize, mode: Mode) -> State
 fn run(tree: &[u8], at: usize, left: usize, mode: Mode, out: &mut [u8], diagnostics: &mut [u8])
     requires { ⌜ AcceptedAt left (now tree) at ⌝ }
     requires { ⌜ AcceptedAt deepest (now tree) 0 ⌝ }
+    requires { ⌜ Skips (now tree) (mode .scope) ⌝ }
 {
     let typed = typing::expr_to_ts_type(tree, at, left, mode, out, diagnostics, start());
     show_label(at, mode);
@@ -143,12 +147,13 @@ fn unwritten() -> [u8; ROOM]
     [0xa5; ROOM]
 }
 
-fn show_typing(tree: &[u8], at: usize, left: usize, as_const: bool, as_readonly: bool)
+fn show_typing(tree: &[u8], at: usize, left: usize, scope: Scope, as_const: bool, as_readonly: bool)
     requires { ⌜ AcceptedAt left (now tree) at ⌝ }
     requires { ⌜ AcceptedAt deepest (now tree) 0 ⌝ }
+    requires { ⌜ Skips (now tree) scope ⌝ }
 {
     let mode = Mode {
-        unresolved: UNRESOLVED,
+        scope,
         as_const,
         as_readonly,
         frozen: false,
@@ -172,25 +177,27 @@ fn show_typing(tree: &[u8], at: usize, left: usize, as_const: bool, as_readonly:
 // ---- Modules
 
 // The typings of the expression at `at`, in the four modes.
-fn show_typings(tree: &[u8], at: usize, left: usize)
+fn show_typings(tree: &[u8], at: usize, left: usize, scope: Scope)
     requires { ⌜ AcceptedAt left (now tree) at ⌝ }
     requires { ⌜ AcceptedAt deepest (now tree) 0 ⌝ }
+    requires { ⌜ Skips (now tree) scope ⌝ }
 {
-    show_typing(tree, at, left, false, false);
-    show_typing(tree, at, left, false, true);
-    show_typing(tree, at, left, true, false);
-    show_typing(tree, at, left, true, true);
+    show_typing(tree, at, left, scope, false, false);
+    show_typing(tree, at, left, scope, false, true);
+    show_typing(tree, at, left, scope, true, false);
+    show_typing(tree, at, left, scope, true, true);
 }
 
 // Those of the expression of an Xe; other items have none.
-fn show_item(tree: &[u8], at: usize, left: usize)
+fn show_item(tree: &[u8], at: usize, left: usize, scope: Scope)
     requires { ⌜ AcceptedAt left (now tree) at ⌝ }
     requires { ⌜ AcceptedAt deepest (now tree) 0 ⌝ }
+    requires { ⌜ Skips (now tree) scope ⌝ }
 {
     if records::mark_at(tree, at) != XE {
         return;
     }
-    show_typings(tree, records::body_at(tree, at), left - 1);
+    show_typings(tree, records::body_at(tree, at), left - 1, scope);
 }
 
 fn show_items(tree: &[u8])
@@ -199,8 +206,14 @@ fn show_items(tree: &[u8])
     let mut n = records::count_at(tree, 0);
     let mut item = records::body_at(tree, 0);
     while 0 < n {
-        show_item(tree, item, records::DEEPEST - 1);
-        item = records::record_end(tree, item, records::DEEPEST - 1);
+        let end = records::record_end(tree, item, records::DEEPEST - 1);
+        let scope = Scope {
+            unresolved: UNRESOLVED,
+            item,
+            end,
+        };
+        show_item(tree, item, records::DEEPEST - 1, scope);
+        item = end;
         n -= 1;
     }
 }

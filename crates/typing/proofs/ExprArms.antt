@@ -111,19 +111,19 @@ module _ (tree : List ℕ) (m : Mode) (left at n : ℕ) where
   ids = idsOf tree
 
   type-by : (k : Expr) → exprKind (markAt tree at) ≡ k
-      → typeOf tree m left at n ≡ frozenIf (m .frozen) (exprBy ids (m .unresolved) k (headOf t) (kidsOf t) (m .as_const) (m .as_readonly) (belowOf ids (m .unresolved) (kidsOf t)) n)
+      → typeOf tree m left at n ≡ frozenIf (m .frozen) (exprBy ids (m .scope .unresolved) k (headOf t) (kidsOf t) (m .as_const) (m .as_readonly) (belowOf ids (m .scope .unresolved) (kidsOf t)) n)
   unfolding typeOf
   type-by k e =
-      ap (frozenIf (m .frozen)) (expr-eta ids (m .unresolved) t (m .as_const) (m .as_readonly) n
-      ∙ ap (λ (x : Expr). exprBy ids (m .unresolved) x (headOf t) (kidsOf t) (m .as_const) (m .as_readonly) (belowOf ids (m .unresolved) (kidsOf t)) n) (ap exprKind (mark-is left tree at) ∙ e))
+      ap (frozenIf (m .frozen)) (expr-eta ids (m .scope .unresolved) t (m .as_const) (m .as_readonly) n
+      ∙ ap (λ (x : Expr). exprBy ids (m .scope .unresolved) x (headOf t) (kidsOf t) (m .as_const) (m .as_readonly) (belowOf ids (m .scope .unresolved) (kidsOf t)) n) (ap exprKind (mark-is left tree at) ∙ e))
 
   -- ---- `Expr::Array`
 
   type-array : markAt tree at ≡ mark "Ar"
       → typeOf tree m left at n
-      ≡ onValue (λ (ts : Option Recs). given ts none (λ ts. some (tupleOf (headOf t) (m .as_readonly || m .frozen) ts))) (elements ids (m .unresolved) (kidsOf t) (m .as_const) (m .as_readonly) n)
+      ≡ onValue (λ (ts : Option Recs). given ts none (λ ts. some (tupleOf (headOf t) (m .as_readonly || m .frozen) ts))) (elements ids (m .scope .unresolved) (kidsOf t) (m .as_const) (m .as_readonly) n)
   unfolding exprKind exprBy
-  type-array e = type-by xArray (rw e) ∙ frozen-tuple (m .frozen) (m .as_readonly) (headOf t) (elements ids (m .unresolved) (kidsOf t) (m .as_const) (m .as_readonly) n)
+  type-array e = type-by xArray (rw e) ∙ frozen-tuple (m .frozen) (m .as_readonly) (headOf t) (elements ids (m .scope .unresolved) (kidsOf t) (m .as_const) (m .as_readonly) n)
 
   pub array-plain : markAt tree at ≡ mark "Ar" → (m .as_readonly || m .frozen) ≡ false → tupleType tree m left at n ≡ typeOf tree m left at n
   unfolding tupleType
@@ -131,33 +131,33 @@ module _ (tree : List ℕ) (m : Mode) (left at n : ℕ) where
 
   pub array-readonly : markAt tree at ≡ mark "Ar" → (m .as_readonly || m .frozen) ≡ true → wrapped tsReadonly (tupleType tree m left at n) ≡ typeOf tree m left at n
   unfolding tupleType
-  array-readonly e f = sym (type-array e ∙ rw f (wrap-tuple (headOf t) (elements ids (m .unresolved) (kidsOf t) (m .as_const) (m .as_readonly) n)))
+  array-readonly e f = sym (type-array e ∙ rw f (wrap-tuple (headOf t) (elements ids (m .scope .unresolved) (kidsOf t) (m .as_const) (m .as_readonly) n)))
 
   -- ---- `Expr::Object`
 
   pub type-object : markAt tree at ≡ mark "Ob"
       → typeOf tree m left at n
-      ≡ onValue (λ (ms : Recs). some (rec (ranged "Li" (headOf t) []) (membersIf (m .frozen) ms))) (props ids (m .unresolved) (kidsOf t) (m .as_const) (m .as_readonly) n)
+      ≡ onValue (λ (ms : Recs). some (rec (ranged "Li" (headOf t) []) (membersIf (m .frozen) ms))) (props ids (m .scope .unresolved) (kidsOf t) (m .as_const) (m .as_readonly) n)
   unfolding exprKind exprBy
   type-object e =
       type-by xObject (rw e)
-      ∙ frozen-lit (m .frozen) (headOf t) (props ids (m .unresolved) (kidsOf t) (m .as_const) (m .as_readonly) n) (plain-props ids (m .unresolved) (kidsOf t) (m .as_const) (m .as_readonly) n)
+      ∙ frozen-lit (m .frozen) (headOf t) (props ids (m .scope .unresolved) (kidsOf t) (m .as_const) (m .as_readonly) n) (plain-props ids (m .scope .unresolved) (kidsOf t) (m .as_const) (m .as_readonly) n)
 
   -- ---- `Expr::TsConstAssertion`, `Expr::TsSatisfies`
 
   pub type-const : {p : ℕ} → AcceptedAt left tree at → markAt tree at ≡ mark "Tc" → Child left tree at 0 p expression
-      → typeOf tree (record { unresolved = m .unresolved; as_const = true; as_readonly = true; frozen = m .frozen }) (left - 1) p n ≡ typeOf tree m left at n
+      → typeOf tree (record { scope = m .scope; as_const = true; as_readonly = true; frozen = m .frozen }) (left - 1) p n ≡ typeOf tree m left at n
   unfolding exprKind exprBy marks member typeOf
   type-const {p} a e k =
       let one : 0 < count (kidsOf t) = (let l = k .there in omega (arith, kids-count left tree at a)) in
-      sym (type-by xConst (rw e) ∙ ap (frozenIf (m .frozen)) (first-is ids (m .unresolved) (kidsOf t) true true n one ∙ ap (λ (x : Rec). exprToTsType ids (m .unresolved) x true true n) (k .tree)))
+      sym (type-by xConst (rw e) ∙ ap (frozenIf (m .frozen)) (first-is ids (m .scope .unresolved) (kidsOf t) true true n one ∙ ap (λ (x : Rec). exprToTsType ids (m .scope .unresolved) x true true n) (k .tree)))
 
   pub type-satisfies : {p : ℕ} → AcceptedAt left tree at → markAt tree at ≡ mark "Ts" → Child left tree at 0 p expression → typeOf tree m (left - 1) p n ≡ typeOf tree m left at n
   unfolding exprKind exprBy marks member typeOf
   type-satisfies {p} a e k =
       let one : 0 < count (kidsOf t) = (let l = k .there in omega (arith, kids-count left tree at a)) in
       sym (type-by xSatisfies (rw e)
-      ∙ ap (frozenIf (m .frozen)) (first-is ids (m .unresolved) (kidsOf t) (m .as_const) (m .as_readonly) n one ∙ ap (λ (x : Rec). exprToTsType ids (m .unresolved) x (m .as_const) (m .as_readonly) n) (k .tree)))
+      ∙ ap (frozenIf (m .frozen)) (first-is ids (m .scope .unresolved) (kidsOf t) (m .as_const) (m .as_readonly) n one ∙ ap (λ (x : Rec). exprToTsType ids (m .scope .unresolved) x (m .as_const) (m .as_readonly) n) (k .tree)))
 
   -- ---- `Expr::TsAs`
 
@@ -173,22 +173,22 @@ module _ (tree : List ℕ) (m : Mode) (left at n : ℕ) where
 
   -- ---- `Expr::Fn`, `Expr::Arrow`
 
-  pub type-fn : {p : ℕ} → AcceptedAt left tree at → markAt tree at ≡ mark "Fx" → Child left tree at 1 p "Fu" → functionOf tree (m .unresolved) true (left - 1) p n ≡ typeOf tree m left at n
+  pub type-fn : {p : ℕ} → AcceptedAt left tree at → markAt tree at ≡ mark "Fx" → Child left tree at 1 p "Fu" → functionOf tree (m .scope .unresolved) true (left - 1) p n ≡ typeOf tree m left at n
   unfolding exprKind exprBy marks member functionOf
   type-fn {p} a e k =
       let two : 1 < count (kidsOf t) = (let l = k .there in omega (arith, kids-count left tree at a)) in
       let f : Rec = treeAt (left - 1) tree p in
       sym (type-by xFn (rw e)
-      ∙ (ap (frozenIf (m .frozen)) (fn-second-is ids (m .unresolved) (kidsOf t) n two ∙ (ap (λ (x : Rec). functionType ids (m .unresolved) x n) (k .tree) ∙ function-eta ids (m .unresolved) f n))
-      ∙ (frozen-fn (m .frozen) (headOf f) (kidsOf f) (fnParams ids (m .unresolved) (kidsOf f) 3 n)
-      ∙ ap (onValue (λ (ps : Recs). some (fnType (headOf f) (kidsOf f) ps))) (fn-params ids (m .unresolved) (kidsOf f) 3 n))))
+      ∙ (ap (frozenIf (m .frozen)) (fn-second-is ids (m .scope .unresolved) (kidsOf t) n two ∙ (ap (λ (x : Rec). functionType ids (m .scope .unresolved) x n) (k .tree) ∙ function-eta ids (m .scope .unresolved) f n))
+      ∙ (frozen-fn (m .frozen) (headOf f) (kidsOf f) (fnParams ids (m .scope .unresolved) (kidsOf f) 3 n)
+      ∙ ap (onValue (λ (ps : Recs). some (fnType (headOf f) (kidsOf f) ps))) (fn-params ids (m .scope .unresolved) (kidsOf f) 3 n))))
 
-  pub type-arrow : markAt tree at ≡ mark "Aw" → functionOf tree (m .unresolved) false left at n ≡ typeOf tree m left at n
+  pub type-arrow : markAt tree at ≡ mark "Aw" → functionOf tree (m .scope .unresolved) false left at n ≡ typeOf tree m left at n
   unfolding exprKind exprBy marks member functionOf
   type-arrow e =
       sym (type-by xArrow (rw e)
-      ∙ (frozen-fn (m .frozen) (headOf t) (kidsOf t) (arrowParams ids (m .unresolved) (kidsOf t) 2 n)
-      ∙ ap (onValue (λ (ps : Recs). some (fnType (headOf t) (kidsOf t) ps))) (arrow-params ids (m .unresolved) (kidsOf t) 2 n)))
+      ∙ (frozen-fn (m .frozen) (headOf t) (kidsOf t) (arrowParams ids (m .scope .unresolved) (kidsOf t) 2 n)
+      ∙ ap (onValue (λ (ps : Recs). some (fnType (headOf t) (kidsOf t) ps))) (arrow-params ids (m .scope .unresolved) (kidsOf t) 2 n)))
 
   -- ---- `Expr::Call`
 
@@ -196,21 +196,21 @@ module _ (tree : List ℕ) (m : Mode) (left at n : ℕ) where
   call-none true = refl
   call-none false = refl
 
-  pub type-call : {p : ℕ} → AcceptedAt left tree at → markAt tree at ≡ mark "Ca" → objectFreezeCallArg (m .unresolved) (kidsOf t) ≡ true → 1 < countAt tree at → p ≡ childAt left tree at 1
-      → typeOf tree (record { unresolved = m .unresolved; as_const = m .as_const; as_readonly = m .as_readonly; frozen = true }) (left - 1) p n ≡ typeOf tree m left at n
+  pub type-call : {p : ℕ} → AcceptedAt left tree at → markAt tree at ≡ mark "Ca" → objectFreezeCallArg (m .scope .unresolved) (kidsOf t) ≡ true → 1 < countAt tree at → p ≡ childAt left tree at 1
+      → typeOf tree (record { scope = m .scope; as_const = m .as_const; as_readonly = m .as_readonly; frozen = true }) (left - 1) p n ≡ typeOf tree m left at n
   unfolding exprKind exprBy marks member typeOf
   type-call {p} a e f l q =
       let two : 1 < count (kidsOf t) = omega (arith, kids-count left tree at a) in
-      let o : Out (Option Rec) = exprToTsType ids (m .unresolved) (treeAt (left - 1) tree p) (m .as_const) (m .as_readonly) n in
+      let o : Out (Option Rec) = exprToTsType ids (m .scope .unresolved) (treeAt (left - 1) tree p) (m .as_const) (m .as_readonly) n in
       sym (type-by xCall (rw e)
-      ∙ (ap (λ (x : Bool). frozenIf (m .frozen) (ifM x (λ n. frozenIf true (typeSecond ids (m .unresolved) (kidsOf t) (m .as_const) (m .as_readonly) n)) (pure none) n)) f
-      ∙ (ap (λ (x : Out (Option Rec)). frozenIf (m .frozen) (frozenIf true x)) (second-is ids (m .unresolved) (kidsOf t) (m .as_const) (m .as_readonly) n two
-      ∙ ap (λ (x : Rec). exprToTsType ids (m .unresolved) x (m .as_const) (m .as_readonly) n) (kid-is left tree at a 1 l ∙ ap (treeAt (left - 1) tree) (sym q)))
+      ∙ (ap (λ (x : Bool). frozenIf (m .frozen) (ifM x (λ n. frozenIf true (typeSecond ids (m .scope .unresolved) (kidsOf t) (m .as_const) (m .as_readonly) n)) (pure none) n)) f
+      ∙ (ap (λ (x : Out (Option Rec)). frozenIf (m .frozen) (frozenIf true x)) (second-is ids (m .scope .unresolved) (kidsOf t) (m .as_const) (m .as_readonly) n two
+      ∙ ap (λ (x : Rec). exprToTsType ids (m .scope .unresolved) x (m .as_const) (m .as_readonly) n) (kid-is left tree at a 1 l ∙ ap (treeAt (left - 1) tree) (sym q)))
       ∙ frozen-again (m .frozen) o)))
 
-  pub type-other-call : markAt tree at ≡ mark "Ca" → objectFreezeCallArg (m .unresolved) (kidsOf t) ≡ false → typeOf tree m left at n ≡ (none, [], n)
+  pub type-other-call : markAt tree at ≡ mark "Ca" → objectFreezeCallArg (m .scope .unresolved) (kidsOf t) ≡ false → typeOf tree m left at n ≡ (none, [], n)
   unfolding exprKind exprBy marks member
-  type-other-call e f = type-by xCall (rw e) ∙ (ap (λ (x : Bool). frozenIf (m .frozen) (ifM x (λ n. frozenIf true (typeSecond ids (m .unresolved) (kidsOf t) (m .as_const) (m .as_readonly) n)) (pure none) n)) f ∙ call-none (m .frozen))
+  type-other-call e f = type-by xCall (rw e) ∙ (ap (λ (x : Bool). frozenIf (m .frozen) (ifM x (λ n. frozenIf true (typeSecond ids (m .scope .unresolved) (kidsOf t) (m .as_const) (m .as_readonly) n)) (pure none) n)) f ∙ call-none (m .frozen))
 
   -- the argument of `Object.freeze`, as the helper finds it
   freeze-two : (ks : Recs) (ctx : ℕ) → objectFreezeCallArg ctx ks ≡ true → 1 < count ks
@@ -219,15 +219,15 @@ module _ (tree : List ℕ) (m : Mode) (left at n : ℕ) where
   freeze-two (cons a nil) ctx e = absurd (let z : _≡_ {A = ℕ} 0 1 = cc in omega arith)
   freeze-two (cons a (cons b bs)) ctx e = omega arith
 
-  freeze-there : AcceptedAt left tree at → objectFreezeCallArg (m .unresolved) (kidsOf t) ≡ true → 1 < countAt tree at
-  freeze-there a f = omega (arith, freeze-two (kidsOf t) (m .unresolved) f, kids-count left tree at a)
+  freeze-there : AcceptedAt left tree at → objectFreezeCallArg (m .scope .unresolved) (kidsOf t) ≡ true → 1 < countAt tree at
+  freeze-there a f = omega (arith, freeze-two (kidsOf t) (m .scope .unresolved) f, kids-count left tree at a)
 
-  pub freeze-is : {p : ℕ} → AcceptedAt left tree at → markAt tree at ≡ mark "Ca" → (objectFreezeCallArg (m .unresolved) (kidsOf t) ≡ true) × (p ≡ childAt left tree at 1)
-      → typeOf tree (record { unresolved = m .unresolved; as_const = m .as_const; as_readonly = m .as_readonly; frozen = true }) (left - 1) p n ≡ typeOf tree m left at n
+  pub freeze-is : {p : ℕ} → AcceptedAt left tree at → markAt tree at ≡ mark "Ca" → (objectFreezeCallArg (m .scope .unresolved) (kidsOf t) ≡ true) × (p ≡ childAt left tree at 1)
+      → typeOf tree (record { scope = m .scope; as_const = m .as_const; as_readonly = m .as_readonly; frozen = true }) (left - 1) p n ≡ typeOf tree m left at n
   freeze-is a e f = type-call a e (f .0) (freeze-there a (f .0)) (f .1)
 
-  pub freeze-ready : {p k : ℕ} → Ready left tree at k → markAt tree at ≡ mark "Ca" → (objectFreezeCallArg (m .unresolved) (kidsOf t) ≡ true) × (p ≡ childAt left tree at 1) → Ready (left - 1) tree p k
+  pub freeze-ready : {p k : ℕ} → Ready left tree at k (m .scope) → markAt tree at ≡ mark "Ca" → (objectFreezeCallArg (m .scope .unresolved) (kidsOf t) ≡ true) × (p ≡ childAt left tree at 1) → Ready (left - 1) tree p k (m .scope)
   freeze-ready {p} {k} r e f =
       let two = freeze-there (r .accepted) (f .0) in
       let low = child-after left tree at (r .accepted) 1 (omega arith) in
-      rw (f .1) (record { accepted = child left tree at (r .accepted) 1 two; root = r .root; low = omega (arith, r .low, low) })
+      rw (f .1) (record { accepted = child left tree at (r .accepted) 1 two; root = r .root; low = omega (arith, r .low, low); skips = r .skips })

@@ -27,6 +27,7 @@ use Rattle.definition.proofs.Counting.{counter-low, counter-high}
 use Rattle.definition.proofs.Kids.{Child, mark-is, head-is, text-is, text-length, left-of, id-text, member-one}
 use Rattle.records.specs.Wrote.{top, sat, Put, Ran}
 use Rattle.swc_helpers.proofs.Made.{encode-two}
+use Rattle.prescan.specs.declared.Scope.{Scope}
 use Rattle.typing.specs.declared.State.{State}
 use Rattle.typing.specs.declared.Typed.{Typed}
 use Rattle.typing.specs.declared.Typed.the-variants.{Some, None}
@@ -53,7 +54,10 @@ kept-kind : (m : ℕ) → KeptMark m → paramKind m ≡ qKeep
 unfolding paramKind
 kept-kind m = ⊎-elim (λ e. rw e) (⊎-elim (λ e. rw e) (⊎-elim (λ e. rw e) (λ e. rw e)))
 
-module _ (tree : List ℕ) (ctx left at n : ℕ) where
+module _ (tree : List ℕ) (scope : Scope) (left at n : ℕ) where
+  abbrev ctx : ℕ
+  ctx = scope .unresolved
+
   abbrev t : Rec
   t = treeAt left tree at
 
@@ -96,8 +100,8 @@ module _ (tree : List ℕ) (ctx left at n : ℕ) where
 
   assign-is : {q : ℕ} → AcceptedAt left tree at → markAt tree at ≡ mark "Ag" → Child left tree at 1 q expression
       → patType tree ctx left at n
-      ≡ given (typeOf tree (mutableMode ctx) (left - 1) q n .0) (nil, typeOf tree (mutableMode ctx) (left - 1) q n .1, typeOf tree (mutableMode ctx) (left - 1) q n .2)
-      (λ ty. defaultParam (headOf t) (kid 0 (kidsOf t)) ty (typeOf tree (mutableMode ctx) (left - 1) q n .1) (typeOf tree (mutableMode ctx) (left - 1) q n .2))
+      ≡ given (typeOf tree (mutableMode scope) (left - 1) q n .0) (nil, typeOf tree (mutableMode scope) (left - 1) q n .1, typeOf tree (mutableMode scope) (left - 1) q n .2)
+      (λ ty. defaultParam (headOf t) (kid 0 (kidsOf t)) ty (typeOf tree (mutableMode scope) (left - 1) q n .1) (typeOf tree (mutableMode scope) (left - 1) q n .2))
   unfolding paramKind paramBy typeOf
   assign-is {q} a e k =
       let two : 1 < count (kidsOf t) = (let l = k .there in omega (arith, kids-count left tree at a)) in
@@ -108,7 +112,7 @@ module _ (tree : List ℕ) (ctx left at n : ℕ) where
   -- of a name, and of another pattern
   module _ {p q : ℕ} (a : AcceptedAt left tree at) (e : markAt tree at ≡ mark "Ag") (j : Child left tree at 0 p pattern) (k : Child left tree at 1 q expression) where
     abbrev o : Out (Option Rec)
-    o = typeOf tree (mutableMode ctx) (left - 1) q n
+    o = typeOf tree (mutableMode scope) (left - 1) q n
 
     given-as : (v : Option Rec) (f f' : Rec → Out Recs) → ((ty : Rec) → f ty ≡ f' ty) → given v (nil, o .1, o .2) f ≡ given v (nil, o .1, o .2) f'
     given-as none f f' h = refl
@@ -235,12 +239,13 @@ named-fits left tree at a e f known =
     (rw (z, text-is (left - 1 - 1) tree q, length-drop) (omega (arith, text-length (left - 1 - 1) tree q (i .accepted))))
 
 -- what is asked for a generated name, once the default has been typed
-pub unnamed-ready : (tree : List ℕ) (ctx left at : ℕ) {o o1 g g1 : List ℕ} (s : State) {made : State} {p q : ℕ} → Ready left tree at (s .n) → Child left tree at 0 (bodyAt tree at) pattern
+pub unnamed-ready : (tree : List ℕ) (scope : Scope) (left at : ℕ) {o o1 g g1 : List ℕ} (s : State) {made : State} {p q : ℕ} → Ready left tree at (s .n) scope → Child left tree at 0 (bodyAt tree at) pattern
     → Child left tree at 1 p expression → p ≡ endAt (left - 1) tree (bodyAt tree at) → q ≡ sat (s .p) (uniqueFront (s .n + 1))
-    → IsSome o o1 g g1 (movedTo s q) made (typeOf tree (mutableMode ctx) (left - 1) p (s .n))
+    → IsSome o o1 g g1 (movedTo s q) made (typeOf tree (mutableMode scope) (left - 1) p (s .n))
     → (at + headSize ≤ length tree) × (((s .n ≤ made .n) × (made .n < length tree)) × (sat (s .p) (uniqueFront (s .n + 1)) ≤ made .p))
 unfolding typeOf
-unnamed-ready tree ctx left at s {made} {p} {q} r j k e z w =
+unnamed-ready tree scope left at s {made} {p} {q} r j k e z w =
+    let ctx : ℕ = scope .unresolved in
     let ids : PrescannedModuleIds = idsOf tree in
     let x : Rec = treeAt (left - 1) tree p in
     let c : made .n ≡ exprToTsType ids ctx x false false (s .n) .2 = w .step .counter in

@@ -8,21 +8,27 @@ use Rattle.definition.specs.Tree.{bodyAt, endAt}
 use Rattle.definition.specs.Children.{AcceptedAt, childAt}
 use Rattle.definition.proofs.Children.{end-after, child-1}
 use Rattle.definition.proofs.Kids.{Child, placed}
-use Rattle.typing.specs.Did.{Ready}
+use Rattle.prescan.specs.declared.Scope.{Scope}
+use Rattle.typing.specs.declared.Mode.{Mode}
+use Rattle.typing.specs.Did.{Ready, mutableMode}
 
-module _ {left : ℕ} {tree : List ℕ} {at n : ℕ} (r : Ready left tree at n) where
+module _ {left : ℕ} {tree : List ℕ} {at n : ℕ} {scope : Scope} (r : Ready left tree at n scope) where
   -- the first child
-  pub ready-first : {p i : ℕ} {S : String} → Child left tree at i p S → p ≡ bodyAt tree at → Ready (left - 1) tree p n
-  ready-first k e = record { accepted = k .accepted; root = r .root; low = omega (arith, r .low, e) }
+  pub ready-first : {p i : ℕ} {S : String} → Child left tree at i p S → p ≡ bodyAt tree at → Ready (left - 1) tree p n scope
+  ready-first k e = record { accepted = k .accepted; root = r .root; low = omega (arith, r .low, e); skips = r .skips }
 
   -- the second one, behind the first
-  pub ready-second : {b p i j : ℕ} {S T : String} → Child left tree at i b S → b ≡ bodyAt tree at → Child left tree at j p T → p ≡ endAt (left - 1) tree b → Ready (left - 1) tree p n
-  ready-second {b} j e k f = record { accepted = k .accepted; root = r .root; low = omega (arith, r .low, e, f, end-after (left - 1) tree b (j .accepted)) }
+  pub ready-second : {b p i j : ℕ} {S T : String} → Child left tree at i b S → b ≡ bodyAt tree at → Child left tree at j p T → p ≡ endAt (left - 1) tree b → Ready (left - 1) tree p n scope
+  ready-second {b} j e k f = record { accepted = k .accepted; root = r .root; low = omega (arith, r .low, e, f, end-after (left - 1) tree b (j .accepted)); skips = r .skips }
 
 -- where the second child begins
 pub second-at : (left : ℕ) (tree : List ℕ) (at : ℕ) {p : ℕ} → p ≡ childAt left tree at 1 → p ≡ endAt (left - 1) tree (bodyAt tree at)
 second-at left tree at e = e ∙ child-1 left tree at
 
 -- the same record, at another state
-pub ready-on : {left : ℕ} {tree : List ℕ} {at n m : ℕ} → Ready left tree at n → m ≡ n → Ready left tree at m
-ready-on {at = at} r e = record { accepted = r .accepted; root = r .root; low = omega (arith, r .low, e) }
+pub ready-on : {left : ℕ} {tree : List ℕ} {at n m : ℕ} {scope : Scope} → Ready left tree at n scope → m ≡ n → Ready left tree at m scope
+ready-on {at = at} r e = record { accepted = r .accepted; root = r .root; low = omega (arith, r .low, e); skips = r .skips }
+
+-- the same record, in the mode of a default
+pub ready-mutable : {left : ℕ} {tree : List ℕ} {at n : ℕ} {scope : Scope} {m : Mode} → Ready left tree at n scope → m ≡ mutableMode scope → Ready left tree at n (m .scope)
+ready-mutable r e = rw e r

@@ -12,6 +12,8 @@ use Rattle.definition.specs.Helpers.{anyTypeAnn}
 use Rattle.definition.specs.Prescan.{PrescannedModuleIds, prescanModuleIds}
 use Rattle.definition.specs.Typing.{readonlyOf, exprToTsType}
 use Rattle.definition.specs.Transform.{textsFit}
+use Rattle.prescan.specs.declared.Scope.{Scope}
+use Rattle.prescan.specs.Scope.{Skips}
 use Rattle.records.specs.Wrote.{Put, Ran}
 use Rattle.swc_helpers.specs.declared.MaybeType.{MaybeType}
 use Rattle.swc_helpers.specs.declared.MaybeType.the-variants.{Typed as Made, Untyped}
@@ -22,11 +24,13 @@ use Rattle.typing.specs.declared.Typed.the-variants.{Some, None}
 
 -- ---- what is asked
 
--- the record at `at` of an accepted tree, with `left` levels left; no more names were made than bytes stand before it
-pub record Ready (left : ℕ) (tree : List ℕ) (at n : ℕ) : Type 0 where
+-- the record at `at` of an accepted tree, with `left` levels left; no more names were made than bytes stand before it, and the scope's item ends
+-- where it says
+pub record Ready (left : ℕ) (tree : List ℕ) (at n : ℕ) (scope : Scope) : Type 0 where
   pub accepted : AcceptedAt left tree at
   pub root : AcceptedAt deepest tree 0
   pub low : n ≤ at
+  pub skips : Skips tree scope
 
 -- the module-level names of a tree
 unfoldable pub idsOf : List ℕ → PrescannedModuleIds
@@ -38,12 +42,12 @@ frozenIf false o = o
 frozenIf true o = onValue (λ (t : Option Rec). given t none readonlyOf) o
 
 -- as_const and as_readonly off
-abbrev pub mutableMode : ℕ → Mode
-mutableMode ctx = record { unresolved = ctx; as_const = false; as_readonly = false; frozen = false }
+abbrev pub mutableMode : Scope → Mode
+mutableMode scope = record { scope = scope; as_const = false; as_readonly = false; frozen = false }
 
 -- the type of the expression at `at`
 unfoldable pub typeOf : List ℕ → Mode → ℕ → ℕ → ℕ → Out (Option Rec)
-typeOf tree m left at n = frozenIf (m .frozen) (exprToTsType (idsOf tree) (m .unresolved) (treeAt left tree at) (m .as_const) (m .as_readonly) n)
+typeOf tree m left at n = frozenIf (m .frozen) (exprToTsType (idsOf tree) (m .scope .unresolved) (treeAt left tree at) (m .as_const) (m .as_readonly) n)
 
 -- ---- what was done
 

@@ -9,6 +9,7 @@ ghost use Rattle.definition.specs.Children.{AcceptedAt};
 ghost use Rattle.definition.specs.Record.{kidsOf, symbolOf, kid};
 ghost use Rattle.definition.specs.Helpers.{tsKeywordType, tsTypeQuery};
 ghost use Rattle.definition.specs.Typing.{identToTsType};
+ghost use Rattle.prescan.specs.Scope.{Skips};
 ghost use Rattle.swc_helpers.specs.Found.{isConst, PutMaybe};
 ghost use Rattle.swc_helpers.specs.Made.{keyword};
 ghost use Rattle.typing.specs.Did.{idsOf};
@@ -17,6 +18,7 @@ ghost use Rattle.typing.specs.Leaf.{leafType};
 use crate::Mode;
 use crate::readonly::readonly_of;
 use prescan::Question;
+use prescan::Scope;
 use records::marks::BI;
 use records::marks::BL;
 use records::marks::ID;
@@ -92,31 +94,40 @@ pub fn ident_to_ts_type(
     tree: &[u8],
     at: usize,
     left: usize,
-    unresolved: u32,
+    scope: Scope,
     as_const: bool,
     out: &mut [u8],
     p: usize,
 ) -> MaybeType
     requires { ⌜ AcceptedAt left (now tree) at × (markAt (now tree) at ≡ mark "Id") ⌝ }
     requires { ⌜ AcceptedAt deepest (now tree) 0 ⌝ }
+    requires { ⌜ Skips (now tree) scope ⌝ }
     ensures { λ r. ⌜
         PutMaybe (now (out .entry)) (now (out .exit)) p
-        (identToTsType (idsOf (now (tree .entry))) unresolved (treeAt left (now (tree .entry)) at) as_const) r
+        (identToTsType (idsOf (now (tree .entry))) (scope .unresolved) (treeAt left (now (tree .entry)) at) as_const) r
         ⌝ }
 {
-    if records::text::context_at(tree, at) == unresolved {
+    if records::text::context_at(tree, at) == scope.unresolved {
         return global_type(tree, at, left, as_const, out, p);
     }
-    if prescan::asked(tree, at, left, Question::TypeofSafe) {
+    if prescan::asked(tree, at, left, scope, Question::TypeofSafe) {
         return MaybeType::Typed(swc_helpers::ts_type_query(tree, at, left, out, p));
     }
     MaybeType::Untyped
 }
 
 // `Expr::New`: "of a non-generic class declared in this module".
-fn new_type(tree: &[u8], at: usize, left: usize, out: &mut [u8], p: usize) -> MaybeType
+fn new_type(
+    tree: &[u8],
+    at: usize,
+    left: usize,
+    scope: Scope,
+    out: &mut [u8],
+    p: usize,
+) -> MaybeType
     requires { ⌜ AcceptedAt left (now tree) at × (markAt (now tree) at ≡ mark "Ne") ⌝ }
     requires { ⌜ AcceptedAt deepest (now tree) 0 ⌝ }
+    requires { ⌜ Skips (now tree) scope ⌝ }
     ensures { λ r. ⌜
         PutMaybe (now (out .entry)) (now (out .exit)) p (classType (idsOf (now (tree .entry))) (kidsOf (treeAt left (now (tree .entry)) at))) r
         ⌝ }
@@ -129,7 +140,7 @@ fn new_type(tree: &[u8], at: usize, left: usize, out: &mut [u8], p: usize) -> Ma
     if records::mark_at(tree, type_args) != NO {
         return MaybeType::Untyped;
     }
-    if prescan::asked(tree, ident, left - 1, Question::NonGenericClass) {
+    if prescan::asked(tree, ident, left - 1, scope, Question::NonGenericClass) {
         return MaybeType::Typed(swc_helpers::reference_to(tree, ident, left - 1, out, p));
     }
     MaybeType::Untyped
@@ -156,15 +167,23 @@ pub fn as_type(
 }
 
 // An array-typed Id that is spread: `Expr::Ident(ident) if self.array_typed_ids.contains(&ident.to_id())`.
-pub fn array_ident(tree: &[u8], at: usize, left: usize, out: &mut [u8], p: usize) -> MaybeType
+pub fn array_ident(
+    tree: &[u8],
+    at: usize,
+    left: usize,
+    scope: Scope,
+    out: &mut [u8],
+    p: usize,
+) -> MaybeType
     requires { ⌜ AcceptedAt left (now tree) at ⌝ }
     requires { ⌜ AcceptedAt deepest (now tree) 0 ⌝ }
+    requires { ⌜ Skips (now tree) scope ⌝ }
     ensures { λ r. ⌜
         PutMaybe (now (out .entry)) (now (out .exit)) p
         (cond (idsOf (now (tree .entry)) .arrayTyped (textAt (now (tree .entry)) at)) (some (tsTypeQuery (treeAt left (now (tree .entry)) at))) none) r
         ⌝ }
 {
-    if prescan::asked(tree, at, left, Question::ArrayTyped) {
+    if prescan::asked(tree, at, left, scope, Question::ArrayTyped) {
         return MaybeType::Typed(swc_helpers::ts_type_query(tree, at, left, out, p));
     }
     MaybeType::Untyped
@@ -182,6 +201,7 @@ pub fn leaf_type(
 ) -> MaybeType
     requires { ⌜ AcceptedAt left (now tree) at ⌝ }
     requires { ⌜ AcceptedAt deepest (now tree) 0 ⌝ }
+    requires { ⌜ Skips (now tree) (mode .scope) ⌝ }
     ensures { λ r. ⌜ PutMaybe (now (out .entry)) (now (out .exit)) p (leafType (now (tree .entry)) mode left at) r ⌝ }
 {
     if mode.frozen {
@@ -198,12 +218,12 @@ pub fn leaf_type(
             p,
         ),
         TE => MaybeType::Typed(swc_helpers::tpl_to_ts_type(tree, at, left, kind, out, p)),
-        ID => ident_to_ts_type(tree, at, left, mode.unresolved, mode.as_const, out, p),
+        ID => ident_to_ts_type(tree, at, left, mode.scope, mode.as_const, out, p),
         MI => {
             let arg = records::body_at(tree, at);
             swc_helpers::minus_lit_to_ts_type(tree, arg, left - 1, kind, out, p)
         }
-        NE => new_type(tree, at, left, out, p),
+        NE => new_type(tree, at, left, mode.scope, out, p),
         _ => MaybeType::Untyped,
     }
 }

@@ -21,6 +21,7 @@ use crate::params::put_fn_front;
 use crate::params::put_named;
 use crate::params::put_unnamed;
 use crate::params::unique_binding_size;
+use prescan::Scope;
 use records::HEAD_SIZE;
 use records::marks::AG;
 use records::marks::AR;
@@ -73,9 +74,9 @@ pub enum Typed {
     None(State),
 }
 
-// How an expression is typed: the unresolved context, `as_const` and `as_readonly` of the Rust, and whether `readonly_of` the type is wanted.
+// How an expression is typed: in which scope, `as_const` and `as_readonly` of the Rust, and whether `readonly_of` the type is wanted.
 pub struct Mode {
-    pub unresolved: u32,
+    pub scope: Scope,
     pub as_const: bool,
     pub as_readonly: bool,
     pub frozen: bool,
@@ -194,7 +195,7 @@ fn shorthand(
     diagnostics: &mut [u8],
     s: State,
 ) -> Counted
-    requires { ⌜ Ready left (now tree) at (s .n) × (markAt (now tree) at ≡ mark "Sh") ⌝ }
+    requires { ⌜ Ready left (now tree) at (s .n) (mode .scope) × (markAt (now tree) at ≡ mark "Sh") ⌝ }
     ensures { λ r. ⌜
         Gives (now (out .entry)) (now (out .exit)) (now (diagnostics .entry)) (now (diagnostics .exit)) s r
         (memberType (now (tree .entry)) mode left at (s .n))
@@ -202,15 +203,7 @@ fn shorthand(
 {
     let ident = records::body_at(tree, at);
     let q = put_shorthand(tree, ident, left - 1, is_readonly(mode), out, s.p);
-    let made = ident_to_ts_type(
-        tree,
-        ident,
-        left - 1,
-        mode.unresolved,
-        mode.as_const,
-        out,
-        q,
-    );
+    let made = ident_to_ts_type(tree, ident, left - 1, mode.scope, mode.as_const, out, q);
     let MaybeType::Typed(end) = made else {
         return skipped(tree, at, D3, diagnostics, s);
     };
@@ -220,11 +213,11 @@ fn shorthand(
 }
 
 // How the default of a parameter is typed: `self.expr_to_ts_type(*assign_pat.right, false, false)`.
-fn mutable(unresolved: u32) -> Mode
-    ensures { λ r. ⌜ r ≡ mutableMode unresolved ⌝ }
+fn mutable(scope: Scope) -> Mode
+    ensures { λ r. ⌜ r ≡ mutableMode scope ⌝ }
 {
     Mode {
-        unresolved,
+        scope,
         as_const: false,
         as_readonly: false,
         frozen: false,
@@ -251,7 +244,7 @@ pub fn expr_to_ts_type(
     diagnostics: &mut [u8],
     s: State,
 ) -> Typed
-    requires { ⌜ Ready left (now tree) at (s .n) ⌝ }
+    requires { ⌜ Ready left (now tree) at (s .n) (mode .scope) ⌝ }
     ensures { λ r. ⌜
         Did (now (out .entry)) (now (out .exit)) (now (diagnostics .entry)) (now (diagnostics .exit)) s r
         (typeOf (now (tree .entry)) mode left at (s .n))
@@ -274,18 +267,9 @@ pub fn expr_to_ts_type(
         AS => answer_of(s, as_type(tree, at, left, mode.frozen, out, s.p)),
         FX => {
             let fu = child_at(tree, at, left, 1);
-            function_type(
-                tree,
-                fu,
-                left - 1,
-                mode.unresolved,
-                true,
-                out,
-                diagnostics,
-                s,
-            )
+            function_type(tree, fu, left - 1, mode.scope, true, out, diagnostics, s)
         }
-        AW => function_type(tree, at, left, mode.unresolved, false, out, diagnostics, s),
+        AW => function_type(tree, at, left, mode.scope, false, out, diagnostics, s),
         CA => call_type(tree, at, left, mode, out, diagnostics, s),
         _ => answer_of(s, leaf_type(tree, at, left, mode, out, s.p)),
     }
@@ -301,7 +285,7 @@ fn array_type(
     diagnostics: &mut [u8],
     s: State,
 ) -> Typed
-    requires { ⌜ Ready left (now tree) at (s .n) × (markAt (now tree) at ≡ mark "Ar") ⌝ }
+    requires { ⌜ Ready left (now tree) at (s .n) (mode .scope) × (markAt (now tree) at ≡ mark "Ar") ⌝ }
     ensures { λ r. ⌜
         Did (now (out .entry)) (now (out .exit)) (now (diagnostics .entry)) (now (diagnostics .exit)) s r
         (typeOf (now (tree .entry)) mode left at (s .n))
@@ -328,7 +312,7 @@ fn tuple_type(
     diagnostics: &mut [u8],
     s: State,
 ) -> Typed
-    requires { ⌜ Ready left (now tree) at (s .n) ⌝ }
+    requires { ⌜ Ready left (now tree) at (s .n) (mode .scope) ⌝ }
     ensures { λ r. ⌜
         Did (now (out .entry)) (now (out .exit)) (now (diagnostics .entry)) (now (diagnostics .exit)) s r
         (tupleType (now (tree .entry)) mode left at (s .n))
@@ -367,7 +351,7 @@ fn element_type(
     diagnostics: &mut [u8],
     s: State,
 ) -> Elements
-    requires { ⌜ Ready left (now tree) at (s .n) ⌝ }
+    requires { ⌜ Ready left (now tree) at (s .n) (mode .scope) ⌝ }
     ensures { λ r. ⌜
         DidAll (now (out .entry)) (now (out .exit)) (now (diagnostics .entry)) (now (diagnostics .exit)) s r
         (elementType (now (tree .entry)) mode left at (s .n))
@@ -403,7 +387,7 @@ fn spread_type(
     diagnostics: &mut [u8],
     s: State,
 ) -> Elements
-    requires { ⌜ Ready left (now tree) at (s .n) × (markAt (now tree) at ≡ mark "Sp") ⌝ }
+    requires { ⌜ Ready left (now tree) at (s .n) (mode .scope) × (markAt (now tree) at ≡ mark "Sp") ⌝ }
     ensures { λ r. ⌜
         DidAll (now (out .entry)) (now (out .exit)) (now (diagnostics .entry)) (now (diagnostics .exit)) s r
         (elementType (now (tree .entry)) mode left at (s .n))
@@ -432,14 +416,14 @@ fn rest_type(
     diagnostics: &mut [u8],
     s: State,
 ) -> Typed
-    requires { ⌜ Ready left (now tree) at (s .n) ⌝ }
+    requires { ⌜ Ready left (now tree) at (s .n) (mode .scope) ⌝ }
     ensures { λ r. ⌜
         Did (now (out .entry)) (now (out .exit)) (now (diagnostics .entry)) (now (diagnostics .exit)) s r
         (restType (now (tree .entry)) mode left at (s .n))
         ⌝ }
 {
     match records::mark_at(tree, at) {
-        ID => answer_of(s, array_ident(tree, at, left, out, s.p)),
+        ID => answer_of(s, array_ident(tree, at, left, mode.scope, out, s.p)),
         AR => {
             let mut inner = mode;
             inner.as_readonly = false;
@@ -460,7 +444,7 @@ fn object_type(
     diagnostics: &mut [u8],
     s: State,
 ) -> Typed
-    requires { ⌜ Ready left (now tree) at (s .n) × (markAt (now tree) at ≡ mark "Ob") ⌝ }
+    requires { ⌜ Ready left (now tree) at (s .n) (mode .scope) × (markAt (now tree) at ≡ mark "Ob") ⌝ }
     ensures { λ r. ⌜
         Did (now (out .entry)) (now (out .exit)) (now (diagnostics .entry)) (now (diagnostics .exit)) s r
         (typeOf (now (tree .entry)) mode left at (s .n))
@@ -493,7 +477,7 @@ fn property_type(
     diagnostics: &mut [u8],
     s: State,
 ) -> Counted
-    requires { ⌜ Ready left (now tree) at (s .n) ⌝ }
+    requires { ⌜ Ready left (now tree) at (s .n) (mode .scope) ⌝ }
     ensures { λ r. ⌜
         Gives (now (out .entry)) (now (out .exit)) (now (diagnostics .entry)) (now (diagnostics .exit)) s r
         (memberType (now (tree .entry)) mode left at (s .n))
@@ -518,7 +502,7 @@ fn key_value(
     diagnostics: &mut [u8],
     s: State,
 ) -> Counted
-    requires { ⌜ Ready left (now tree) at (s .n) × (markAt (now tree) at ≡ mark "Kv") ⌝ }
+    requires { ⌜ Ready left (now tree) at (s .n) (mode .scope) × (markAt (now tree) at ≡ mark "Kv") ⌝ }
     ensures { λ r. ⌜
         Gives (now (out .entry)) (now (out .exit)) (now (diagnostics .entry)) (now (diagnostics .exit)) s r
         (memberType (now (tree .entry)) mode left at (s .n))
@@ -544,13 +528,13 @@ fn call_type(
     diagnostics: &mut [u8],
     s: State,
 ) -> Typed
-    requires { ⌜ Ready left (now tree) at (s .n) × (markAt (now tree) at ≡ mark "Ca") ⌝ }
+    requires { ⌜ Ready left (now tree) at (s .n) (mode .scope) × (markAt (now tree) at ≡ mark "Ca") ⌝ }
     ensures { λ r. ⌜
         Did (now (out .entry)) (now (out .exit)) (now (diagnostics .entry)) (now (diagnostics .exit)) s r
         (typeOf (now (tree .entry)) mode left at (s .n))
         ⌝ }
 {
-    let found = swc_helpers::object_freeze_call_arg(tree, at, left, mode.unresolved);
+    let found = swc_helpers::object_freeze_call_arg(tree, at, left, mode.scope.unresolved);
     let Found::At(arg) = found else {
         return Typed::None(s);
     };
@@ -568,16 +552,16 @@ fn function_type(
     tree: &[u8],
     at: usize,
     left: usize,
-    unresolved: u32,
+    scope: Scope,
     function: bool,
     out: &mut [u8],
     diagnostics: &mut [u8],
     s: State,
 ) -> Typed
-    requires { ⌜ Ready left (now tree) at (s .n) × (markAt (now tree) at ≡ functionMark function) ⌝ }
+    requires { ⌜ Ready left (now tree) at (s .n) scope × (markAt (now tree) at ≡ functionMark function) ⌝ }
     ensures { λ r. ⌜
         Did (now (out .entry)) (now (out .exit)) (now (diagnostics .entry)) (now (diagnostics .exit)) s r
-        (functionOf (now (tree .entry)) unresolved function left at (s .n))
+        (functionOf (now (tree .entry)) (scope .unresolved) function left at (s .n))
         ⌝ }
 {
     let head = records::read_head(tree, at);
@@ -593,7 +577,7 @@ fn function_type(
             tree,
             child,
             left - 1,
-            unresolved,
+            scope,
             function,
             out,
             diagnostics,
@@ -613,26 +597,26 @@ fn param_type(
     tree: &[u8],
     at: usize,
     left: usize,
-    unresolved: u32,
+    scope: Scope,
     function: bool,
     out: &mut [u8],
     diagnostics: &mut [u8],
     s: State,
 ) -> Counted
-    requires { ⌜ Ready left (now tree) at (s .n) ⌝ }
+    requires { ⌜ Ready left (now tree) at (s .n) scope ⌝ }
     ensures { λ r. ⌜
         Gives (now (out .entry)) (now (out .exit)) (now (diagnostics .entry)) (now (diagnostics .exit)) s r
-        (paramType (now (tree .entry)) unresolved function left at (s .n))
+        (paramType (now (tree .entry)) (scope .unresolved) function left at (s .n))
         ⌝ }
 {
     if !function {
-        return one_or_none(pat_to_ts_fn_param(tree, at, left, unresolved, out, diagnostics, s));
+        return one_or_none(pat_to_ts_fn_param(tree, at, left, scope, out, diagnostics, s));
     }
     if records::mark_at(tree, at) != PA {
         return Counted { s, count: 0 };
     }
     let pattern = records::body_at(tree, at);
-    one_or_none(pat_to_ts_fn_param(tree, pattern, left - 1, unresolved, out, diagnostics, s))
+    one_or_none(pat_to_ts_fn_param(tree, pattern, left - 1, scope, out, diagnostics, s))
 }
 
 // `pat_to_ts_fn_param`.
@@ -640,15 +624,15 @@ pub fn pat_to_ts_fn_param(
     tree: &[u8],
     at: usize,
     left: usize,
-    unresolved: u32,
+    scope: Scope,
     out: &mut [u8],
     diagnostics: &mut [u8],
     s: State,
 ) -> Typed
-    requires { ⌜ Ready left (now tree) at (s .n) ⌝ }
+    requires { ⌜ Ready left (now tree) at (s .n) scope ⌝ }
     ensures { λ r. ⌜
         Gave (now (out .entry)) (now (out .exit)) (now (diagnostics .entry)) (now (diagnostics .exit)) s r
-        (patType (now (tree .entry)) unresolved left at (s .n))
+        (patType (now (tree .entry)) (scope .unresolved) left at (s .n))
         ⌝ }
 {
     match records::mark_at(tree, at) {
@@ -660,9 +644,9 @@ pub fn pat_to_ts_fn_param(
         AG => {
             let pattern = records::body_at(tree, at);
             if records::mark_at(tree, pattern) == BD {
-                return named_param(tree, at, left, unresolved, out, diagnostics, s);
+                return named_param(tree, at, left, scope, out, diagnostics, s);
             }
-            unnamed_param(tree, at, left, unresolved, out, diagnostics, s)
+            unnamed_param(tree, at, left, scope, out, diagnostics, s)
         }
         PE => {
             let expr = records::body_at(tree, at);
@@ -677,16 +661,16 @@ fn named_param(
     tree: &[u8],
     at: usize,
     left: usize,
-    unresolved: u32,
+    scope: Scope,
     out: &mut [u8],
     diagnostics: &mut [u8],
     s: State,
 ) -> Typed
-    requires { ⌜ Ready left (now tree) at (s .n) × (markAt (now tree) at ≡ mark "Ag") ⌝ }
+    requires { ⌜ Ready left (now tree) at (s .n) scope × (markAt (now tree) at ≡ mark "Ag") ⌝ }
     requires { ⌜ markAt (now tree) (bodyAt (now tree) at) ≡ mark "Bd" ⌝ }
     ensures { λ r. ⌜
         Gave (now (out .entry)) (now (out .exit)) (now (diagnostics .entry)) (now (diagnostics .exit)) s r
-        (patType (now (tree .entry)) unresolved left at (s .n))
+        (patType (now (tree .entry)) (scope .unresolved) left at (s .n))
         ⌝ }
 {
     let right = child_at(tree, at, left, 1);
@@ -696,7 +680,7 @@ fn named_param(
         tree,
         right,
         left - 1,
-        mutable(unresolved),
+        mutable(scope),
         out,
         diagnostics,
         next,
@@ -711,16 +695,16 @@ fn unnamed_param(
     tree: &[u8],
     at: usize,
     left: usize,
-    unresolved: u32,
+    scope: Scope,
     out: &mut [u8],
     diagnostics: &mut [u8],
     s: State,
 ) -> Typed
-    requires { ⌜ Ready left (now tree) at (s .n) × (markAt (now tree) at ≡ mark "Ag") ⌝ }
+    requires { ⌜ Ready left (now tree) at (s .n) scope × (markAt (now tree) at ≡ mark "Ag") ⌝ }
     requires { ⌜ (markAt (now tree) (bodyAt (now tree) at) ≡ mark "Bd" → ⊥) ⌝ }
     ensures { λ r. ⌜
         Gave (now (out .entry)) (now (out .exit)) (now (diagnostics .entry)) (now (diagnostics .exit)) s r
-        (patType (now (tree .entry)) unresolved left at (s .n))
+        (patType (now (tree .entry)) (scope .unresolved) left at (s .n))
         ⌝ }
 {
     let right = child_at(tree, at, left, 1);
@@ -730,7 +714,7 @@ fn unnamed_param(
         tree,
         right,
         left - 1,
-        mutable(unresolved),
+        mutable(scope),
         out,
         diagnostics,
         next,

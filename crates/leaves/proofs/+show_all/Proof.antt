@@ -40,10 +40,10 @@ calls t = (
 )
 
 abbrev Inv-loop : show-all-lts.InvT-loop
-Inv-loop tree at left n₀ kid₀ n kid = AllAccepted (left - 1) tree n kid
+Inv-loop tree at left scope n₀ kid₀ n kid = AllAccepted (left - 1) tree n kid
 
 abbrev μ-loop : show-all-lts.MeasureT-loop
-μ-loop tree at left n₀ kid₀ n kid = n
+μ-loop tree at left scope n₀ kid₀ n kid = n
 
 show-record-requires : (t : ℕ) → show-all-lts.Need-show-record-requires (calls t) (this t) reads.Post Inv-loop μ-loop
 show-record-requires t c κs = c .before .pre .1

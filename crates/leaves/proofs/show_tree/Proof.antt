@@ -24,10 +24,9 @@ slice-aggregate-print c = search needs
 print-requires : tie.Need-print-requires
 print-requires c κs = search needs
 
-show-all-requires : tie.Need-show-all-requires
-show-all-requires c κs =
-    let root = root-accepted (c .before .before .before .before .before .before .before .before .args .tree .now) _ _ (sym (c .before .before .before .before .before .check-tree .ensures) ∙ ap checked (c .before .before .before .found .given .1)) in
-    (root, root)
+show-items-requires : tie.Need-show-items-requires
+show-items-requires c κs =
+    root-accepted (c .before .before .before .before .before .before .before .before .args .tree .now) _ _ (sym (c .before .before .before .before .before .check-tree .ensures) ∙ ap checked (c .before .before .before .found .given .1))
 
 enum-known-found-2 : tie.Need-enum-known-found-2
 enum-known-found-2 c = search needs
@@ -51,7 +50,7 @@ show-tree-spec =
     enum-known-found
     slice-aggregate-print
     print-requires
-    show-all-requires
+    show-items-requires
     enum-known-found-2
     show-refusal-requires
     returns

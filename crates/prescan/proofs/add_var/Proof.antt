@@ -39,11 +39,11 @@ add-declarator-requires c κs = seek-first (c .before .loop .inv) (c .loop-test 
 returns-2 : tie.Need-returns-2 Inv-loop μ-loop
 returns-2 c = sym (var-const (c .before .before .before .before .before .before .before .before .before .before .pre) (ap (λ (h : Head). h .flags) (c .before .before .before .before .before .before .before .read-head .ensures)) (meant (c .before .before .before .before .before .before .before .before .before .before .args .question)) (c .before .before .before .before .before .before .before .before .before .before .args .name .now) (c .before .before .before .before .before .if1 .left) ∙ seek-here (c .before .before .before .loop .inv) (addDeclarator (meant (c .before .before .before .before .before .before .before .before .before .before .args .question)) (c .before .before .before .before .before .before .before .before .before .before .args .name .now)) (declares-step (meant (c .before .before .before .before .before .before .before .before .before .before .args .question)) (c .before .before .before .before .before .before .before .before .before .before .args .name .now)) (c .before .before .loop-test .taken) (sym (c .before .add-declarator .ensures) ∙ c .if2 .taken))
 
-sub-record-end : tie.Need-sub-record-end Inv-loop μ-loop
-sub-record-end c = omega (arith, level (c .before .before .before .before .before .before .before .before .before .before .pre))
+sub-next-one : tie.Need-sub-next-one Inv-loop μ-loop
+sub-next-one c = omega (arith, level (c .before .before .before .before .before .before .before .before .before .before .pre))
 
-record-end-requires : tie.Need-record-end-requires Inv-loop μ-loop
-record-end-requires c κs = lies (seek-first (c .before .before .before .loop .inv) (c .before .before .loop-test .taken))
+next-one-requires : tie.Need-next-one-requires Inv-loop μ-loop
+next-one-requires c κs = lies (seek-first (c .before .before .before .loop .inv) (c .before .before .loop-test .taken))
 
 sub-n : tie.Need-sub-n Inv-loop μ-loop
 sub-n c = omega arith
@@ -52,7 +52,7 @@ loop-less : tie.Need-loop-less Inv-loop μ-loop
 loop-less c = omega arith
 
 loop-again : tie.Need-loop-again Inv-loop μ-loop
-loop-again c = seek-next (c .before .before .before .before .loop .inv) (addDeclarator (meant (c .before .before .before .before .before .before .before .before .before .before .before .args .question)) (c .before .before .before .before .before .before .before .before .before .before .before .args .name .now)) (declares-step (meant (c .before .before .before .before .before .before .before .before .before .before .before .args .question)) (c .before .before .before .before .before .before .before .before .before .before .before .args .name .now)) (c .before .before .before .loop-test .taken) (sym (c .before .before .add-declarator .ensures) ∙ c .before .if2 .left) (c .record-end .ensures)
+loop-again c = seek-next (c .before .before .before .before .loop .inv) (addDeclarator (meant (c .before .before .before .before .before .before .before .before .before .before .before .args .question)) (c .before .before .before .before .before .before .before .before .before .before .before .args .name .now)) (declares-step (meant (c .before .before .before .before .before .before .before .before .before .before .before .args .question)) (c .before .before .before .before .before .before .before .before .before .before .before .args .name .now)) (c .before .before .before .loop-test .taken) (sym (c .before .before .add-declarator .ensures) ∙ c .before .if2 .left) (c .next-one .ensures)
 
 returns-3 : tie.Need-returns-3 Inv-loop μ-loop
 returns-3 c = sym (var-const (c .before .before .before .before .before .before .before .before .pre) (ap (λ (h : Head). h .flags) (c .before .before .before .before .before .read-head .ensures)) (meant (c .before .before .before .before .before .before .before .before .args .question)) (c .before .before .before .before .before .before .before .before .args .name .now) (c .before .before .before .if1 .left) ∙ seek-done (c .before .loop .inv) (declares-none (meant (c .before .before .before .before .before .before .before .before .args .question)) (c .before .before .before .before .before .before .before .before .args .name .now)) (c .loop-test .left))
@@ -70,8 +70,8 @@ add-var-spec =
     sub-add-declarator
     add-declarator-requires
     returns-2
-    sub-record-end
-    record-end-requires
+    sub-next-one
+    next-one-requires
     sub-n
     loop-less
     loop-again

@@ -13,22 +13,22 @@ use Rattle.prescan.proofs.asked.Statement.{statement}
 use Rattle.prescan.proofs.asked.Tie as tie
 
 abbrev Inv-loop : tie.InvT-loop
-Inv-loop tree id left question name n₀ item₀ n item = Seek (Asks (meant question) name) (kidsOf (treeAt deepest tree 0)) (deepest - 1) tree n item
+Inv-loop tree id left scope question name n₀ item₀ n item = Seek (Asks (meant question) name) (kidsOf (treeAt deepest tree 0)) (deepest - 1) tree n item
 
 abbrev μ-loop : tie.MeasureT-loop
-μ-loop tree id left question name n₀ item₀ n item = n
+μ-loop tree id left scope question name n₀ item₀ n item = n
 
 text-at-requires : tie.Need-text-at-requires Inv-loop μ-loop
 text-at-requires c κs = fits (c .before .pre .0)
 
 count-at-requires : tie.Need-count-at-requires Inv-loop μ-loop
-count-at-requires c κs = room (c .before .before .pre .1)
+count-at-requires c κs = room (c .before .before .pre .1 .0)
 
 body-at-requires : tie.Need-body-at-requires Inv-loop μ-loop
-body-at-requires c κs = room (c .before .before .before .pre .1)
+body-at-requires c κs = room (c .before .before .before .pre .1 .0)
 
 loop-holds : tie.Need-loop-holds Inv-loop μ-loop
-loop-holds c = seek-start (Asks (meant (c .before .before .before .before .args .question)) (c .before .before .text-at .result .now)) (c .before .before .before .before .pre .1) (c .before .count-at .ensures .0) (c .body-at .ensures)
+loop-holds c = seek-start (Asks (meant (c .before .before .before .before .args .question)) (c .before .before .text-at .result .now)) (c .before .before .before .before .pre .1 .0) (c .before .count-at .ensures .0) (c .body-at .ensures)
 
 sub-add-item : tie.Need-sub-add-item Inv-loop μ-loop
 sub-add-item c = omega arith
@@ -39,11 +39,8 @@ add-item-requires c κs = seek-first (c .before .loop .inv) (c .loop-test .taken
 returns : tie.Need-returns Inv-loop μ-loop
 returns c = sym (ap (asked (meant (c .before .before .before .before .before .before .before .before .args .question)) (kidsOf (treeAt deepest (c .before .before .before .before .before .before .before .before .args .tree .now) 0))) (sym (c .before .before .before .before .before .before .text-at .ensures)) ∙ seek-here (c .before .before .before .loop .inv) (addItem (meant (c .before .before .before .before .before .before .before .before .args .question)) (c .before .before .before .before .before .before .text-at .result .now)) (asks-step (meant (c .before .before .before .before .before .before .before .before .args .question)) (c .before .before .before .before .before .before .text-at .result .now)) (c .before .before .loop-test .taken) (sym (c .before .add-item .ensures) ∙ c .if1 .taken))
 
-sub-record-end : tie.Need-sub-record-end Inv-loop μ-loop
-sub-record-end c = omega arith
-
-record-end-requires : tie.Need-record-end-requires Inv-loop μ-loop
-record-end-requires c κs = lies (seek-first (c .before .before .before .loop .inv) (c .before .before .loop-test .taken))
+next-item-requires : tie.Need-next-item-requires Inv-loop μ-loop
+next-item-requires c κs = (lies (seek-first (c .before .before .before .loop .inv) (c .before .before .loop-test .taken)), c .before .before .before .before .before .before .before .before .pre .1 .1)
 
 sub-n : tie.Need-sub-n Inv-loop μ-loop
 sub-n c = omega arith
@@ -52,7 +49,7 @@ loop-less : tie.Need-loop-less Inv-loop μ-loop
 loop-less c = omega arith
 
 loop-again : tie.Need-loop-again Inv-loop μ-loop
-loop-again c = seek-next (c .before .before .before .before .loop .inv) (addItem (meant (c .before .before .before .before .before .before .before .before .before .args .question)) (c .before .before .before .before .before .before .before .text-at .result .now)) (asks-step (meant (c .before .before .before .before .before .before .before .before .before .args .question)) (c .before .before .before .before .before .before .before .text-at .result .now)) (c .before .before .before .loop-test .taken) (sym (c .before .before .add-item .ensures) ∙ c .before .if1 .left) (c .record-end .ensures)
+loop-again c = seek-next (c .before .before .before .before .loop .inv) (addItem (meant (c .before .before .before .before .before .before .before .before .before .args .question)) (c .before .before .before .before .before .before .before .text-at .result .now)) (asks-step (meant (c .before .before .before .before .before .before .before .before .before .args .question)) (c .before .before .before .before .before .before .before .text-at .result .now)) (c .before .before .before .loop-test .taken) (sym (c .before .before .add-item .ensures) ∙ c .before .if1 .left) (c .next-item .ensures)
 
 returns-2 : tie.Need-returns-2 Inv-loop μ-loop
 returns-2 c = sym (ap (asked (meant (c .before .before .before .before .before .before .args .question)) (kidsOf (treeAt deepest (c .before .before .before .before .before .before .args .tree .now) 0))) (sym (c .before .before .before .before .text-at .ensures)) ∙ seek-done (c .before .loop .inv) (asks-none (meant (c .before .before .before .before .before .before .args .question)) (c .before .before .before .before .text-at .result .now)) (c .loop-test .left))
@@ -70,8 +67,7 @@ asked-spec =
     sub-add-item
     add-item-requires
     returns
-    sub-record-end
-    record-end-requires
+    next-item-requires
     sub-n
     loop-less
     loop-again

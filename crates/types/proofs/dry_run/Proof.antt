@@ -20,7 +20,7 @@ start-requires : tie.Need-start-requires
 start-requires c κs = search needs
 
 expr-to-ts-type-requires : tie.Need-expr-to-ts-type-requires
-expr-to-ts-type-requires c κs = record { accepted = c .before .before .before .before .pre .0; root = c .before .before .before .before .pre .1; low = omega (arith, c .start .ensures) }
+expr-to-ts-type-requires c κs = record { accepted = c .before .before .before .before .pre .0; root = c .before .before .before .before .pre .1 .0; skips = c .before .before .before .before .pre .1 .1; low = omega (arith, c .start .ensures) }
 
 show-label-requires : tie.Need-show-label-requires
 show-label-requires c κs = search needs

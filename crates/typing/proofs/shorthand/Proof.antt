@@ -43,7 +43,7 @@ sub-ident-to-ts-type c = omega (arith, some-left _ _ _ (c .before .before .befor
 
 ident-to-ts-type-requires : tie.Need-ident-to-ts-type-requires
 unfolding marks
-ident-to-ts-type-requires c κs = let k = placed (sh-ident _ _ _ (c .before .before .before .before .before .before .before .before .before .before .pre .0 .accepted) (c .before .before .before .before .before .before .before .before .before .before .pre .1)) (c .before .before .before .before .before .before .body-at .ensures) in ((k .accepted, member-one _ _ (k .marks)), c .before .before .before .before .before .before .before .before .before .before .pre .0 .root)
+ident-to-ts-type-requires c κs = let k = placed (sh-ident _ _ _ (c .before .before .before .before .before .before .before .before .before .before .pre .0 .accepted) (c .before .before .before .before .before .before .before .before .before .before .pre .1)) (c .before .before .before .before .before .before .body-at .ensures) in ((k .accepted, member-one _ _ (k .marks)), (c .before .before .before .before .before .before .before .before .before .before .pre .0 .root, c .before .before .before .before .before .before .before .before .before .before .pre .0 .skips))
 
 enum-known-made : tie.Need-enum-known-made
 enum-known-made c = search needs

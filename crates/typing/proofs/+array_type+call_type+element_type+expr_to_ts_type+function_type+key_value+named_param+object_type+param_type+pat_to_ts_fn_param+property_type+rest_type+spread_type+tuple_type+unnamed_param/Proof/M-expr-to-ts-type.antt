@@ -81,7 +81,7 @@ pub call-type-requires : (t : ℕ) → expr-to-ts-type-lts.Need-call-type-requir
 call-type-requires t c κs = (omega (arith, c .before .before .before .before .before .before .before .pre .0), (c .before .before .before .before .before .before .before .pre .1, (sym (c .before .before .before .mark-at .ensures .0) ∙ c .before .before .match .keys8)))
 
 pub leaf-type-requires : (t : ℕ) → expr-to-ts-type-lts.Need-leaf-type-requires (calls t) (expr-to-ts-type-at t) expr-to-ts-type.Post
-leaf-type-requires t c κs = ((c .before .before .before .before .before .before .pre .1 .accepted), c .before .before .before .before .before .before .pre .1 .root)
+leaf-type-requires t c κs = (c .before .before .before .before .before .before .pre .1 .accepted, (c .before .before .before .before .before .before .pre .1 .root, c .before .before .before .before .before .before .pre .1 .skips))
 
 pub answer-of-requires-2 : (t : ℕ) → expr-to-ts-type-lts.Need-answer-of-requires-2 (calls t) (expr-to-ts-type-at t) expr-to-ts-type.Post
 answer-of-requires-2 t c κs = search needs

@@ -41,7 +41,7 @@ pub sub-property-type : (t : ℕ) → object-type-lts.Need-sub-property-type (ca
 sub-property-type t c = omega (arith, some-left _ _ _ (c .before .before .before .before .before .before .before .before .pre .1 .0 .accepted))
 
 pub property-type-requires : (t : ℕ) → object-type-lts.Need-property-type-requires (calls t) (object-type-at t) object-type.Post Inv-loop μ-loop
-property-type-requires t c κs = (omega (arith, c .before .before .before .before .before .before .before .before .before .before .pre .0, some-left _ _ _ (c .before .before .before .before .before .before .before .before .before .before .pre .1 .0 .accepted)), record { accepted = (loop-first _ _ _ (c .before .before .before .loop .inv) (c .before .before .loop-test .taken)); root = c .before .before .before .before .before .before .before .before .before .before .pre .1 .0 .root; low = c .before .before .before .loop .inv .low })
+property-type-requires t c κs = (omega (arith, c .before .before .before .before .before .before .before .before .before .before .pre .0, some-left _ _ _ (c .before .before .before .before .before .before .before .before .before .before .pre .1 .0 .accepted)), record { accepted = (loop-first _ _ _ (c .before .before .before .loop .inv) (c .before .before .loop-test .taken)); root = c .before .before .before .before .before .before .before .before .before .before .pre .1 .0 .root; low = c .before .before .before .loop .inv .low; skips = c .before .before .before .before .before .before .before .before .before .before .pre .1 .0 .skips })
 
 pub add-count : (t : ℕ) → object-type-lts.Need-add-count (calls t) (object-type-at t) object-type.Post Inv-loop μ-loop
 add-count t c = omega (arith, object-turn (c .before .before .before .before .before .before .before .before .before .before .before .before .before .before .before .before .before .args .tree .now) (c .before .before .before .before .before .before .before .before .before .before .before .before .before .before .before .before .before .args .mode) (c .before .before .before .before .before .before .before .before .before .before .before .before .before .before .before .before .before .args .left) (c .before .before .before .before .before .before .before .before .before .before .before .before .before .before .before .before .before .args .at) (c .before .before .before .before .before .before .before .before .before .before .before .before .before .before .before .before .before .args .s) (c .before .before .before .before .before .before .before .before .before .before .loop .inv) (c .before .before .before .before .before .before .before .before .before .loop-test .taken) (c .before .before .before .before .before .before .property-type .ensures) .few)

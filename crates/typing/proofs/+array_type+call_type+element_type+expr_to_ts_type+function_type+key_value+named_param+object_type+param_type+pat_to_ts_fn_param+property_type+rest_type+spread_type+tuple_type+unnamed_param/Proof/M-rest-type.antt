@@ -26,7 +26,7 @@ pub mark-at-requires : (t : ℕ) → rest-type-lts.Need-mark-at-requires (calls 
 mark-at-requires t c κs = itself _ _ _ (c .before .before .before .pre .1 .accepted) .room
 
 pub array-ident-requires : (t : ℕ) → rest-type-lts.Need-array-ident-requires (calls t) (rest-type-at t) rest-type.Post
-array-ident-requires t c κs = ((c .before .before .before .before .before .before .pre .1 .accepted), c .before .before .before .before .before .before .pre .1 .root)
+array-ident-requires t c κs = (c .before .before .before .before .before .before .pre .1 .accepted, (c .before .before .before .before .before .before .pre .1 .root, c .before .before .before .before .before .before .pre .1 .skips))
 
 pub answer-of-requires : (t : ℕ) → rest-type-lts.Need-answer-of-requires (calls t) (rest-type-at t) rest-type.Post
 answer-of-requires t c κs = search needs

@@ -43,7 +43,7 @@ pub sub-element-type : (t : ℕ) → tuple-type-lts.Need-sub-element-type (calls
 sub-element-type t c = omega (arith, some-left _ _ _ (c .before .before .before .before .before .before .before .before .pre .1 .accepted))
 
 pub element-type-requires : (t : ℕ) → tuple-type-lts.Need-element-type-requires (calls t) (tuple-type-at t) tuple-type.Post Inv-loop μ-loop
-element-type-requires t c κs = (omega (arith, c .before .before .before .before .before .before .before .before .before .before .pre .0, some-left _ _ _ (c .before .before .before .before .before .before .before .before .before .before .pre .1 .accepted)), record { accepted = (loop-first _ _ _ (c .before .before .before .loop .inv) (c .before .before .loop-test .taken)); root = c .before .before .before .before .before .before .before .before .before .before .pre .1 .root; low = c .before .before .before .loop .inv .low })
+element-type-requires t c κs = (omega (arith, c .before .before .before .before .before .before .before .before .before .before .pre .0, some-left _ _ _ (c .before .before .before .before .before .before .before .before .before .before .pre .1 .accepted)), record { accepted = (loop-first _ _ _ (c .before .before .before .loop .inv) (c .before .before .loop-test .taken)); root = c .before .before .before .before .before .before .before .before .before .before .pre .1 .root; low = c .before .before .before .loop .inv .low; skips = c .before .before .before .before .before .before .before .before .before .before .pre .1 .skips })
 
 pub enum-known-made : (t : ℕ) → tuple-type-lts.Need-enum-known-made (calls t) (tuple-type-at t) tuple-type.Post Inv-loop μ-loop
 enum-known-made t c = search needs
