@@ -24,24 +24,30 @@ fn kinds(n: usize) -> Vec<(&'static str, Vec<u8>)> {
     ]
 }
 
-/// The shortest of many runs.
 fn time(tree: &[u8]) -> Duration {
-    let mut best = Duration::MAX;
+    let start = Instant::now();
+    let (number, place) = check(tree, &[]);
+    let took = start.elapsed();
+    assert_eq!((number, place), (0, tree.len() as u64));
+    took
+}
+
+/// By the shortest of many runs of each, taken in turns.
+fn times(small: &[u8], large: &[u8]) -> f64 {
+    let mut best = [Duration::MAX; 2];
     for _ in 0..400 {
-        let start = Instant::now();
-        let (number, place) = check(tree, &[]);
-        let took = start.elapsed();
-        assert_eq!((number, place), (0, tree.len() as u64));
-        best = best.min(took);
+        for (best, tree) in best.iter_mut().zip([small, large]) {
+            *best = time(tree).min(*best);
+        }
     }
-    best
+    best[1].as_secs_f64() / best[0].as_secs_f64()
 }
 
 fn main() {
     let mut linear = true;
     for (small, large) in kinds(262_144).into_iter().zip(kinds(524_288)) {
         let bytes = large.1.len() as f64 / small.1.len() as f64;
-        let times = time(&large.1).as_secs_f64() / time(&small.1).as_secs_f64();
+        let times = times(&small.1, &large.1);
         println!("{}: {bytes:.2} times the bytes, {times:.2} times the time", small.0);
         linear &= times <= 2.3;
     }

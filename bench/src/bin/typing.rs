@@ -1,11 +1,12 @@
-//! The typing of wide expressions, timed: how many times the time twice the elements take. A call checks the tree and types its first expression.
+//! The typing of wide expressions, timed: how many times the time twice the elements take. A call checks the tree and types one of its items.
 use bench::record;
 use std::time::{Duration, Instant};
 
 unsafe extern "C" {
-    fn dts_type_first(
+    fn dts_type_item(
         tree: *const u8,
         tree_len: usize,
+        number: usize,
         out: *mut u8,
         out_len: usize,
         diagnostics: *mut u8,
@@ -14,12 +15,18 @@ unsafe extern "C" {
     ) -> u32;
 }
 
+/// A module, and the number of its item that is typed.
+struct Module {
+    tree: Vec<u8>,
+    number: usize,
+}
+
 /// Whether there is a type, and the bytes of it and of the diagnostics.
-fn type_first(tree: &[u8], out: &mut [u8], diagnostics: &mut [u8]) -> (u32, [u64; 2]) {
+fn type_item(module: &Module, out: &mut [u8], diagnostics: &mut [u8]) -> (u32, [u64; 2]) {
     let mut lengths = [0; 2];
-    let (o, d) = (out.len(), diagnostics.len());
-    let answer =
-        unsafe { dts_type_first(tree.as_ptr(), tree.len(), out.as_mut_ptr(), o, diagnostics.as_mut_ptr(), d, &mut lengths) };
+    let (t, o, d) = (module.tree.len(), out.len(), diagnostics.len());
+    let (out, diagnostics) = (out.as_mut_ptr(), diagnostics.as_mut_ptr());
+    let answer = unsafe { dts_type_item(module.tree.as_ptr(), t, module.number, out, o, diagnostics, d, &mut lengths) };
     (answer, lengths)
 }
 
@@ -27,50 +34,105 @@ fn leaf(mark: &str) -> Vec<u8> {
     record(mark, &[], &[])
 }
 
-/// A module of one expression, around so many of the same element.
-fn module(mark: &str, first: &[Vec<u8>], element: Vec<u8>, count: usize) -> Vec<u8> {
-    let children = [first, &vec![element; count]].concat();
-    record("Mo", &[], &[record("Xe", &[], &[record(mark, &[], &children)])])
+/// An expression around so many of the same element.
+fn wide(mark: &str, first: &[Vec<u8>], element: Vec<u8>, count: usize) -> Vec<u8> {
+    record(mark, &[], &[first, &vec![element; count]].concat())
 }
 
-fn kinds(n: usize) -> Vec<(&'static str, Vec<u8>)> {
+fn default_export(expression: Vec<u8>) -> Vec<u8> {
+    record("Xe", &[], &[expression])
+}
+
+/// Expressions without names, each in a module of one item.
+fn kinds(n: usize) -> Vec<(&'static str, Module)> {
     let number = record("Nu", &[0; 8], &[]);
     let property = |value: Vec<u8>| record("Kv", &[], &[record("Ki", b"key", &[]), value]);
     let array = record("Ar", &[], &[number.clone()]);
     let default = record("Ag", &[], &[record("Pb", &[], &[leaf("No")]), number.clone()]);
     let freeze = record("Mb", &[], &[record("Id", b"\x01\0\0\0Object", &[]), record("Ki", b"freeze", &[])]);
-    let object = record("Ob", &[], &vec![property(number.clone()); n / 2]);
-    vec![
-        ("an array of numbers", module("Ar", &[], number.clone(), n)),
-        ("an array of holes", module("Ar", &[], leaf("No"), n)),
-        ("an array of untyped elements", module("Ar", &[], leaf("Oe"), n)),
-        ("an array of spreads", module("Ar", &[], record("Sp", &[], &[array.clone()]), n / 2)),
-        ("an object of numbers", module("Ob", &[], property(number), n / 2)),
-        ("an object of arrays", module("Ob", &[], property(array), n / 2)),
-        ("an object of untyped values", module("Ob", &[], property(leaf("Oe")), n / 2)),
-        ("an arrow with defaults", module("Aw", &[leaf("No"), leaf("No")], default, n / 2)),
-        ("a frozen object", module("Ca", &[freeze], object, 1)),
-    ]
+    let object = wide("Ob", &[], property(number.clone()), n / 2);
+    let expressions = vec![
+        ("an array of numbers", wide("Ar", &[], number.clone(), n)),
+        ("an array of holes", wide("Ar", &[], leaf("No"), n)),
+        ("an array of untyped elements", wide("Ar", &[], leaf("Oe"), n)),
+        ("an array of spreads", wide("Ar", &[], record("Sp", &[], &[array.clone()]), n / 2)),
+        ("an object of numbers", object.clone()),
+        ("an object of arrays", wide("Ob", &[], property(array), n / 2)),
+        ("an object of untyped values", wide("Ob", &[], property(leaf("Oe")), n / 2)),
+        ("an arrow with defaults", wide("Aw", &[leaf("No"), leaf("No")], default, n / 2)),
+        ("a frozen object", wide("Ca", &[freeze], object, 1)),
+    ];
+    let alone = |tree: Vec<u8>| Module { tree: record("Mo", &[], &[default_export(tree)]), number: 0 };
+    expressions.into_iter().map(|(kind, expression)| (kind, alone(expression))).collect()
 }
 
-/// The shortest of many runs.
-fn time(tree: &[u8]) -> Duration {
+/// A resolved name.
+fn name(symbol: &str) -> Vec<u8> {
+    record("Id", &[b"\x02\0\0\0", symbol.as_bytes()].concat(), &[])
+}
+
+/// A Vd of one declarator, with the flag of a const.
+fn constant(symbol: &str, ty: Vec<u8>, init: Vec<u8>) -> Vec<u8> {
+    let binding = record("Bd", &[], &[name(symbol), ty]);
+    let mut bytes = record("Vd", &[], &[record("Vr", &[], &[binding, init])]);
+    bytes[2] = 2;
+    bytes
+}
+
+/// Expressions of resolved names, each of which is a question put to the module: by `list` and `Class`, which it declares, and by a name that it
+/// does not. Each as a default export, as the init of a const and of an exported one; and each such item before two others, between and behind them.
+fn names(n: usize) -> Vec<(String, [Module; 3])> {
+    let spread = record("Sp", &[], &[name("list")]);
+    let class = record("Ne", &[], &[name("Class"), leaf("No")]);
+    let shorthand = |symbol| record("Sh", &[], &[name(symbol)]);
+    let property = record("Kv", &[], &[record("Ki", b"key", &[]), name("list")]);
+    let expressions = [
+        ("an array of names", wide("Ar", &[], name("list"), n)),
+        ("an array of untyped names", wide("Ar", &[], name("other"), n)),
+        ("an array of spread names", wide("Ar", &[], spread, n / 2)),
+        ("an array of new objects", wide("Ar", &[], class, n / 2)),
+        ("an object of shorthands", wide("Ob", &[], shorthand("list"), n / 2)),
+        ("an object of untyped shorthands", wide("Ob", &[], shorthand("other"), n / 2)),
+        ("an object of names", wide("Ob", &[], property, n / 2)),
+    ];
+    let list = constant("list", leaf("Ay"), leaf("No"));
+    let class = record("Cd", &[], &[name("Class"), record("Cl", &[], &[leaf("No")])]);
+    let mut found = vec![];
+    for (kind, expression) in expressions {
+        let init = constant("wide", leaf("No"), expression.clone());
+        let export = record("Ed", &[], &[init.clone()]);
+        for (place, item) in [("as default", default_export(expression)), ("in a const", init), ("in an exported const", export)] {
+            let modules = [0, 1, 2].map(|number| {
+                let mut items = vec![list.clone(), class.clone()];
+                items.insert(number, item.clone());
+                Module { tree: record("Mo", &[], &items), number }
+            });
+            found.push((format!("{kind}, {place}"), modules));
+        }
+    }
+    found
+}
+
+fn time(module: &Module, out: &mut [u8], diagnostics: &mut [u8]) -> Duration {
+    let start = Instant::now();
+    let (answer, lengths) = type_item(module, out, diagnostics);
+    let took = start.elapsed();
+    assert_eq!(answer, 0);
+    assert!(lengths[0] >= 15 && lengths[0] as usize <= out.len() && lengths[1] as usize <= diagnostics.len());
+    took
+}
+
+/// By the shortest of many runs of each, taken in turns.
+fn times(small: &Module, large: &Module) -> f64 {
     let mut out = vec![0; 8 << 20];
     let mut diagnostics = vec![0; 1 << 20];
-    let mut best = Duration::MAX;
+    let mut best = [Duration::MAX; 2];
     for _ in 0..100 {
-        let start = Instant::now();
-        let (answer, lengths) = type_first(tree, &mut out, &mut diagnostics);
-        let took = start.elapsed();
-        assert_eq!(answer, 0);
-        assert!(lengths[0] > 15 && lengths[0] as usize <= out.len() && lengths[1] as usize <= diagnostics.len());
-        best = best.min(took);
+        for (best, module) in best.iter_mut().zip([small, large]) {
+            *best = time(module, &mut out, &mut diagnostics).min(*best);
+        }
     }
-    best
-}
-
-fn times(small: &[u8], large: &[u8]) -> f64 {
-    time(large).as_secs_f64() / time(small).as_secs_f64()
+    best[1].as_secs_f64() / best[0].as_secs_f64()
 }
 
 fn main() {
@@ -80,9 +142,11 @@ fn main() {
         println!("{}: twice the elements, {times:.2} times the time", small.0);
         linear &= times <= 2.3;
     }
-    // Not held to 2.3: each name is a question put to the module, which holds all of them.
-    let names = |n| module("Ar", &[], record("Id", b"\x02\0\0\0a", &[]), n);
-    println!("an array of names: twice the elements, {:.2} times the time", times(&names(1_000), &names(2_000)));
+    for (small, large) in names(7_000).into_iter().zip(names(14_000)) {
+        let [first, middle, last] = [0, 1, 2].map(|i| times(&small.1[i], &large.1[i]));
+        println!("{}, as the first, middle and last item: twice the elements, {first:.2}, {middle:.2}, {last:.2} times the time", small.0);
+        linear &= first.max(middle).max(last) <= 2.3;
+    }
     if !linear {
         println!("not linear: twice the elements took over 2.3 times the time");
         std::process::exit(1);
