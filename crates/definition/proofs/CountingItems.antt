@@ -173,7 +173,7 @@ module _ (ty : Typing) (modest : Modest ty) where
   handlePatternBy-within pBox p n = within-pure p n _
   handlePatternBy-within pOther p n = within-pure p n _
 
-  handleFuncParam-within : (p : Rec) (n : ℕ) → Within n (records p) (handleFuncParam ty p n)
+  pub handleFuncParam-within : (p : Rec) (n : ℕ) → Within n (records p) (handleFuncParam ty p n)
   unfolding handleFuncParam
   handleFuncParam-within p n =
       let first : Rec = kid 0 (kidsOf p) in
@@ -220,7 +220,7 @@ module _ (ty : Typing) (modest : Modest ty) where
       within-value _ (within-wider (below r) (propType-within value (kid 1 (kidsOf r)) n) (kid-below 2 (kidsOf r)))
 
   module _ (list : List ℕ) (ctx : ℕ) where
-    memberBy-within : (k : Member) (r : Rec) (n : ℕ) → Within n (below r) (memberBy list ctx ty k r n)
+    pub memberBy-within : (k : Member) (r : Rec) (n : ℕ) → Within n (below r) (memberBy list ctx ty k r n)
     unfolding memberBy
     memberBy-within mConstructor r n = within-if (listed list (headOf r)) _ _ n _ (within-pure nil n _) (constructor-within r n)
     memberBy-within mMethod r n = within-if (listed list (headOf r)) _ _ n _ (within-pure nil n _) (method-within r (validPropName ctx (kid 0 (kidsOf r))) n)

@@ -95,7 +95,7 @@ pub enum Elements {
 }
 
 // Back to where a typing that failed began: its diagnostics and its names stay.
-fn back(s: State, next: State) -> State
+pub fn back(s: State, next: State) -> State
     ensures { λ r. ⌜ r ≡ backTo s next ⌝ }
 {
     State {
@@ -107,7 +107,7 @@ fn back(s: State, next: State) -> State
 }
 
 // `mark_diagnostic`, at the range of a record.
-fn mark_diagnostic(tree: &[u8], at: usize, code: u16, diagnostics: &mut [u8], s: State) -> State
+pub fn mark_diagnostic(tree: &[u8], at: usize, code: u16, diagnostics: &mut [u8], s: State) -> State
     requires { ⌜ at + headSize ≤ length (now tree) ⌝ }
     ensures { λ r. ⌜ Marks (now (diagnostics .entry)) (now (diagnostics .exit)) s r (diagAt (now (tree .entry)) at code) ⌝ }
 {
@@ -118,7 +118,7 @@ fn mark_diagnostic(tree: &[u8], at: usize, code: u16, diagnostics: &mut [u8], s:
 }
 
 // A type, or `any` and a diagnostic at the expression that has none, as for an element of an array and the value of a property.
-fn or_any(
+pub fn or_any(
     tree: &[u8],
     at: usize,
     code: u16,
@@ -157,7 +157,7 @@ fn answer_of(s: State, made: MaybeType) -> Typed
 }
 
 // `filter_map`: a record that may be missing is one record or none.
-fn one_or_none(t: Typed) -> Counted
+pub fn one_or_none(t: Typed) -> Counted
     ensures { λ r. ⌜ r ≡ countedOf t ⌝ }
 {
     match t {
@@ -177,7 +177,7 @@ fn is_readonly(mode: Mode) -> bool
 }
 
 // A property that gives no member: a diagnostic at it.
-fn skipped(tree: &[u8], at: usize, code: u16, diagnostics: &mut [u8], s: State) -> Counted
+pub fn skipped(tree: &[u8], at: usize, code: u16, diagnostics: &mut [u8], s: State) -> Counted
     requires { ⌜ at + headSize ≤ length (now tree) ⌝ }
     ensures { λ r. ⌜ Marks (now (diagnostics .entry)) (now (diagnostics .exit)) s (r .s) (diagAt (now (tree .entry)) at code) × (r .count ≡ 0) ⌝ }
 {
@@ -213,7 +213,7 @@ fn shorthand(
 }
 
 // How the default of a parameter is typed: `self.expr_to_ts_type(*assign_pat.right, false, false)`.
-fn mutable(scope: Scope) -> Mode
+pub fn mutable(scope: Scope) -> Mode
     ensures { λ r. ⌜ r ≡ mutableMode scope ⌝ }
 {
     Mode {

@@ -1,0 +1,353 @@
+// Classes, and the functions that they share with declarations: `class_body_to_type` and what it calls.
+ghost use mathlib.Core.Path.{_≡_};
+ghost use mathlib.Core.List.{[]};
+ghost use Rattle.definition.specs.Tree.{markAt, treeAt};
+ghost use Rattle.definition.specs.Grammar.{mark};
+ghost use Rattle.definition.specs.Children.{AcceptedAt};
+ghost use Rattle.definition.specs.Record.{kidsOf, kid};
+ghost use Rattle.definition.specs.Names.{validPropName};
+ghost use Rattle.definition.specs.Classes.{handleFunction, constructor, method, propType, classProp, member, class};
+ghost use Rattle.typing.specs.Did.{Ready};
+ghost use Rattle.typing.specs.Below.{Gives};
+ghost use Rattle.parts.specs.Makes.{Keeps, Makes};
+ghost use Rattle.classes.specs.Typings.{typingOf, returnPart, Named};
+use crate::overloads::is_impl_with_overloads;
+use crate::params::handle_func_params;
+use crate::params::handle_ts_param_props;
+use names::Key;
+use parts::front_size;
+use parts::keep;
+use parts::keep_all;
+use parts::put_any;
+use parts::put_front;
+use parts::put_gone;
+use prescan::Scope;
+use records::Head;
+use records::body_at;
+use records::mark_at;
+use records::marks::CO;
+use records::marks::CP;
+use records::marks::DM;
+use records::marks::KC;
+use records::marks::ME;
+use records::marks::NO;
+use records::read_head;
+use records::record_end;
+use typing::Counted;
+use typing::State;
+use typing::Typed;
+
+pub mod overloads;
+mod params;
+
+// `valid_prop_name`, written: the key that stands, or a fresh Kc over the expression, with its range.
+fn put_prop_name(
+    tree: &[u8],
+    at: usize,
+    left: usize,
+    unresolved: u32,
+    out: &mut [u8],
+    s: State,
+) -> Typed
+    requires { ⌜ AcceptedAt left (now tree) at ⌝ }
+    ensures { λ r. ⌜
+        Named (now (out .entry)) (now (out .exit)) s r (validPropName unresolved (treeAt left (now (tree .entry)) at))
+        ⌝ }
+{
+    match names::valid_prop_name(tree, at, left, unresolved) {
+        Key::Stands(key, levels) => Typed::Some(keep(tree, key, levels, out, s)),
+        Key::Computed(expr, levels) => {
+            let head = read_head(tree, expr);
+            let computed = Head {
+                mark: KC,
+                flags: 0,
+                start: head.start,
+                end: head.end,
+                text: 0,
+                count: 1,
+            };
+            let mut front = s;
+            front.p = records::put_head(out, s.p, computed);
+            Typed::Some(keep(tree, expr, levels, out, front))
+        }
+        Key::Nothing => Typed::None(s),
+    }
+}
+
+// The return type of a function: "Setters lose the return type".
+fn put_return_type(
+    tree: &[u8],
+    at: usize,
+    left: usize,
+    setter: bool,
+    out: &mut [u8],
+    s: State,
+) -> State
+    requires { ⌜ AcceptedAt left (now tree) at ⌝ }
+    ensures { λ r. ⌜ Keeps (now (out .entry)) (now (out .exit)) s r (returnPart setter (treeAt left (now (tree .entry)) at)) ⌝ }
+{
+    if setter {
+        return put_gone(tree, at, left, out, s);
+    }
+    keep(tree, at, left, out, s)
+}
+
+// A function, the Fu at `at`: its body goes, and `handle_func_params`.
+pub fn handle_function(
+    tree: &[u8],
+    at: usize,
+    left: usize,
+    scope: Scope,
+    setter: bool,
+    out: &mut [u8],
+    diagnostics: &mut [u8],
+    s: State,
+) -> State
+    requires { ⌜ Ready left (now tree) at (s .n) scope × (markAt (now tree) at ≡ mark "Fu") ⌝ }
+    ensures { λ r. ⌜
+        Makes (now (out .entry)) (now (out .exit)) (now (diagnostics .entry)) (now (diagnostics .exit)) s r
+        (handleFunction (typingOf (now (tree .entry)) scope) setter (treeAt left (now (tree .entry)) at) (s .n))
+        ⌝ }
+{
+    let head = read_head(tree, at);
+    let type_params = body_at(tree, at);
+    let return_type = record_end(tree, type_params, left - 1);
+    let body = record_end(tree, return_type, left - 1);
+    let params = record_end(tree, body, left - 1);
+    let front = put_front(tree, at, left, head.flags, head.count, out, s);
+    let kept = keep(tree, type_params, left - 1, out, front);
+    let typed = put_return_type(tree, return_type, left - 1, setter, out, kept);
+    let bare = put_gone(tree, body, left - 1, out, typed);
+    handle_func_params(
+        tree,
+        params,
+        head.count - 3,
+        left - 1,
+        scope,
+        out,
+        diagnostics,
+        bare,
+    )
+}
+
+// `ClassMember::Constructor`.
+fn constructor(
+    tree: &[u8],
+    at: usize,
+    left: usize,
+    scope: Scope,
+    out: &mut [u8],
+    diagnostics: &mut [u8],
+    s: State,
+) -> Counted
+    requires { ⌜ Ready left (now tree) at (s .n) scope × (markAt (now tree) at ≡ mark "Co") ⌝ }
+    ensures { λ r. ⌜
+        Gives (now (out .entry)) (now (out .exit)) (now (diagnostics .entry)) (now (diagnostics .exit)) s r
+        (constructor (typingOf (now (tree .entry)) scope) (treeAt left (now (tree .entry)) at) (s .n))
+        ⌝ }
+{
+    let head = read_head(tree, at);
+    let body = body_at(tree, at);
+    let params = record_end(tree, body, left - 1);
+    let front = put_front(tree, at, left, head.flags, head.count, out, s);
+    let bare = put_gone(tree, body, left - 1, out, front);
+    let next = handle_ts_param_props(
+        tree,
+        params,
+        head.count - 1,
+        left - 1,
+        scope,
+        out,
+        diagnostics,
+        bare,
+    );
+    Counted { s: next, count: 1 }
+}
+
+// `ClassMember::Method`; a setter has flag 1.
+fn method(
+    tree: &[u8],
+    at: usize,
+    left: usize,
+    scope: Scope,
+    out: &mut [u8],
+    diagnostics: &mut [u8],
+    s: State,
+) -> Counted
+    requires { ⌜ Ready left (now tree) at (s .n) scope × (markAt (now tree) at ≡ mark "Me") ⌝ }
+    ensures { λ r. ⌜
+        Gives (now (out .entry)) (now (out .exit)) (now (diagnostics .entry)) (now (diagnostics .exit)) s r
+        (method (typingOf (now (tree .entry)) scope) (treeAt left (now (tree .entry)) at)
+        (validPropName (scope .unresolved) (kid 0 (kidsOf (treeAt left (now (tree .entry)) at)))) (s .n))
+        ⌝ }
+{
+    let head = read_head(tree, at);
+    let key = body_at(tree, at);
+    let function = record_end(tree, key, left - 1);
+    let rest = record_end(tree, function, left - 1);
+    let front = put_front(tree, at, left, head.flags, head.count, out, s);
+    let Typed::Some(named) = put_prop_name(tree, key, left - 1, scope.unresolved, out, front) else {
+        return Counted { s, count: 0 };
+    };
+    let setter = head.flags % 2 == 1;
+    let made = handle_function(
+        tree,
+        function,
+        left - 1,
+        scope,
+        setter,
+        out,
+        diagnostics,
+        named,
+    );
+    let next = keep_all(tree, rest, head.count - 2, left - 1, out, made);
+    Counted { s: next, count: 1 }
+}
+
+// The type of a property, at `at`, with its value: "Cp without type but with value: typed (off, off), else any with no diagnostic of its own".
+fn prop_type(
+    tree: &[u8],
+    at: usize,
+    value: usize,
+    left: usize,
+    scope: Scope,
+    out: &mut [u8],
+    diagnostics: &mut [u8],
+    s: State,
+) -> State
+    requires { ⌜ AcceptedAt left (now tree) at ⌝ }
+    requires { ⌜ Ready left (now tree) value (s .n) scope ⌝ }
+    ensures { λ r. ⌜
+        Makes (now (out .entry)) (now (out .exit)) (now (diagnostics .entry)) (now (diagnostics .exit)) s r
+        (propType (typingOf (now (tree .entry)) scope) (treeAt left (now (tree .entry)) value) (treeAt left (now (tree .entry)) at) (s .n))
+        ⌝ }
+{
+    if mark_at(tree, value) == NO {
+        return keep(tree, at, left, out, s);
+    }
+    if mark_at(tree, at) != NO {
+        return keep(tree, at, left, out, s);
+    }
+    let mode = typing::mutable(scope);
+    match typing::expr_to_ts_type(tree, value, left, mode, out, diagnostics, s) {
+        Typed::Some(made) => made,
+        Typed::None(failed) => put_any(out, failed),
+    }
+}
+
+// `ClassMember::ClassProp`: "Value, declare, definite go".
+fn class_prop(
+    tree: &[u8],
+    at: usize,
+    left: usize,
+    scope: Scope,
+    out: &mut [u8],
+    diagnostics: &mut [u8],
+    s: State,
+) -> Counted
+    requires { ⌜ Ready left (now tree) at (s .n) scope × (markAt (now tree) at ≡ mark "Cp") ⌝ }
+    ensures { λ r. ⌜
+        Gives (now (out .entry)) (now (out .exit)) (now (diagnostics .entry)) (now (diagnostics .exit)) s r
+        (classProp (typingOf (now (tree .entry)) scope) (treeAt left (now (tree .entry)) at)
+        (validPropName (scope .unresolved) (kid 0 (kidsOf (treeAt left (now (tree .entry)) at)))) (s .n))
+        ⌝ }
+{
+    let head = read_head(tree, at);
+    let key = body_at(tree, at);
+    let type_ann = record_end(tree, key, left - 1);
+    let value = record_end(tree, type_ann, left - 1);
+    let rest = record_end(tree, value, left - 1);
+    let flags = head.flags / 4 * 4;
+    let front = put_front(tree, at, left, flags, head.count, out, s);
+    let Typed::Some(named) = put_prop_name(tree, key, left - 1, scope.unresolved, out, front) else {
+        return Counted { s, count: 0 };
+    };
+    let typed = prop_type(
+        tree,
+        type_ann,
+        value,
+        left - 1,
+        scope,
+        out,
+        diagnostics,
+        named,
+    );
+    let bare = put_gone(tree, value, left - 1, out, typed);
+    let next = keep_all(tree, rest, head.count - 3, left - 1, out, bare);
+    Counted { s: next, count: 1 }
+}
+
+// One of the members: "Co and Me whose range is listed go, then Dm and Me|Cp without a valid key, silently".
+fn class_member(
+    tree: &[u8],
+    at: usize,
+    left: usize,
+    scope: Scope,
+    list: &[u8],
+    out: &mut [u8],
+    diagnostics: &mut [u8],
+    s: State,
+) -> Counted
+    requires { ⌜ Ready left (now tree) at (s .n) scope ⌝ }
+    ensures { λ r. ⌜
+        Gives (now (out .entry)) (now (out .exit)) (now (diagnostics .entry)) (now (diagnostics .exit)) s r
+        (member (now (list .entry)) (scope .unresolved) (typingOf (now (tree .entry)) scope) (treeAt left (now (tree .entry)) at) (s .n))
+        ⌝ }
+{
+    match mark_at(tree, at) {
+        CO => {
+            if is_impl_with_overloads(list, tree, at) {
+                return Counted { s, count: 0 };
+            }
+            constructor(tree, at, left, scope, out, diagnostics, s)
+        }
+        ME => {
+            if is_impl_with_overloads(list, tree, at) {
+                return Counted { s, count: 0 };
+            }
+            method(tree, at, left, scope, out, diagnostics, s)
+        }
+        CP => class_prop(tree, at, left, scope, out, diagnostics, s),
+        DM => Counted { s, count: 0 },
+        _ => {
+            let next = keep(tree, at, left, out, s);
+            Counted { s: next, count: 1 }
+        }
+    }
+}
+
+// `class_body_to_type`, of the Cl at `at`: its type parameters stand, its members follow.
+pub fn class_body_to_type(
+    tree: &[u8],
+    at: usize,
+    left: usize,
+    scope: Scope,
+    list: &[u8],
+    out: &mut [u8],
+    diagnostics: &mut [u8],
+    s: State,
+) -> State
+    requires { ⌜ Ready left (now tree) at (s .n) scope × (markAt (now tree) at ≡ mark "Cl") ⌝ }
+    ensures { λ r. ⌜
+        Makes (now (out .entry)) (now (out .exit)) (now (diagnostics .entry)) (now (diagnostics .exit)) s r
+        (class (now (list .entry)) (scope .unresolved) (typingOf (now (tree .entry)) scope) (treeAt left (now (tree .entry)) at) (s .n))
+        ⌝ }
+{
+    let head = read_head(tree, at);
+    let type_params = body_at(tree, at);
+    let mut n = head.count - 1;
+    let mut child = record_end(tree, type_params, left - 1);
+    let mut start = s;
+    start.p = records::advance(s.p, front_size(tree, at));
+    let mut next = keep(tree, type_params, left - 1, out, start);
+    let mut count = 1;
+    while 0 < n {
+        let made = class_member(tree, child, left - 1, scope, list, out, diagnostics, next);
+        next = made.s;
+        count += made.count;
+        child = record_end(tree, child, left - 1);
+        n -= 1;
+    }
+    put_front(tree, at, left, head.flags, count, out, s);
+    next
+}
