@@ -275,7 +275,7 @@ module _ (ty : Typing) (modest : Modest ty) where
       (within-value (typeOr _ (kid 1 (kidsOf p)) n) (typeOr-within _ (kid 1 (kidsOf p)) n _ (declaratorType-within (headOf p) init n)))
       (marked p (diag "d1" h) n (below init))
 
-  declarator-within : (r : Rec) (n : ℕ) → Within n (records r) (declarator ty r n)
+  pub declarator-within : (r : Rec) (n : ℕ) → Within n (records r) (declarator ty r n)
   unfolding declarator
   declarator-within r n =
       let init : Rec = kid 1 (kidsOf r) in

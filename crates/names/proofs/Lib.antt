@@ -1,3 +1,3 @@
 mod Table
-mod Decimals
+pub mod Decimals
 mod Keys

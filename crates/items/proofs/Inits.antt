@@ -1,0 +1,361 @@
+-- Enum members: the arms of `validEnumInitExpr` from the mark at an offset, the loop over a template's expressions, and the members that are written.
+-- Assumes nothing.
+use mathlib.Core.Path.{_≡_, refl, sym, ap, _∙_, subst}
+use mathlib.Core.List.{List, _++_}
+use mathlib.Core.Bool.{Bool, true, false, not, _&&_, _||_}
+use mathlib.Core.Logic.{_⊎_, inl, inr, ⊎-elim}
+use Prim.Native.Nat.{ℕ, _+_, _-_, _≤_, _<_, _^_}
+use native.Mathlib.Omega.{arith}
+use lib.Dec.{eqb}
+use lib.ListN.{length}
+use lib.Seq.{length-sets}
+use borrow.Author.Tests.{ne-eqb, not-true, not-false}
+use Rattle.definition.specs.Tree.{Head, Rec, Recs, rec, nil, cons, encode, encodes, markAt, countAt, bodyAt, headAt, endAt, treeAt}
+use Rattle.definition.specs.Grammar.{mark, grammar, known, slots, place, least}
+use Rattle.definition.specs.Children.{AcceptedAt, AllAccepted}
+use Rattle.definition.specs.Record.{kidsOf, is, absent, one, join, kid, Out, pure, ifM, second, each}
+use Rattle.definition.specs.Enums.{Init, iBin, iOver, iOptChain, iValid, iTpl, iTyped, iOther, initKind, validEnumTsType, validBy, validEnumInitExpr, validFirst, validBoth, validAll, enumInit, enumMember}
+use Rattle.definition.specs.Transform.{allTextsFit}
+use Rattle.definition.proofs.Children.{tree-is, children, first-one, others, readAll-more, readAll-none}
+use Rattle.definition.proofs.Kids.{is-mark, not-mark, mark-is, kids-are, at-least}
+use Rattle.records.specs.Wrote.{top}
+use Rattle.typing.specs.declared.State.{State}
+use Rattle.typing.proofs.Fits.{all-join, all-one}
+use Rattle.typing.proofs.Loops.{rest, rest-more, rest-none, join-nil, join-assoc, encodes-join, encodes-one}
+use Rattle.typing.proofs.Written.{puts-counter}
+use Rattle.parts.specs.Makes.{Keeps, KeepsAll}
+use Rattle.parts.proofs.Each.{each-anywhere}
+use Rattle.parts.proofs.Kept.{puts-none, puts-puts, puts-to}
+use Rattle.parts.proofs.Kids.{One, Two, kids-one, kids-two}
+use Rattle.items.specs.Steps.{recordsAt}
+
+-- ---- how many children there are
+
+module _ (left : ℕ) (s : List ℕ) (at : ℕ) (a : AcceptedAt left s at) where
+  pub tl-one : markAt s at ≡ mark "Tl" → 1 ≤ countAt s at
+  unfolding grammar known slots place least
+  tl-one e = at-least left s at a (mark "Tl") e 1 refl
+
+  pub bn-two : markAt s at ≡ mark "Bn" → 2 ≤ countAt s at
+  unfolding grammar known slots place least
+  bn-two e = at-least left s at a (mark "Bn") e 2 refl
+
+  pub over-one : (markAt s at ≡ mark "Mb") ⊎ (markAt s at ≡ mark "Pr") → 1 ≤ countAt s at
+  unfolding grammar known slots place least
+  over-one = ⊎-elim (λ e. let z = at-least left s at a (mark "Mb") e 2 refl in omega arith) (λ e. at-least left s at a (mark "Pr") e 1 refl)
+
+  pub oc-one : markAt s at ≡ mark "Oc" → 1 ≤ countAt s at
+  unfolding grammar known slots place least
+  oc-one e = at-least left s at a (mark "Oc") e 1 refl
+
+  pub typed-two : (markAt s at ≡ mark "Ta") ⊎ (markAt s at ≡ mark "As") → 2 ≤ countAt s at
+  unfolding grammar known slots place least
+  typed-two = ⊎-elim (λ e. at-least left s at a (mark "Ta") e 2 refl) (λ e. at-least left s at a (mark "As") e 2 refl)
+
+  pub em-two : markAt s at ≡ mark "Em" → 2 ≤ countAt s at
+  unfolding grammar known slots place least
+  em-two e = at-least left s at a (mark "Em") e 2 refl
+
+-- a test of the code tells the mark
+pub told : {m x n : ℕ} → m ≡ x → m ≡ n → x ≡ n
+told e f = sym e ∙ f
+
+pub told-either : {m x n k : ℕ} → m ≡ x → (m ≡ n) ⊎ (m ≡ k) → (x ≡ n) ⊎ (x ≡ k)
+told-either e = ⊎-elim (λ f. inl (sym e ∙ f)) (λ f. inr (sym e ∙ f))
+
+pub told-any : {m x n k l : ℕ} → m ≡ x → (m ≡ n) ⊎ ((m ≡ k) ⊎ (m ≡ l)) → (x ≡ n) ⊎ ((x ≡ k) ⊎ (x ≡ l))
+told-any e = ⊎-elim (λ f. inl (sym e ∙ f)) (λ f. inr (told-either e f))
+
+pub told-not : {m x n : ℕ} → m ≡ x → (m ≡ n → ⊥) → x ≡ n → ⊥
+told-not e f q = f (e ∙ q)
+
+-- a conjunction whose first part was asked first
+pub and-stop : {b x z : Bool} (y : Bool) → z ≡ (x && y) → b ≡ x → b ≡ false → false ≡ z
+and-stop y e f g = sym (e ∙ ap (λ (x : Bool). x && y) (sym f ∙ g))
+
+pub and-on : {b c x y z : Bool} → z ≡ (x && y) → b ≡ x → b ≡ true → c ≡ y → c ≡ z
+and-on {y = y} e f g i = i ∙ sym (e ∙ ap (λ (x : Bool). x && y) (sym f ∙ g))
+
+-- ---- the arms of `valid_enum_init_expr`, of a record whose children are known
+
+module _ (h : Head) where
+  arm : (k : Init) (ks : Recs) → initKind (h .mark) ≡ k → validEnumInitExpr (rec h ks) ≡ validBy k ks (validFirst ks) (validBoth ks) (validAll ks)
+  unfolding validEnumInitExpr
+  arm k ks e = ap (λ (k : Init). validBy k ks (validFirst ks) (validBoth ks) (validAll ks)) e
+
+  kind-bin : h .mark ≡ mark "Bn" → initKind (h .mark) ≡ iBin
+  unfolding initKind
+  kind-bin e = rw e
+
+  kind-over : (h .mark ≡ mark "Mb") ⊎ (h .mark ≡ mark "Pr") → initKind (h .mark) ≡ iOver
+  unfolding initKind
+  kind-over = ⊎-elim (λ e. rw e) (λ e. rw e)
+
+  kind-chain : h .mark ≡ mark "Oc" → initKind (h .mark) ≡ iOptChain
+  unfolding initKind
+  kind-chain e = rw e
+
+  kind-valid : (h .mark ≡ mark "Id") ⊎ ((h .mark ≡ mark "Ss") ⊎ (h .mark ≡ mark "Nu")) → initKind (h .mark) ≡ iValid
+  unfolding initKind
+  kind-valid = ⊎-elim (λ e. rw e) (⊎-elim (λ e. rw e) (λ e. rw e))
+
+  kind-tpl : h .mark ≡ mark "Te" → initKind (h .mark) ≡ iTpl
+  unfolding initKind
+  kind-tpl e = rw e
+
+  kind-typed : (h .mark ≡ mark "Ta") ⊎ (h .mark ≡ mark "As") → initKind (h .mark) ≡ iTyped
+  unfolding initKind
+  kind-typed = ⊎-elim (λ e. rw e) (λ e. rw e)
+
+  kind-other : (h .mark ≡ mark "Bn" → ⊥) → ((h .mark ≡ mark "Mb") ⊎ (h .mark ≡ mark "Pr") → ⊥) → (h .mark ≡ mark "Oc" → ⊥) → ((h .mark ≡ mark "Id") ⊎ ((h .mark ≡ mark "Ss") ⊎ (h .mark ≡ mark "Nu")) → ⊥)
+      → (h .mark ≡ mark "Te" → ⊥) → ((h .mark ≡ mark "Ta") ⊎ (h .mark ≡ mark "As") → ⊥) → initKind (h .mark) ≡ iOther
+  unfolding initKind
+  kind-other a b c d e f = rw (
+    ne-eqb _ _ a,
+    ne-eqb _ _ (λ q. b (inl q)),
+    ne-eqb _ _ (λ q. b (inr q)),
+    ne-eqb _ _ c,
+    ne-eqb _ _ (λ q. d (inl q)),
+    ne-eqb _ _ (λ q. d (inr (inr q))),
+    ne-eqb _ _ (λ q. d (inr (inl q))),
+    ne-eqb _ _ e,
+    ne-eqb _ _ (λ q. f (inr q)),
+    ne-eqb _ _ (λ q. f (inl q)),
+  )
+
+-- ---- the same from the mark at an offset
+
+module _ (left : ℕ) (s : List ℕ) (at : ℕ) (a : AcceptedAt left s at) where
+  valid-at : (k : Init) {ks : Recs} → treeAt left s at ≡ rec (headAt s at) ks → initKind (markAt s at) ≡ k → validEnumInitExpr (treeAt left s at) ≡ validBy k ks (validFirst ks) (validBoth ks) (validAll ks)
+  unfolding headAt
+  valid-at k {ks} e q = ap validEnumInitExpr e ∙ arm (headAt s at) k ks q
+
+  -- Bn
+  module _ (m : markAt s at ≡ mark "Bn") {p : ℕ} (e : p ≡ bodyAt s at) where
+    bn-kids : {q : ℕ} → q ≡ endAt (left - 1) s p → Two left s at p q (endAt (left - 1) s q)
+    bn-kids f = kids-two left s at a (bn-two left s at a m) e f refl
+
+    pub bn-first : AcceptedAt (left - 1) s p
+    bn-first = bn-kids refl .first
+
+    pub bn-second : {q : ℕ} → q ≡ endAt (left - 1) s p → AcceptedAt (left - 1) s q
+    bn-second f = bn-kids f .second
+
+    bn-both : {q : ℕ} → q ≡ endAt (left - 1) s p → validEnumInitExpr (treeAt left s at) ≡ (validEnumInitExpr (treeAt (left - 1) s p) && validEnumInitExpr (treeAt (left - 1) s q))
+    unfolding headAt validBy validBoth validFirst
+    bn-both f = valid-at iBin (bn-kids f .is) (kind-bin (headAt s at) m)
+
+    pub bn-false : {b : Bool} → b ≡ validEnumInitExpr (treeAt (left - 1) s p) → not b ≡ true → false ≡ validEnumInitExpr (treeAt left s at)
+    bn-false {b} f g = and-stop (validEnumInitExpr (treeAt (left - 1) s (endAt (left - 1) s p))) (bn-both refl) f (not-true b g)
+
+    pub bn-true : {b c : Bool} {q : ℕ} → b ≡ validEnumInitExpr (treeAt (left - 1) s p) → not b ≡ false → q ≡ endAt (left - 1) s p → c ≡ validEnumInitExpr (treeAt (left - 1) s q)
+        → c ≡ validEnumInitExpr (treeAt left s at)
+    bn-true {b} f g h i = and-on (bn-both h) f (not-false b g) i
+
+  -- Mb and Pr
+  module _ (m : (markAt s at ≡ mark "Mb") ⊎ (markAt s at ≡ mark "Pr")) {p : ℕ} (e : p ≡ bodyAt s at) where
+    over-kids : One left s at p (endAt (left - 1) s p)
+    over-kids = kids-one left s at a (over-one left s at a m) e refl
+
+    pub over-first : AcceptedAt (left - 1) s p
+    over-first = over-kids .first
+
+    pub over-is : {b : Bool} → b ≡ validEnumInitExpr (treeAt (left - 1) s p) → b ≡ validEnumInitExpr (treeAt left s at)
+    unfolding headAt validBy validFirst
+    over-is f = f ∙ sym (valid-at iOver (over-kids .is) (kind-over (headAt s at) m))
+
+  -- Oc
+  module _ (m : markAt s at ≡ mark "Oc") {p : ℕ} (e : p ≡ bodyAt s at) where
+    oc-kids : One left s at p (endAt (left - 1) s p)
+    oc-kids = kids-one left s at a (oc-one left s at a m) e refl
+
+    pub oc-first : AcceptedAt (left - 1) s p
+    oc-first = oc-kids .first
+
+    oc-both : validEnumInitExpr (treeAt left s at) ≡ (is "Mb" (treeAt (left - 1) s p) && validEnumInitExpr (treeAt (left - 1) s p))
+    unfolding headAt validBy validFirst
+    oc-both = valid-at iOptChain (oc-kids .is) (kind-chain (headAt s at) m)
+
+    pub oc-false : (markAt s p ≡ mark "Mb" → ⊥) → false ≡ validEnumInitExpr (treeAt left s at)
+    oc-false n = and-stop (validEnumInitExpr (treeAt (left - 1) s p)) oc-both refl (not-mark (left - 1) s p (mark "Mb") n)
+
+    pub oc-is : markAt s p ≡ mark "Mb" → {b : Bool} → b ≡ validEnumInitExpr (treeAt (left - 1) s p) → b ≡ validEnumInitExpr (treeAt left s at)
+    oc-is n f = and-on oc-both refl (is-mark (left - 1) s p (mark "Mb") n) f
+
+  -- As and Ta
+  module _ (m : (markAt s at ≡ mark "Ta") ⊎ (markAt s at ≡ mark "As")) {p : ℕ} (e : p ≡ bodyAt s at) where
+    typed-kids : {q : ℕ} → q ≡ endAt (left - 1) s p → Two left s at p q (endAt (left - 1) s q)
+    typed-kids f = kids-two left s at a (typed-two left s at a m) e f refl
+
+    pub typed-first : AcceptedAt (left - 1) s p
+    typed-first = typed-kids refl .first
+
+    pub typed-second : {q : ℕ} → q ≡ endAt (left - 1) s p → AcceptedAt (left - 1) s q
+    typed-second f = typed-kids f .second
+
+    pub typed-is : {q : ℕ} → q ≡ endAt (left - 1) s p → {b : Bool} → b ≡ validEnumTsType (treeAt (left - 1) s q) → b ≡ validEnumInitExpr (treeAt left s at)
+    unfolding headAt validBy
+    typed-is f g = g ∙ sym (valid-at iTyped (typed-kids f .is) (kind-typed (headAt s at) m))
+
+  -- the others
+  pub always : (markAt s at ≡ mark "Id") ⊎ ((markAt s at ≡ mark "Ss") ⊎ (markAt s at ≡ mark "Nu")) → true ≡ validEnumInitExpr (treeAt left s at)
+  unfolding headAt validBy
+  always m = sym (valid-at iValid (tree-is left s at a) (kind-valid (headAt s at) m))
+
+  pub template-is : markAt s at ≡ mark "Te" → {b : Bool} → b ≡ validAll (kidsOf (treeAt left s at)) → b ≡ validEnumInitExpr (treeAt left s at)
+  unfolding headAt validBy
+  template-is m e = e ∙ (ap validAll (kids-are left s at a) ∙ sym (valid-at iTpl (tree-is left s at a) (kind-tpl (headAt s at) m)))
+
+  pub never : (markAt s at ≡ mark "Bn" → ⊥) → ((markAt s at ≡ mark "Mb") ⊎ (markAt s at ≡ mark "Pr") → ⊥) → (markAt s at ≡ mark "Oc" → ⊥) → ((markAt s at ≡ mark "Id") ⊎ ((markAt s at ≡ mark "Ss") ⊎ (markAt s at ≡ mark "Nu")) → ⊥)
+      → (markAt s at ≡ mark "Te" → ⊥) → ((markAt s at ≡ mark "Ta") ⊎ (markAt s at ≡ mark "As") → ⊥) → false ≡ validEnumInitExpr (treeAt left s at)
+  unfolding headAt validBy
+  never b c d e f g = sym (valid-at iOther (tree-is left s at a) (kind-other (headAt s at) b c d e f g))
+
+  -- ---- `valid_enum_ts_type`
+
+  pub type-false : (markAt s at ≡ mark "Tl" → ⊥) → false ≡ validEnumTsType (treeAt left s at)
+  type-false n = and-stop (is "Nu" (kid 0 (kidsOf (treeAt left s at)))) refl refl (not-mark left s at (mark "Tl") n)
+
+  pub type-kids : markAt s at ≡ mark "Tl" → {p : ℕ} → p ≡ bodyAt s at → One left s at p (endAt (left - 1) s p)
+  type-kids m e = kids-one left s at a (tl-one left s at a m) e refl
+
+  pub type-is : markAt s at ≡ mark "Tl" → {p : ℕ} → p ≡ bodyAt s at → {n : ℕ} → n ≡ markAt s p → eqb n (mark "Nu") ≡ validEnumTsType (treeAt left s at)
+  type-is m {p} e f =
+      and-on refl refl (is-mark left s at (mark "Tl") m)
+      (ap (λ (k : ℕ). eqb k (mark "Nu")) (f ∙ sym (mark-is (left - 1) s p)) ∙ ap (λ (t : Rec). is "Nu" (kid 0 (kidsOf t))) (sym (type-kids m e .is)))
+
+-- ---- the expressions of a template
+
+-- n children are left from c on, of the record at `at`
+pub record Validating (left : ℕ) (s : List ℕ) (at n c : ℕ) : Type 0 where
+  pub kids : AllAccepted (left - 1) s n c
+  pub same : validAll (kidsOf (treeAt left s at)) ≡ validAll (rest left s n c)
+
+-- one of them
+abbrev pub validPart : Rec → Bool
+validPart r = (is "Qu" r || is "Op" r) || validEnumInitExpr r
+
+pub validating-start : (left : ℕ) (s : List ℕ) (at : ℕ) → AcceptedAt left s at → {n c : ℕ} → n ≡ countAt s at → c ≡ bodyAt s at → Validating left s at n c
+validating-start left s at a e f = rw (e, f) (record { kids = children left s at a; same = ap validAll (kids-are left s at a) })
+
+module _ {left : ℕ} {s : List ℕ} {at n c : ℕ} (l : Validating left s at n c) where
+  pub validating-first : 0 < n → AcceptedAt (left - 1) s c
+  validating-first h = first-one (left - 1) s n c (l .kids) h
+
+  validating-both : 0 < n → validAll (kidsOf (treeAt left s at)) ≡ (validPart (treeAt (left - 1) s c) && validAll (rest left s (n - 1) (endAt (left - 1) s c)))
+  unfolding validAll
+  validating-both h = l .same ∙ ap validAll (rest-more left s n c h)
+
+  pub validating-stop : 0 < n → {b : Bool} → b ≡ validPart (treeAt (left - 1) s c) → not b ≡ true → false ≡ validAll (kidsOf (treeAt left s at))
+  validating-stop h {b} e f = and-stop (validAll (rest left s (n - 1) (endAt (left - 1) s c))) (validating-both h) e (not-true b f)
+
+  pub validating-turn : 0 < n → {b : Bool} → b ≡ validPart (treeAt (left - 1) s c) → not b ≡ false → {d : ℕ} → d ≡ endAt (left - 1) s c → Validating left s at (n - 1) d
+  validating-turn h {b} e f g = rw g (record { kids = others (left - 1) s n c (l .kids) h; same = sym (and-on (validating-both h) e (not-false b f) refl) })
+
+  pub validating-done : n ≤ 0 → true ≡ validAll (kidsOf (treeAt left s at))
+  unfolding validAll
+  validating-done h = sym (l .same ∙ ap validAll (rest-none left s n c h))
+
+-- a child of a template that is no expression, or is one
+module _ (left : ℕ) (s : List ℕ) (at : ℕ) where
+  pub part-other : (markAt s at ≡ mark "Op") ⊎ (markAt s at ≡ mark "Qu") → true ≡ validPart (treeAt left s at)
+  part-other = ⊎-elim (λ e. go (is "Qu" (treeAt left s at)) (is-mark left s at (mark "Op") e)) (λ e. rw (is-mark left s at (mark "Qu") e))
+    where
+      go : (b : Bool) → is "Op" (treeAt left s at) ≡ true → true ≡ ((b || is "Op" (treeAt left s at)) || validEnumInitExpr (treeAt left s at))
+      go true q = refl
+      go false q = rw q
+
+  pub part-expr : ((markAt s at ≡ mark "Op") ⊎ (markAt s at ≡ mark "Qu") → ⊥) → {b : Bool} → b ≡ validEnumInitExpr (treeAt left s at) → b ≡ validPart (treeAt left s at)
+  part-expr n e = rw (not-mark left s at (mark "Qu") (λ q. n (inr q)), not-mark left s at (mark "Op") (λ q. n (inl q))) e
+
+-- ---- the init of a member
+
+module _ (left : ℕ) (s : List ℕ) (at n : ℕ) where
+  pub init-none : markAt s at ≡ mark "No" → treeAt left s at ≡ enumInit (treeAt left s at) n .0
+  unfolding enumInit
+  init-none e = rw (is-mark left s at (mark "No") e)
+
+  pub init-kept : (markAt s at ≡ mark "No" → ⊥) → {b : Bool} → b ≡ validEnumInitExpr (treeAt left s at) → b ≡ true → treeAt left s at ≡ enumInit (treeAt left s at) n .0
+  unfolding enumInit
+  init-kept m e f = let z = sym e ∙ f in rw (not-mark left s at (mark "No") m, z)
+
+  pub init-gone : (markAt s at ≡ mark "No" → ⊥) → {b : Bool} → b ≡ validEnumInitExpr (treeAt left s at) → b ≡ false → absent ≡ enumInit (treeAt left s at) n .0
+  unfolding enumInit
+  init-gone m e f = let z = sym e ∙ f in rw (not-mark left s at (mark "No") m, z)
+
+  -- ---- a member, or another child of an En
+
+  pub member-other : (markAt s at ≡ mark "Em" → ⊥) → treeAt left s at ≡ enumMember (treeAt left s at) n .0
+  unfolding enumMember
+  member-other m = rw (not-mark left s at (mark "Em") m)
+
+  pub member-is : markAt s at ≡ mark "Em" → second enumInit (treeAt left s at) n .0 ≡ enumMember (treeAt left s at) n .0
+  unfolding enumMember
+  member-is m = rw (is-mark left s at (mark "Em") m)
+
+pub em-kids : (left : ℕ) (s : List ℕ) (at : ℕ) → AcceptedAt left s at → markAt s at ≡ mark "Em" → {p0 p1 : ℕ} → p0 ≡ bodyAt s at → p1 ≡ endAt (left - 1) s p0 → {p2 : ℕ} → p2 ≡ endAt (left - 1) s p1 → Two left s at p0 p1 p2
+em-kids left s at a m e f g = kids-two left s at a (em-two left s at a m) e f g
+
+-- ---- the members, one after the other
+
+-- they leave no diagnostic, and the counter as it is
+pub member-silent : (r : Rec) (n : ℕ) → enumMember r n ≡ pure (enumMember r n .0) n
+unfolding enumMember second enumInit
+member-silent r n = go (is "Em" r)
+  where
+    go : (b : Bool) → ifM b (second enumInit r) (pure r) n ≡ pure (ifM b (second enumInit r) (pure r) n .0) n
+    go true = refl
+    go false = refl
+
+member-counter : (r : Rec) (n : ℕ) → enumMember r n .2 ≡ n
+member-counter r n = ap (λ (o : Out Rec). o .2) (member-silent r n)
+
+abbrev membersOf : Recs → ℕ → Recs
+membersOf ks n = each (λ i. enumMember) 0 ks n .0
+
+members-cons : (r : Rec) (rs : Recs) (n : ℕ) → membersOf (cons r rs) n ≡ cons (enumMember r n .0) (membersOf rs n)
+unfolding each
+members-cons r rs n =
+    ap (λ (m : ℕ). cons (enumMember r n .0) (each (λ i. enumMember) 1 rs m .0)) (member-counter r n)
+    ∙ ap (λ (o : Out Recs). cons (enumMember r n .0) (o .0)) (each-anywhere enumMember 1 0 rs n)
+
+-- k are left from c on, of the n from `at` on
+pub record Members (left : ℕ) (tree : List ℕ) (at n : ℕ) (o0 o : List ℕ) (s0 s : State) (k c : ℕ) : Type 0 where
+  pub kids : AllAccepted left tree k c
+  pub size : length o ≡ length o0
+  pub same : s .n ≡ s0 .n
+  pub made : Recs
+  pub sum : membersOf (recordsAt left tree n at) (s0 .n) ≡ join made (membersOf (recordsAt left tree k c) (s0 .n))
+  pub put : KeepsAll o0 o s0 s made
+
+module _ (left : ℕ) (tree : List ℕ) (at n : ℕ) where
+  pub members-start : AllAccepted left tree n at → (o : List ℕ) (s : State) → s .p ≤ top → Members left tree at n o o s s n at
+  unfolding encodes allTextsFit
+  members-start a o s h = record { kids = a; size = refl; same = refl; made = nil; sum = refl; put = puts-none o s h }
+
+  module _ {o0 o : List ℕ} {s0 s : State} {k c : ℕ} (l : Members left tree at n o0 o s0 s k c) where
+    pub members-first : 0 < k → AcceptedAt left tree c
+    members-first h = first-one left tree k c (l .kids) h
+
+    pub members-turn : length o0 < 2 ^ 64 → 0 < k → {o' : List ℕ} {s' : State} → Keeps o o' s s' (enumMember (treeAt left tree c) (s .n) .0) → {d : ℕ} → d ≡ endAt left tree c → Members left tree at n o0 o' s0 s' (k - 1) d
+    members-turn b h {o'} {s'} w e =
+        let t : Rec = enumMember (treeAt left tree c) (s0 .n) .0 in
+        let w' : Keeps o o' s s' t = subst (λ (m : ℕ). Keeps o o' s s' (enumMember (treeAt left tree c) m .0)) (l .same) w in
+        rw e (record {
+          kids = others left tree k c (l .kids) h;
+          size = ap length (w .put .bytes) ∙ (length-sets o (s .p) (encode (enumMember (treeAt left tree c) (s .n) .0)) ∙ l .size);
+          same = puts-counter w ∙ l .same;
+          made = join (l .made) (one t);
+          sum = l .sum ∙ (ap (λ (ks : Recs). join (l .made) (membersOf ks (s0 .n))) (readAll-more (treeAt left tree) (endAt left tree) k c h)
+              ∙ (ap (join (l .made)) (members-cons (treeAt left tree c) (recordsAt left tree (k - 1) (endAt left tree c)) (s0 .n))
+              ∙ sym (join-assoc (l .made) (one t) (membersOf (recordsAt left tree (k - 1) (endAt left tree c)) (s0 .n)))));
+          put = puts-to (puts-puts b (l .put) w')
+              (ap (λ (E : List ℕ). encodes (l .made) ++ E) (sym (encodes-one t)) ∙ sym (encodes-join (l .made) (one t)))
+              (ap (λ (f : Bool). allTextsFit (l .made) && f) (sym (all-one t)) ∙ sym (all-join (l .made) (one t)));
+        })
+
+    pub members-done : k ≤ 0 → KeepsAll o0 o s0 s (membersOf (recordsAt left tree n at) (s0 .n))
+    unfolding each
+    members-done h =
+        subst (λ (ts : Recs). KeepsAll o0 o s0 s ts)
+        (sym (l .sum ∙ (ap (λ (ks : Recs). join (l .made) (membersOf ks (s0 .n))) (readAll-none (treeAt left tree) (endAt left tree) k c h) ∙ join-nil (l .made)))) (l .put)

@@ -1,0 +1,90 @@
+-- `bodiless` meets its contract. Assumes nothing.
+use mathlib.Core.Path.{refl}
+use native.Mathlib.Omega.{arith}
+use Rattle.definition.specs.Items.{withoutBody}
+use Rattle.definition.proofs.Children.{itself, some-left}
+use Rattle.swc_helpers.proofs.Made.{is-whole}
+use Rattle.parts.proofs.Kept.{count-as}
+use Rattle.items.proofs.Begun.{others-two, second-step}
+use Rattle.items.proofs.Declarations.{fx-two, fx-kids, fx-fu}
+use borrow.Author.Needs.{needs}
+use Rattle.items.proofs.decls.bodiless.Statement.{statement}
+use Rattle.items.proofs.decls.bodiless.Tie as tie
+use Rattle.items.proofs.decls.bodiless.Reads as reads
+use Rattle.items.proofs.decls.bodiless.Lts as lts
+use Rattle.items.proofs.decls.without_body.Reads as without-body-reads
+use Rattle.parts.proofs.keep.Reads as keep-reads
+use Rattle.parts.proofs.keep_all.Reads as keep-all-reads
+use Rattle.parts.proofs.put_front.Reads as put-front-reads
+use Rattle.records.proofs.body_at.Reads as body-at-reads
+use Rattle.records.proofs.read_head.Reads as read-head-reads
+use Rattle.records.proofs.record_end.Reads as record-end-reads
+
+read-head-requires : tie.Need-read-head-requires
+read-head-requires c κs = itself _ _ _ (c .before .before .pre .0) .room
+
+body-at-requires : tie.Need-body-at-requires
+body-at-requires c κs = itself _ _ _ (c .before .before .before .pre .0) .room
+
+sub-record-end : tie.Need-sub-record-end
+sub-record-end c = omega (arith, some-left _ _ _ (c .before .before .before .before .pre .0))
+
+record-end-requires : tie.Need-record-end-requires
+record-end-requires c κs = is-whole _ _ _ (fx-kids _ _ _ (c .before .before .before .before .pre .0) (c .before .before .before .before .pre .1) (c .body-at .ensures) refl refl .first)
+
+sub-record-end-2 : tie.Need-sub-record-end-2
+sub-record-end-2 c = omega (arith, some-left _ _ _ (c .before .before .before .before .before .pre .0))
+
+record-end-requires-2 : tie.Need-record-end-requires-2
+record-end-requires-2 c κs = is-whole _ _ _ (fx-kids _ _ _ (c .before .before .before .before .before .pre .0) (c .before .before .before .before .before .pre .1) (c .before .body-at .ensures) (c .record-end .ensures) refl .second)
+
+put-front-requires : tie.Need-put-front-requires
+put-front-requires c κs = c .before .before .before .before .before .before .before .pre .0
+
+sub-keep : tie.Need-sub-keep
+sub-keep c = omega (arith, some-left _ _ _ (c .before .before .before .before .before .before .before .before .before .before .pre .0))
+
+keep-requires : tie.Need-keep-requires
+keep-requires c κs = fx-kids _ _ _ (c .before .before .before .before .before .before .before .before .before .before .before .pre .0) (c .before .before .before .before .before .before .before .before .before .before .before .pre .1) (c .before .before .before .before .before .before .before .body-at .ensures) refl refl .first
+
+sub-without-body : tie.Need-sub-without-body
+sub-without-body c = omega (arith, some-left _ _ _ (c .before .before .before .before .before .before .before .before .before .before .before .before .before .before .pre .0))
+
+without-body-requires : tie.Need-without-body-requires
+without-body-requires c κs = (fx-kids _ _ _ (c .before .before .before .before .before .before .before .before .before .before .before .before .before .before .before .pre .0) (c .before .before .before .before .before .before .before .before .before .before .before .before .before .before .before .pre .1) (c .before .before .before .before .before .before .before .before .before .before .before .body-at .ensures) (c .before .before .before .before .before .before .before .before .before .before .record-end .ensures) refl .second, fx-fu _ _ _ (c .before .before .before .before .before .before .before .before .before .before .before .before .before .before .before .pre .0) (c .before .before .before .before .before .before .before .before .before .before .before .before .before .before .before .pre .1) (c .before .before .before .before .before .before .before .before .before .before .before .body-at .ensures) (c .before .before .before .before .before .before .before .before .before .before .record-end .ensures))
+
+sub-keep-all : tie.Need-sub-keep-all
+sub-keep-all c = omega (arith, count-as (c .before .before .before .before .before .before .before .before .before .before .before .before .before .before .before .before .before .before .before .args .tree .now) (c .before .before .before .before .before .before .before .before .before .before .before .before .before .before .before .before .before .before .before .args .at) (c .before .before .before .before .before .before .before .before .before .before .before .before .before .before .before .before .read-head .ensures), fx-two _ _ _ (c .before .before .before .before .before .before .before .before .before .before .before .before .before .before .before .before .before .before .before .pre .0) (c .before .before .before .before .before .before .before .before .before .before .before .before .before .before .before .before .before .before .before .pre .1))
+
+sub-keep-all-2 : tie.Need-sub-keep-all-2
+sub-keep-all-2 c = omega (arith, some-left _ _ _ (c .before .before .before .before .before .before .before .before .before .before .before .before .before .before .before .before .before .before .before .pre .0))
+
+keep-all-requires : tie.Need-keep-all-requires
+keep-all-requires c κs = others-two (fx-kids _ _ _ (c .before .before .before .before .before .before .before .before .before .before .before .before .before .before .before .before .before .before .before .before .pre .0) (c .before .before .before .before .before .before .before .before .before .before .before .before .before .before .before .before .before .before .before .before .pre .1) (c .before .before .before .before .before .before .before .before .before .before .before .before .before .before .before .before .body-at .ensures) (c .before .before .before .before .before .before .before .before .before .before .before .before .before .before .before .record-end .ensures) (c .before .before .before .before .before .before .before .before .before .before .before .before .before .before .record-end2 .ensures)) (c .before .before .before .before .before .before .before .before .before .before .before .before .before .before .before .before .before .read-head .ensures)
+
+same-length : tie.Need-same-length
+same-length c = search needs
+
+returns : tie.Need-returns
+returns c = second-step (c .before .before .before .before .before .before .before .before .before .before .before .before .before .before .before .before .before .before .before .before .before .before .before .pre .0) (c .before .before .before .before .before .before .before .before .before .before .before .before .before .before .before .before .before .before .before .before .before .before .shared-slice-known .given) (omega (arith, c .before .before .before .before .before .before .before .before .before .before .before .before .before .before .before .before .before .before .before .before .before .before .before .good)) (c .before .before .before .before .before .before .before .before .before .before .before .before .before .before .before .before .before .before .before .before .read-head .ensures) (c .before .before .before .before .before .before .before .before .before .before .before .before .before .before .before .put-front .ensures) withoutBody (fx-kids _ _ _ (c .before .before .before .before .before .before .before .before .before .before .before .before .before .before .before .before .before .before .before .before .before .before .before .pre .0) (c .before .before .before .before .before .before .before .before .before .before .before .before .before .before .before .before .before .before .before .before .before .before .before .pre .1) (c .before .before .before .before .before .before .before .before .before .before .before .before .before .before .before .before .before .before .before .body-at .ensures) (c .before .before .before .before .before .before .before .before .before .before .before .before .before .before .before .before .before .before .record-end .ensures) (c .before .before .before .before .before .before .before .before .before .before .before .before .before .before .before .before .before .record-end2 .ensures)) (c .before .before .before .before .before .before .before .before .before .before .before .keep .ensures) (c .before .before .before .before .before .before .before .without-body .ensures) (c .before .before .keep-all .ensures)
+
+pub bodiless-spec : {M : Type 1} → statement M
+bodiless-spec =
+    tie.close
+    (tie.spec
+    read-head-requires
+    body-at-requires
+    sub-record-end
+    record-end-requires
+    sub-record-end-2
+    record-end-requires-2
+    put-front-requires
+    sub-keep
+    keep-requires
+    sub-without-body
+    without-body-requires
+    sub-keep-all
+    sub-keep-all-2
+    keep-all-requires
+    same-length
+    returns)

@@ -1,0 +1,52 @@
+-- `put_default_name` meets its contract. Assumes nothing.
+use native.Mathlib.Omega.{arith}
+use Rattle.definition.proofs.Children.{itself, some-left}
+use Rattle.parts.proofs.Kept.{count-as}
+use Rattle.items.proofs.Begun.{others-one}
+use Rattle.items.proofs.Exports.{xe-one, name-kids, name-written}
+use borrow.Author.Needs.{needs}
+use Rattle.items.proofs.defaults.put_default_name.Statement.{statement}
+use Rattle.items.proofs.defaults.put_default_name.Tie as tie
+use Rattle.items.proofs.defaults.put_default_name.Reads as reads
+use Rattle.items.proofs.defaults.put_default_name.Lts as lts
+use Rattle.items.proofs.defaults.put_unique_ident.Reads as put-unique-ident-reads
+use Rattle.parts.proofs.keep_all.Reads as keep-all-reads
+use Rattle.parts.proofs.put_front.Reads as put-front-reads
+use Rattle.records.proofs.read_head.Reads as read-head-reads
+
+read-head-requires : tie.Need-read-head-requires
+read-head-requires c κs = itself _ _ _ (c .before .before .pre .0 .0) .room
+
+put-front-requires : tie.Need-put-front-requires
+put-front-requires c κs = c .before .before .before .before .pre .0 .0
+
+put-unique-ident-requires : tie.Need-put-unique-ident-requires
+put-unique-ident-requires c κs = search needs
+
+sub-keep-all : tie.Need-sub-keep-all
+sub-keep-all c = omega (arith, count-as (c .before .before .before .before .before .before .before .before .before .before .before .before .args .tree .now) (c .before .before .before .before .before .before .before .before .before .before .before .before .args .at) (c .before .before .before .before .before .before .before .before .before .read-head .ensures), xe-one _ _ _ (c .before .before .before .before .before .before .before .before .before .before .before .before .pre .0 .0) (c .before .before .before .before .before .before .before .before .before .before .before .before .pre .0 .1))
+
+sub-keep-all-2 : tie.Need-sub-keep-all-2
+sub-keep-all-2 c = omega (arith, some-left _ _ _ (c .before .before .before .before .before .before .before .before .before .before .before .before .pre .0 .0))
+
+keep-all-requires : tie.Need-keep-all-requires
+keep-all-requires c κs = others-one (name-kids _ _ _ (c .before .before .before .before .before .before .before .before .before .before .before .before .before .pre .0 .0) (c .before .before .before .before .before .before .before .before .before .before .before .before .before .pre .0 .1) (c .before .before .before .before .before .before .before .before .before .before .before .before .before .pre .1)) (c .before .before .before .before .before .before .before .before .before .before .read-head .ensures)
+
+same-length : tie.Need-same-length
+same-length c = search needs
+
+returns : tie.Need-returns
+returns c = name-written _ _ _ (c .before .before .before .before .before .before .before .before .before .before .before .before .before .before .before .before .pre .0 .0) (c .before .before .before .before .before .before .before .before .before .before .before .before .before .before .before .shared-slice-known .given) (name-kids _ _ _ (c .before .before .before .before .before .before .before .before .before .before .before .before .before .before .before .before .pre .0 .0) (c .before .before .before .before .before .before .before .before .before .before .before .before .before .before .before .before .pre .0 .1) (c .before .before .before .before .before .before .before .before .before .before .before .before .before .before .before .before .pre .1)) (c .before .before .before .before .before .before .before .before .before .before .before .before .before .before .before .before .args .counter) (omega (arith, c .before .before .before .before .before .before .before .before .before .before .before .before .before .before .before .before .good)) (omega (arith, c .before .before .before .before .before .before .before .before .before .before .before .before .before .before .before .before .good)) (c .before .before .before .before .before .before .before .before .before .before .before .before .before .read-head .ensures) (c .before .before .before .before .before .before .before .before .before .before .before .put-front .ensures) (c .before .before .before .before .before .before .before .put-unique-ident .ensures) (c .before .before .keep-all .ensures)
+
+pub put-default-name-spec : {M : Type 1} → statement M
+put-default-name-spec =
+    tie.close
+    (tie.spec
+    read-head-requires
+    put-front-requires
+    put-unique-ident-requires
+    sub-keep-all
+    sub-keep-all-2
+    keep-all-requires
+    same-length
+    returns)

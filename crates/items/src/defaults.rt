@@ -1,0 +1,230 @@
+// `ModuleDecl::ExportDefaultDecl` and `ModuleDecl::ExportDefaultExpr`.
+ghost use mathlib.Core.Path.{_≡_};
+ghost use Rattle.definition.specs.Tree.{rec, encode, markAt, bodyAt, headAt, treeAt};
+ghost use Rattle.definition.specs.Grammar.{mark};
+ghost use Rattle.definition.specs.Children.{AcceptedAt, childAt};
+ghost use Rattle.definition.specs.Record.{ident, kidsOf, setKid};
+ghost use Rattle.definition.specs.Names.{genUniqueName};
+ghost use Rattle.records.specs.Fields.{fieldBytes};
+ghost use Rattle.records.specs.Wrote.{Put};
+ghost use Rattle.typing.specs.Did.{Ready};
+ghost use Rattle.typing.specs.Below.{Gives};
+ghost use Rattle.parts.specs.Makes.{Keeps};
+ghost use Rattle.items.specs.Steps.{freshFields, constFront, defaultFn, defaultDeclOf, defaultExprOf};
+use crate::decls::bodiless;
+use crate::decls::with_class;
+use crate::vars::readonly;
+use classes::overloads::is_impl_with_overloads;
+use names::unique;
+use parts::keep;
+use parts::keep_all;
+use parts::put_front;
+use prescan::Scope;
+use records::Head;
+use records::body_at;
+use records::mark_at;
+use records::marks::BD;
+use records::marks::CX;
+use records::marks::FX;
+use records::marks::ID;
+use records::marks::VD;
+use records::marks::VR;
+use records::read_head;
+use records::record_end;
+use typing::Counted;
+use typing::State;
+use typing::Typed;
+
+// "4-byte context"
+const CONTEXT_SIZE: usize = 4;
+
+// An Xd with a class: the Cx is its first child.
+fn default_class(
+    tree: &[u8],
+    at: usize,
+    left: usize,
+    scope: Scope,
+    list: &[u8],
+    out: &mut [u8],
+    diagnostics: &mut [u8],
+    s: State,
+) -> Counted
+    requires { ⌜ Ready left (now tree) at (s .n) scope × (markAt (now tree) at ≡ mark "Xd") ⌝ }
+    requires { ⌜ markAt (now tree) (bodyAt (now tree) at) ≡ mark "Cx" ⌝ }
+    ensures { λ r. ⌜
+        Gives (now (out .entry)) (now (out .exit)) (now (diagnostics .entry)) (now (diagnostics .exit)) s r
+        (defaultDeclOf (now (list .entry)) (now (tree .entry)) scope (treeAt left (now (tree .entry)) at) (s .n))
+        ⌝ }
+{
+    let head = read_head(tree, at);
+    let class = body_at(tree, at);
+    let rest = record_end(tree, class, left - 1);
+    let flags = read_head(tree, class).flags;
+    let front = put_front(tree, at, left, head.flags, head.count, out, s);
+    let made = with_class(
+        tree,
+        class,
+        left - 1,
+        flags,
+        scope,
+        list,
+        out,
+        diagnostics,
+        front,
+    );
+    let next = keep_all(tree, rest, head.count - 1, left - 1, out, made);
+    Counted { s: next, count: 1 }
+}
+
+// An Xd with a function: "Xd functions lose the body only".
+fn default_fn(tree: &[u8], at: usize, left: usize, out: &mut [u8], s: State) -> State
+    requires { ⌜ AcceptedAt left (now tree) at × (markAt (now tree) at ≡ mark "Xd") ⌝ }
+    requires { ⌜ markAt (now tree) (bodyAt (now tree) at) ≡ mark "Fx" ⌝ }
+    ensures { λ r. ⌜ Keeps (now (out .entry)) (now (out .exit)) s r (defaultFn (treeAt left (now (tree .entry)) at) (s .n) .0) ⌝ }
+{
+    let head = read_head(tree, at);
+    let function = body_at(tree, at);
+    let rest = record_end(tree, function, left - 1);
+    let front = put_front(tree, at, left, head.flags, head.count, out, s);
+    let made = bodiless(tree, function, left - 1, out, front);
+    keep_all(tree, rest, head.count - 1, left - 1, out, made)
+}
+
+// `ModuleDecl::ExportDefaultDecl`.
+pub fn export_default_decl(
+    tree: &[u8],
+    at: usize,
+    left: usize,
+    scope: Scope,
+    list: &[u8],
+    out: &mut [u8],
+    diagnostics: &mut [u8],
+    s: State,
+) -> Counted
+    requires { ⌜ Ready left (now tree) at (s .n) scope × (markAt (now tree) at ≡ mark "Xd") ⌝ }
+    ensures { λ r. ⌜
+        Gives (now (out .entry)) (now (out .exit)) (now (diagnostics .entry)) (now (diagnostics .exit)) s r
+        (defaultDeclOf (now (list .entry)) (now (tree .entry)) scope (treeAt left (now (tree .entry)) at) (s .n))
+        ⌝ }
+{
+    match mark_at(tree, body_at(tree, at)) {
+        CX => default_class(tree, at, left, scope, list, out, diagnostics, s),
+        FX => {
+            if is_impl_with_overloads(list, tree, at) {
+                return Counted { s, count: 0 };
+            }
+            let next = default_fn(tree, at, left, out, s);
+            Counted { s: next, count: 1 }
+        }
+        _ => {
+            let next = keep(tree, at, left, out, s);
+            Counted { s: next, count: 1 }
+        }
+    }
+}
+
+// A fresh head.
+fn put_fresh(mark: u16, flags: u8, text: usize, count: usize, out: &mut [u8], p: usize) -> usize
+    ensures { λ r. ⌜ Put (now (out .entry)) (now (out .exit)) p (fieldBytes (freshFields mark flags text count)) r ⌝ }
+{
+    let head = Head {
+        mark,
+        flags,
+        start: 0,
+        end: 0,
+        text,
+        count,
+    };
+    records::put_head(out, p, head)
+}
+
+// `Ident::new(name, DUMMY_SP, ..)` with a generated name.
+fn put_unique_ident(counter: usize, out: &mut [u8], p: usize) -> usize
+    ensures { λ r. ⌜ Put (now (out .entry)) (now (out .exit)) p (encode (ident (genUniqueName counter))) r ⌝ }
+{
+    let length = CONTEXT_SIZE + unique::unique_name_length(counter);
+    let q = put_fresh(ID, 0, length, 0, out, p);
+    let r = records::put_text(out, q, b"\0\0\0\0");
+    unique::gen_unique_name(counter, out, r)
+}
+
+// "a declared const, named _dts_1 at the first", before its type.
+fn put_const_front(counter: usize, out: &mut [u8], p: usize) -> usize
+    ensures { λ r. ⌜ Put (now (out .entry)) (now (out .exit)) p (constFront counter) r ⌝ }
+{
+    let q = put_fresh(VD, 3, 0, 1, out, p);
+    let r = put_fresh(VR, 0, 0, 2, out, q);
+    let t = put_fresh(BD, 0, 0, 2, out, r);
+    put_unique_ident(counter, out, t)
+}
+
+// The Xe at `at` with the generated name for its expression; `rest` is what stands behind that.
+fn put_default_name(
+    tree: &[u8],
+    at: usize,
+    rest: usize,
+    left: usize,
+    counter: usize,
+    out: &mut [u8],
+    s: State,
+) -> State
+    requires { ⌜ AcceptedAt left (now tree) at × (markAt (now tree) at ≡ mark "Xe") ⌝ }
+    requires { ⌜ rest ≡ childAt left (now tree) at 1 ⌝ }
+    ensures { λ r. ⌜
+        Keeps (now (out .entry)) (now (out .exit)) s r
+        (rec (headAt (now (tree .entry)) at) (setKid 0 (ident (genUniqueName counter)) (kidsOf (treeAt left (now (tree .entry)) at))))
+        ⌝ }
+{
+    let head = read_head(tree, at);
+    let mut named = put_front(tree, at, left, head.flags, head.count, out, s);
+    named.p = put_unique_ident(counter, out, named.p);
+    keep_all(tree, rest, head.count - 1, left - 1, out, named)
+}
+
+// `ModuleDecl::ExportDefaultExpr`: "Xe of Id passes. Else the name counter rises (1 first)" and the expression is typed.
+pub fn export_default_expr(
+    tree: &[u8],
+    at: usize,
+    left: usize,
+    scope: Scope,
+    out: &mut [u8],
+    diagnostics: &mut [u8],
+    s: State,
+) -> Counted
+    requires { ⌜ Ready left (now tree) at (s .n) scope × (markAt (now tree) at ≡ mark "Xe") ⌝ }
+    ensures { λ r. ⌜
+        Gives (now (out .entry)) (now (out .exit)) (now (diagnostics .entry)) (now (diagnostics .exit)) s r
+        (defaultExprOf (now (tree .entry)) scope (treeAt left (now (tree .entry)) at) (s .n))
+        ⌝ }
+{
+    let expr = body_at(tree, at);
+    if mark_at(tree, expr) == ID {
+        let next = keep(tree, at, left, out, s);
+        return Counted { s: next, count: 1 };
+    }
+    let counter = s.n + 1;
+    let mut front = s;
+    front.n = counter;
+    front.p = put_const_front(counter, out, s.p);
+    match typing::expr_to_ts_type(
+        tree,
+        expr,
+        left - 1,
+        readonly(scope),
+        out,
+        diagnostics,
+        front,
+    ) {
+        Typed::Some(typed) => {
+            let mut bare = typed;
+            bare.p = swc_helpers::put_absent(out, typed.p);
+            let rest = record_end(tree, expr, left - 1);
+            let next = put_default_name(tree, at, rest, left, counter, out, bare);
+            Counted { s: next, count: 2 }
+        }
+        Typed::None(failed) => {
+            let next = keep(tree, at, left, out, typing::back(s, failed));
+            Counted { s: next, count: 1 }
+        }
+    }
+}

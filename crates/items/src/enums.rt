@@ -1,0 +1,166 @@
+// Enum members: `valid_enum_init_expr` and `valid_enum_ts_type`.
+ghost use mathlib.Core.Path.{_≡_};
+ghost use mathlib.Core.Bool.{_||_};
+ghost use Rattle.definition.specs.Tree.{markAt, treeAt};
+ghost use Rattle.definition.specs.Children.{AcceptedAt, AllAccepted};
+ghost use Rattle.definition.specs.Record.{kidsOf, is, each};
+ghost use Rattle.definition.specs.Enums.{validEnumTsType, validEnumInitExpr, validAll, enumInit, enumMember};
+ghost use Rattle.parts.specs.Makes.{Keeps, KeepsAll};
+ghost use Rattle.items.specs.Steps.{recordsAt};
+use parts::keep;
+use parts::keep_all;
+use parts::put_front;
+use records::body_at;
+use records::count_at;
+use records::mark_at;
+use records::marks::AS;
+use records::marks::BN;
+use records::marks::EM;
+use records::marks::ID;
+use records::marks::MB;
+use records::marks::NO;
+use records::marks::NU;
+use records::marks::OC;
+use records::marks::OP;
+use records::marks::PR;
+use records::marks::QU;
+use records::marks::SS;
+use records::marks::TA;
+use records::marks::TE;
+use records::marks::TL;
+use records::read_head;
+use records::record_end;
+use typing::State;
+
+// `valid_enum_ts_type`: `TsLit::Number`.
+fn valid_enum_ts_type(tree: &[u8], at: usize, left: usize) -> bool
+    requires { ⌜ AcceptedAt left (now tree) at ⌝ }
+    ensures { λ r. ⌜ r ≡ validEnumTsType (treeAt left (now (tree .entry)) at) ⌝ }
+{
+    if mark_at(tree, at) != TL {
+        return false;
+    }
+    mark_at(tree, body_at(tree, at)) == NU
+}
+
+// `valid_enum_init_expr`, arm by arm.
+pub fn valid_enum_init_expr(tree: &[u8], at: usize, left: usize) -> bool
+    requires { ⌜ AcceptedAt left (now tree) at ⌝ }
+    ensures { λ r. ⌜ r ≡ validEnumInitExpr (treeAt left (now (tree .entry)) at) ⌝ }
+{
+    match mark_at(tree, at) {
+        BN => {
+            let first = body_at(tree, at);
+            if !valid_enum_init_expr(tree, first, left - 1) {
+                return false;
+            }
+            let second = record_end(tree, first, left - 1);
+            valid_enum_init_expr(tree, second, left - 1)
+        }
+        MB | PR => valid_enum_init_expr(tree, body_at(tree, at), left - 1),
+        OC => {
+            let member = body_at(tree, at);
+            if mark_at(tree, member) != MB {
+                return false;
+            }
+            valid_enum_init_expr(tree, member, left - 1)
+        }
+        ID | NU | SS => true,
+        TE => valid_exprs(tree, at, left),
+        AS | TA => {
+            let ty = record_end(tree, body_at(tree, at), left - 1);
+            valid_enum_ts_type(tree, ty, left - 1)
+        }
+        _ => false,
+    }
+}
+
+// `Expr::Tpl`: whether all its expressions are valid.
+fn valid_exprs(tree: &[u8], at: usize, left: usize) -> bool
+    requires { ⌜ AcceptedAt left (now tree) at ⌝ }
+    ensures { λ r. ⌜ r ≡ validAll (kidsOf (treeAt left (now (tree .entry)) at)) ⌝ }
+{
+    let mut n = count_at(tree, at);
+    let mut child = body_at(tree, at);
+    while 0 < n {
+        if !valid_part(tree, child, left - 1) {
+            return false;
+        }
+        child = record_end(tree, child, left - 1);
+        n -= 1;
+    }
+    true
+}
+
+// A child of a template: a Qu, an Op or an expression.
+fn valid_part(tree: &[u8], at: usize, left: usize) -> bool
+    requires { ⌜ AcceptedAt left (now tree) at ⌝ }
+    ensures { λ r. ⌜
+        r ≡ ((is "Qu" (treeAt left (now (tree .entry)) at) || is "Op" (treeAt left (now (tree .entry)) at))
+        || validEnumInitExpr (treeAt left (now (tree .entry)) at))
+        ⌝ }
+{
+    match mark_at(tree, at) {
+        QU | OP => true,
+        _ => valid_enum_init_expr(tree, at, left),
+    }
+}
+
+// The init of an Em.
+fn enum_init(tree: &[u8], at: usize, left: usize, out: &mut [u8], s: State) -> State
+    requires { ⌜ AcceptedAt left (now tree) at ⌝ }
+    ensures { λ r. ⌜ Keeps (now (out .entry)) (now (out .exit)) s r (enumInit (treeAt left (now (tree .entry)) at) (s .n) .0) ⌝ }
+{
+    if mark_at(tree, at) == NO {
+        return keep(tree, at, left, out, s);
+    }
+    if valid_enum_init_expr(tree, at, left) {
+        return keep(tree, at, left, out, s);
+    }
+    let mut next = s;
+    next.p = swc_helpers::put_absent(out, s.p);
+    next
+}
+
+// A child of an En: an Em, or its name or an Op, which are left as they are.
+fn enum_member(tree: &[u8], at: usize, left: usize, out: &mut [u8], s: State) -> State
+    requires { ⌜ AcceptedAt left (now tree) at ⌝ }
+    ensures { λ r. ⌜ Keeps (now (out .entry)) (now (out .exit)) s r (enumMember (treeAt left (now (tree .entry)) at) (s .n) .0) ⌝ }
+{
+    if mark_at(tree, at) != EM {
+        return keep(tree, at, left, out, s);
+    }
+    let head = read_head(tree, at);
+    let name = body_at(tree, at);
+    let init = record_end(tree, name, left - 1);
+    let rest = record_end(tree, init, left - 1);
+    let front = put_front(tree, at, left, head.flags, head.count, out, s);
+    let named = keep(tree, name, left - 1, out, front);
+    let next = enum_init(tree, init, left - 1, out, named);
+    keep_all(tree, rest, head.count - 2, left - 1, out, next)
+}
+
+// The children of an En, n records from `at` on.
+pub fn enum_members(
+    tree: &[u8],
+    at: usize,
+    n: usize,
+    left: usize,
+    out: &mut [u8],
+    s: State,
+) -> State
+    requires { ⌜ AllAccepted left (now tree) n at ⌝ }
+    ensures { λ r. ⌜
+        KeepsAll (now (out .entry)) (now (out .exit)) s r (each (λ i. enumMember) 0 (recordsAt left (now (tree .entry)) n at) (s .n) .0)
+        ⌝ }
+{
+    let mut next = s;
+    let mut k = n;
+    let mut child = at;
+    while 0 < k {
+        next = enum_member(tree, child, left, out, next);
+        child = record_end(tree, child, left);
+        k -= 1;
+    }
+    next
+}

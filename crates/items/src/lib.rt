@@ -1,0 +1,361 @@
+// Items, declarations and namespaces: `transform_module_items`, `transform_module_stmt`, `decl_to_type_decl` and `transform_ts_ns_body`.
+ghost use mathlib.Core.Path.{_≡_};
+ghost use mathlib.Core.Bool.{_&&_};
+ghost use Prim.Native.Nat.{_+_, _≤_, _<_};
+ghost use lib.Dec.{eqb};
+ghost use lib.ListN.{length};
+ghost use Rattle.definition.specs.Tree.{headSize, markAt, headAt, treeAt};
+ghost use Rattle.definition.specs.Grammar.{mark};
+ghost use Rattle.definition.specs.Children.{AcceptedAt};
+ghost use Rattle.definition.specs.Record.{listed};
+ghost use Rattle.typing.specs.Did.{Ready, Did};
+ghost use Rattle.typing.specs.Below.{Gives};
+ghost use Rattle.parts.specs.Makes.{Keeps, Makes};
+ghost use Rattle.classes.specs.Typings.{ReadyAll};
+ghost use Rattle.items.specs.Steps.{recordsAt, withBody, declOf, stmtOf, exportOf, itemOf, itemsOf, bodyOf, scopeAt};
+use crate::decls::declared;
+use crate::decls::with_class;
+use crate::decls::with_declarators;
+use crate::decls::with_function;
+use crate::decls::with_members;
+use crate::defaults::export_default_decl;
+use crate::defaults::export_default_expr;
+use classes::overloads::is_impl_with_overloads;
+use parts::front_size;
+use parts::keep;
+use parts::keep_all;
+use parts::put_front;
+use prescan::Scope;
+use records::DEEPEST;
+use records::body_at;
+use records::mark_at;
+use records::marks::CD;
+use records::marks::D1;
+use records::marks::D5;
+use records::marks::ED;
+use records::marks::EN;
+use records::marks::FD;
+use records::marks::IM;
+use records::marks::NB;
+use records::marks::ND;
+use records::marks::NS;
+use records::marks::OP;
+use records::marks::ST;
+use records::marks::US;
+use records::marks::VD;
+use records::marks::XD;
+use records::marks::XE;
+use records::read_head;
+use records::record_end;
+use typing::Counted;
+use typing::State;
+use typing::Typed;
+
+mod decls;
+mod defaults;
+mod enums;
+mod vars;
+
+// The scope of the item from `at` to `end`: an item of the module has its own, one of a namespace that of the item in which it stands.
+fn item_scope(scope: Scope, left: usize, at: usize, end: usize) -> Scope
+    ensures { λ r. ⌜ r ≡ scopeAt scope left at end ⌝ }
+{
+    if left == DEEPEST - 1 {
+        return Scope {
+            unresolved: scope.unresolved,
+            item: at,
+            end,
+        };
+    }
+    scope
+}
+
+// A record that is kept, as the only one.
+fn kept(tree: &[u8], at: usize, left: usize, out: &mut [u8], s: State) -> Counted
+    requires { ⌜ AcceptedAt left (now tree) at ⌝ }
+    ensures { λ r. ⌜ (r .count ≡ 1) × Keeps (now (out .entry)) (now (out .exit)) s (r .s) (treeAt left (now (tree .entry)) at) ⌝ }
+{
+    let next = keep(tree, at, left, out, s);
+    Counted { s: next, count: 1 }
+}
+
+// Whether the Fd at `decl` goes: "if the range of the outermost of Ed, Xd, Fd is in the overload list", which is at `at`.
+fn is_overloaded(list: &[u8], tree: &[u8], at: usize, decl: usize) -> bool
+    requires { ⌜ (at + headSize ≤ length (now tree)) × (decl + headSize ≤ length (now tree)) ⌝ }
+    ensures { λ r. ⌜ r ≡ (eqb (markAt (now (tree .entry)) decl) (mark "Fd") && listed (now (list .entry)) (headAt (now (tree .entry)) at)) ⌝ }
+{
+    if mark_at(tree, decl) != FD {
+        return false;
+    }
+    is_impl_with_overloads(list, tree, at)
+}
+
+// `transform_module_items`: the n records from `at` on; `top` is `is_top_level`.
+pub fn transform_module_items(
+    tree: &[u8],
+    at: usize,
+    n: usize,
+    left: usize,
+    scope: Scope,
+    list: &[u8],
+    top: bool,
+    out: &mut [u8],
+    diagnostics: &mut [u8],
+    s: State,
+) -> Counted
+    requires { ⌜ ReadyAll left (now tree) n at (s .n) scope × (n < 65536) ⌝ }
+    ensures { λ r. ⌜
+        Gives (now (out .entry)) (now (out .exit)) (now (diagnostics .entry)) (now (diagnostics .exit)) s r
+        (itemsOf (now (list .entry)) (now (tree .entry)) scope top (recordsAt left (now (tree .entry)) n at) (s .n))
+        ⌝ }
+{
+    let mut next = s;
+    let mut k = n;
+    let mut item = at;
+    let mut count = 0;
+    while 0 < k {
+        let end = record_end(tree, item, left);
+        let here = item_scope(scope, left, item, end);
+        let made = transform_module_item(tree, item, left, here, list, top, out, diagnostics, next);
+        next = made.s;
+        count += made.count;
+        item = end;
+        k -= 1;
+    }
+    Counted { s: next, count }
+}
+
+// One of the items, by its kind.
+fn transform_module_item(
+    tree: &[u8],
+    at: usize,
+    left: usize,
+    scope: Scope,
+    list: &[u8],
+    top: bool,
+    out: &mut [u8],
+    diagnostics: &mut [u8],
+    s: State,
+) -> Counted
+    requires { ⌜ Ready left (now tree) at (s .n) scope ⌝ }
+    ensures { λ r. ⌜
+        Gives (now (out .entry)) (now (out .exit)) (now (diagnostics .entry)) (now (diagnostics .exit)) s r
+        (itemOf (now (list .entry)) (now (tree .entry)) scope top (treeAt left (now (tree .entry)) at) (s .n))
+        ⌝ }
+{
+    match mark_at(tree, at) {
+        IM | OP => kept(tree, at, left, out, s),
+        ST => Counted { s, count: 0 },
+        ED => export_decl(tree, at, left, scope, list, top, out, diagnostics, s),
+        XD => export_default_decl(tree, at, left, scope, list, out, diagnostics, s),
+        XE => export_default_expr(tree, at, left, scope, out, diagnostics, s),
+        _ => transform_module_stmt(tree, at, left, scope, list, top, out, diagnostics, s),
+    }
+}
+
+// `ModuleDecl::ExportDecl`: "Fd goes if the range of the outermost of Ed, Xd, Fd is in the overload list".
+fn export_decl(
+    tree: &[u8],
+    at: usize,
+    left: usize,
+    scope: Scope,
+    list: &[u8],
+    top: bool,
+    out: &mut [u8],
+    diagnostics: &mut [u8],
+    s: State,
+) -> Counted
+    requires { ⌜ Ready left (now tree) at (s .n) scope × (markAt (now tree) at ≡ mark "Ed") ⌝ }
+    ensures { λ r. ⌜
+        Gives (now (out .entry)) (now (out .exit)) (now (diagnostics .entry)) (now (diagnostics .exit)) s r
+        (exportOf (now (list .entry)) (now (tree .entry)) scope top (treeAt left (now (tree .entry)) at) (s .n))
+        ⌝ }
+{
+    let decl = body_at(tree, at);
+    if is_overloaded(list, tree, at, decl) {
+        return Counted { s, count: 0 };
+    }
+    let head = read_head(tree, at);
+    let rest = record_end(tree, decl, left - 1);
+    let front = put_front(tree, at, left, head.flags, head.count, out, s);
+    match decl_to_type_decl(
+        tree,
+        decl,
+        left - 1,
+        scope,
+        list,
+        top,
+        out,
+        diagnostics,
+        front,
+    ) {
+        Typed::Some(made) => {
+            let next = keep_all(tree, rest, head.count - 1, left - 1, out, made);
+            Counted { s: next, count: 1 }
+        }
+        Typed::None(failed) => typing::skipped(tree, at, D1, diagnostics, typing::back(s, failed)),
+    }
+}
+
+// `transform_module_stmt`: "In, Ty and a bare Us pass".
+fn transform_module_stmt(
+    tree: &[u8],
+    at: usize,
+    left: usize,
+    scope: Scope,
+    list: &[u8],
+    top: bool,
+    out: &mut [u8],
+    diagnostics: &mut [u8],
+    s: State,
+) -> Counted
+    requires { ⌜ Ready left (now tree) at (s .n) scope ⌝ }
+    ensures { λ r. ⌜
+        Gives (now (out .entry)) (now (out .exit)) (now (diagnostics .entry)) (now (diagnostics .exit)) s r
+        (stmtOf (now (list .entry)) (now (tree .entry)) scope top (treeAt left (now (tree .entry)) at) (s .n))
+        ⌝ }
+{
+    if is_overloaded(list, tree, at, at) {
+        return Counted { s, count: 0 };
+    }
+    match mark_at(tree, at) {
+        CD | FD | VD | EN | NS => match decl_to_type_decl(
+            tree,
+            at,
+            left,
+            scope,
+            list,
+            top,
+            out,
+            diagnostics,
+            s,
+        ) {
+            Typed::Some(next) => Counted { s: next, count: 1 },
+            Typed::None(failed) => typing::skipped(tree, at, D1, diagnostics, failed),
+        },
+        _ => kept(tree, at, left, out, s),
+    }
+}
+
+// `decl_to_type_decl`: "Exported Us gives d5 at Us".
+fn decl_to_type_decl(
+    tree: &[u8],
+    at: usize,
+    left: usize,
+    scope: Scope,
+    list: &[u8],
+    top: bool,
+    out: &mut [u8],
+    diagnostics: &mut [u8],
+    s: State,
+) -> Typed
+    requires { ⌜ Ready left (now tree) at (s .n) scope ⌝ }
+    ensures { λ r. ⌜
+        Did (now (out .entry)) (now (out .exit)) (now (diagnostics .entry)) (now (diagnostics .exit)) s r
+        (declOf (now (list .entry)) (now (tree .entry)) scope top (treeAt left (now (tree .entry)) at) (s .n))
+        ⌝ }
+{
+    let flags = declared(read_head(tree, at).flags, top);
+    match mark_at(tree, at) {
+        CD => Typed::Some(with_class(tree, at, left, flags, scope, list, out, diagnostics, s)),
+        FD => Typed::Some(with_function(tree, at, left, flags, scope, out, diagnostics, s)),
+        VD => Typed::Some(with_declarators(tree, at, left, flags, scope, out, diagnostics, s)),
+        EN => Typed::Some(with_members(tree, at, left, flags, out, s)),
+        NS => Typed::Some(with_body(tree, at, left, flags, scope, list, out, diagnostics, s)),
+        US => Typed::None(typing::mark_diagnostic(tree, at, D5, diagnostics, s)),
+        _ => Typed::Some(keep(tree, at, left, out, s)),
+    }
+}
+
+// An Ns: its body is the second child.
+fn with_body(
+    tree: &[u8],
+    at: usize,
+    left: usize,
+    flags: u8,
+    scope: Scope,
+    list: &[u8],
+    out: &mut [u8],
+    diagnostics: &mut [u8],
+    s: State,
+) -> State
+    requires { ⌜ Ready left (now tree) at (s .n) scope × (markAt (now tree) at ≡ mark "Ns") ⌝ }
+    ensures { λ r. ⌜
+        Makes (now (out .entry)) (now (out .exit)) (now (diagnostics .entry)) (now (diagnostics .exit)) s r
+        (withBody (now (list .entry)) (now (tree .entry)) scope flags (treeAt left (now (tree .entry)) at) (s .n))
+        ⌝ }
+{
+    let head = read_head(tree, at);
+    let name = body_at(tree, at);
+    let body = record_end(tree, name, left - 1);
+    let rest = record_end(tree, body, left - 1);
+    let front = put_front(tree, at, left, flags, head.count, out, s);
+    let named = keep(tree, name, left - 1, out, front);
+    let next = transform_ts_ns_body(tree, body, left - 1, scope, list, out, diagnostics, named);
+    keep_all(tree, rest, head.count - 2, left - 1, out, next)
+}
+
+// `transform_ts_ns_body`: "Nd is replaced by its innermost Nb".
+fn transform_ts_ns_body(
+    tree: &[u8],
+    at: usize,
+    left: usize,
+    scope: Scope,
+    list: &[u8],
+    out: &mut [u8],
+    diagnostics: &mut [u8],
+    s: State,
+) -> State
+    requires { ⌜ Ready left (now tree) at (s .n) scope ⌝ }
+    ensures { λ r. ⌜
+        Makes (now (out .entry)) (now (out .exit)) (now (diagnostics .entry)) (now (diagnostics .exit)) s r
+        (bodyOf (now (list .entry)) (now (tree .entry)) scope (treeAt left (now (tree .entry)) at) (s .n))
+        ⌝ }
+{
+    match mark_at(tree, at) {
+        NB => ns_block(tree, at, left, scope, list, out, diagnostics, s),
+        ND => {
+            let name = body_at(tree, at);
+            let body = record_end(tree, name, left - 1);
+            transform_ts_ns_body(tree, body, left - 1, scope, list, out, diagnostics, s)
+        }
+        _ => keep(tree, at, left, out, s),
+    }
+}
+
+// `TsNamespaceBody::TsModuleBlock`: an Nb, whose items are not at the top level. Its front follows them, with their number.
+fn ns_block(
+    tree: &[u8],
+    at: usize,
+    left: usize,
+    scope: Scope,
+    list: &[u8],
+    out: &mut [u8],
+    diagnostics: &mut [u8],
+    s: State,
+) -> State
+    requires { ⌜ Ready left (now tree) at (s .n) scope × (markAt (now tree) at ≡ mark "Nb") ⌝ }
+    ensures { λ r. ⌜
+        Makes (now (out .entry)) (now (out .exit)) (now (diagnostics .entry)) (now (diagnostics .exit)) s r
+        (bodyOf (now (list .entry)) (now (tree .entry)) scope (treeAt left (now (tree .entry)) at) (s .n))
+        ⌝ }
+{
+    let head = read_head(tree, at);
+    let first = body_at(tree, at);
+    let mut start = s;
+    start.p = records::advance(s.p, front_size(tree, at));
+    let made = transform_module_items(
+        tree,
+        first,
+        head.count,
+        left - 1,
+        scope,
+        list,
+        false,
+        out,
+        diagnostics,
+        start,
+    );
+    put_front(tree, at, left, head.flags, made.count, out, s);
+    made.s
+}

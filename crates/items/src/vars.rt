@@ -1,0 +1,182 @@
+// `Decl::Var`: the declarators and their types.
+ghost use mathlib.Core.Path.{_≡_};
+ghost use Rattle.definition.specs.Tree.{markAt, headAt, treeAt};
+ghost use Rattle.definition.specs.Grammar.{mark};
+ghost use Rattle.definition.specs.Children.{AcceptedAt};
+ghost use Rattle.definition.specs.Record.{headOf, kidsOf, each, wrap, atKid};
+ghost use Rattle.definition.specs.Classes.{typeOr};
+ghost use Rattle.definition.specs.Items.{declaratorType, declarator};
+ghost use Rattle.typing.specs.Did.{Ready};
+ghost use Rattle.parts.specs.Makes.{Makes, MakesAll};
+ghost use Rattle.classes.specs.Typings.{typingOf, ReadyAll};
+ghost use Rattle.items.specs.Steps.{recordsAt, readonlyMode, patternOf};
+use parts::keep;
+use parts::keep_all;
+use parts::put_any;
+use parts::put_front;
+use parts::put_gone;
+use prescan::Scope;
+use records::body_at;
+use records::mark_at;
+use records::marks::BD;
+use records::marks::D1;
+use records::marks::D2;
+use records::marks::NO;
+use records::marks::VR;
+use records::read_head;
+use records::record_end;
+use typing::Mode;
+use typing::State;
+
+// How the init of a declarator and an expression exported as default are typed: as_const off, as_readonly on.
+pub fn readonly(scope: Scope) -> Mode
+    ensures { λ r. ⌜ r ≡ readonlyMode scope ⌝ }
+{
+    Mode {
+        scope,
+        as_const: false,
+        as_readonly: true,
+        frozen: false,
+    }
+}
+
+// The type of the Bd at `at`, which has none, from the init: "typed (c off, r on), else any and d2 at the pattern".
+fn declarator_type(
+    tree: &[u8],
+    at: usize,
+    init: usize,
+    left: usize,
+    scope: Scope,
+    out: &mut [u8],
+    diagnostics: &mut [u8],
+    s: State,
+) -> State
+    requires { ⌜ AcceptedAt left (now tree) at ⌝ }
+    requires { ⌜ Ready left (now tree) init (s .n) scope ⌝ }
+    ensures { λ r. ⌜
+        Makes (now (out .entry)) (now (out .exit)) (now (diagnostics .entry)) (now (diagnostics .exit)) s r
+        (declaratorType (typingOf (now (tree .entry)) scope) (headAt (now (tree .entry)) at) (treeAt left (now (tree .entry)) init) (s .n))
+        ⌝ }
+{
+    if mark_at(tree, init) == NO {
+        let next = put_any(out, s);
+        return typing::mark_diagnostic(tree, at, D2, diagnostics, next);
+    }
+    let t = typing::expr_to_ts_type(tree, init, left, readonly(scope), out, diagnostics, s);
+    typing::or_any(tree, at, D2, t, out, diagnostics)
+}
+
+// The Bd at `at`, the pattern of a declarator: "identifier with type keeps it".
+fn declarator_ident(
+    tree: &[u8],
+    at: usize,
+    init: usize,
+    left: usize,
+    scope: Scope,
+    out: &mut [u8],
+    diagnostics: &mut [u8],
+    s: State,
+) -> State
+    requires { ⌜ AcceptedAt left (now tree) at × (markAt (now tree) at ≡ mark "Bd") ⌝ }
+    requires { ⌜ Ready left (now tree) init (s .n) scope ⌝ }
+    ensures { λ r. ⌜
+        Makes (now (out .entry)) (now (out .exit)) (now (diagnostics .entry)) (now (diagnostics .exit)) s r
+        (wrap (headOf (treeAt left (now (tree .entry)) at))
+        (atKid 1 (typeOr (declaratorType (typingOf (now (tree .entry)) scope) (headOf (treeAt left (now (tree .entry)) at))
+        (treeAt left (now (tree .entry)) init))) (kidsOf (treeAt left (now (tree .entry)) at)) (s .n)))
+        ⌝ }
+{
+    let head = read_head(tree, at);
+    let ident = body_at(tree, at);
+    let type_ann = record_end(tree, ident, left - 1);
+    if mark_at(tree, type_ann) != NO {
+        return keep(tree, at, left, out, s);
+    }
+    let rest = record_end(tree, type_ann, left - 1);
+    let front = put_front(tree, at, left, head.flags, head.count, out, s);
+    let named = keep(tree, ident, left - 1, out, front);
+    let typed = declarator_type(tree, at, init, left, scope, out, diagnostics, named);
+    keep_all(tree, rest, head.count - 2, left - 1, out, typed)
+}
+
+// The pattern of the Vr at `at`: "Other patterns give d1 at Vr".
+fn declarator_pattern(
+    tree: &[u8],
+    at: usize,
+    left: usize,
+    scope: Scope,
+    out: &mut [u8],
+    diagnostics: &mut [u8],
+    s: State,
+) -> State
+    requires { ⌜ Ready left (now tree) at (s .n) scope × (markAt (now tree) at ≡ mark "Vr") ⌝ }
+    ensures { λ r. ⌜
+        Makes (now (out .entry)) (now (out .exit)) (now (diagnostics .entry)) (now (diagnostics .exit)) s r
+        (patternOf (now (tree .entry)) scope (treeAt left (now (tree .entry)) at) (s .n))
+        ⌝ }
+{
+    let pattern = body_at(tree, at);
+    if mark_at(tree, pattern) != BD {
+        let next = keep(tree, pattern, left - 1, out, s);
+        return typing::mark_diagnostic(tree, at, D1, diagnostics, next);
+    }
+    let init = record_end(tree, pattern, left - 1);
+    declarator_ident(tree, pattern, init, left - 1, scope, out, diagnostics, s)
+}
+
+// A Vr: "Every init goes"; an Op is left as it is.
+fn declarator(
+    tree: &[u8],
+    at: usize,
+    left: usize,
+    scope: Scope,
+    out: &mut [u8],
+    diagnostics: &mut [u8],
+    s: State,
+) -> State
+    requires { ⌜ Ready left (now tree) at (s .n) scope ⌝ }
+    ensures { λ r. ⌜
+        Makes (now (out .entry)) (now (out .exit)) (now (diagnostics .entry)) (now (diagnostics .exit)) s r
+        (declarator (typingOf (now (tree .entry)) scope) (treeAt left (now (tree .entry)) at) (s .n))
+        ⌝ }
+{
+    if mark_at(tree, at) != VR {
+        return keep(tree, at, left, out, s);
+    }
+    let head = read_head(tree, at);
+    let pattern = body_at(tree, at);
+    let init = record_end(tree, pattern, left - 1);
+    let rest = record_end(tree, init, left - 1);
+    let front = put_front(tree, at, left, head.flags, head.count, out, s);
+    let named = declarator_pattern(tree, at, left, scope, out, diagnostics, front);
+    let bare = put_gone(tree, init, left - 1, out, named);
+    keep_all(tree, rest, head.count - 2, left - 1, out, bare)
+}
+
+// The declarators of a Vd, n records from `at` on.
+pub fn declarators(
+    tree: &[u8],
+    at: usize,
+    n: usize,
+    left: usize,
+    scope: Scope,
+    out: &mut [u8],
+    diagnostics: &mut [u8],
+    s: State,
+) -> State
+    requires { ⌜ ReadyAll left (now tree) n at (s .n) scope ⌝ }
+    ensures { λ r. ⌜
+        MakesAll (now (out .entry)) (now (out .exit)) (now (diagnostics .entry)) (now (diagnostics .exit)) s r
+        (each (λ i. declarator (typingOf (now (tree .entry)) scope)) 0 (recordsAt left (now (tree .entry)) n at) (s .n))
+        ⌝ }
+{
+    let mut next = s;
+    let mut k = n;
+    let mut child = at;
+    while 0 < k {
+        next = declarator(tree, child, left, scope, out, diagnostics, next);
+        child = record_end(tree, child, left);
+        k -= 1;
+    }
+    next
+}
