@@ -1,0 +1,4 @@
+pub mod Module
+pub mod Runs
+pub mod Calls
+pub mod SecondCall

@@ -1,0 +1,167 @@
+// `transform` on a Module, for every two byte strings: the check, a dry run that says how long output and diagnostics are, and the run.
+ghost use mathlib.Core.Path.{_≡_};
+ghost use Rattle.definition.specs.Check.{deepest};
+ghost use Rattle.definition.specs.Children.{AcceptedAt};
+ghost use Rattle.definition.specs.Transform.{call};
+ghost use Rattle.parts.specs.Makes.{Makes};
+ghost use Rattle.transform_dts.specs.Answers.{start, transformed, writtenOf, Gives, codeOf, pairOf};
+use grammar::Checked;
+use grammar::Refusal;
+use prescan::Scope;
+use records::DEEPEST;
+use records::DIAGNOSTIC_SIZE;
+use records::HEAD_SIZE;
+use typing::State;
+
+pub mod twice;
+
+// "Success returns bytes written and the diagnostic count"; a refusal and its place.
+pub enum Answer {
+    Done(usize, usize),
+    Refused(Refusal, usize),
+}
+
+// Where a run begins.
+fn begin() -> State
+    ensures { λ r. ⌜ r ≡ start ⌝ }
+{
+    State {
+        p: 0,
+        d: 0,
+        n: 0,
+        fits: true,
+    }
+}
+
+// `Program::Module`: a run over the Mo of an accepted tree; its front follows the items, with their number. Before the first item the scope is a
+// place behind the tree, where no item begins.
+fn transform_module(
+    tree: &[u8],
+    list: &[u8],
+    unresolved: u32,
+    out: &mut [u8],
+    diagnostics: &mut [u8],
+) -> State
+    requires { ⌜ AcceptedAt deepest (now tree) 0 ⌝ }
+    ensures { λ r. ⌜
+        Makes (now (out .entry)) (now (out .exit)) (now (diagnostics .entry)) (now (diagnostics .exit)) start r
+        (transformed (now (list .entry)) unresolved (now (tree .entry)))
+        ⌝ }
+{
+    let head = records::read_head(tree, 0);
+    let first = records::body_at(tree, 0);
+    let scope = Scope {
+        unresolved,
+        item: tree.len(),
+        end: tree.len() + HEAD_SIZE,
+    };
+    let mut items = begin();
+    items.p = records::advance(0, parts::front_size(tree, 0));
+    let made = items::transform_module_items(
+        tree,
+        first,
+        head.count,
+        DEEPEST - 1,
+        scope,
+        list,
+        true,
+        out,
+        diagnostics,
+        items,
+    );
+    parts::put_front(tree, 0, DEEPEST, head.flags, made.count, out, begin());
+    made.s
+}
+
+// The call on an accepted tree: refusals 9 and 10 by the dry run, then the run, on exactly the room that it takes.
+fn accepted(
+    tree: &[u8],
+    list: &[u8],
+    unresolved: u32,
+    out: &mut [u8],
+    diagnostics: &mut [u8],
+) -> Answer
+    requires { ⌜ AcceptedAt deepest (now tree) 0 ⌝ }
+    ensures { λ r. ⌜
+        Gives (writtenOf (now (list .entry)) unresolved (now (tree .entry)) (now (out .entry)) (now (diagnostics .entry)))
+        r (now (out .exit)) (now (diagnostics .exit))
+        ⌝ }
+{
+    let dry = transform_module(tree, list, unresolved, &mut out[..0], &mut diagnostics[..0]);
+    let fits = dry.fits;
+    if !fits {
+        return Answer::Refused(Refusal::OutputFull, 0);
+    }
+    if out.len() < dry.p {
+        return Answer::Refused(Refusal::OutputFull, 0);
+    }
+    if diagnostics.len() < dry.d {
+        return Answer::Refused(Refusal::DiagnosticsFull, 0);
+    }
+    transform_module(
+        tree,
+        list,
+        unresolved,
+        &mut out[..dry.p],
+        &mut diagnostics[..dry.d],
+    );
+    Answer::Done(dry.p, dry.d / DIAGNOSTIC_SIZE)
+}
+
+// The exported call, for every two byte strings, every context and all buffers: the answer and both buffers are the definition's `call`.
+pub fn transform(
+    tree: &[u8],
+    list: &[u8],
+    unresolved_context: u32,
+    out: &mut [u8],
+    diagnostics: &mut [u8],
+) -> Answer
+    ensures { λ r. ⌜
+        Gives (call (now (tree .entry)) (now (list .entry)) «unresolved_context» (now (out .entry)) (now (diagnostics .entry)))
+        r (now (out .exit)) (now (diagnostics .exit))
+        ⌝ }
+{
+    match grammar::check_tree(tree, list) {
+        Checked::Refused(refusal, place) => Answer::Refused(refusal, place),
+        Checked::Fine(end) => accepted(tree, list, unresolved_context, out, diagnostics),
+    }
+}
+
+// `transform` for C and Rust: 0 with the bytes written and the number of diagnostics in `answer`, or the refusal's number with its place and 0
+// there.
+#[no_mangle]
+pub extern "C" fn dts_transform(
+    tree: &[u8],
+    list: &[u8],
+    unresolved_context: u32,
+    out: &mut [u8],
+    diagnostics: &mut [u8],
+    answer: &mut [u64; 2],
+) -> u32
+    ensures number { λ r. ⌜
+        r ≡ codeOf (call (now (tree .entry)) (now (list .entry)) «unresolved_context» (now (out .entry)) (now (diagnostics .entry)) .answer)
+        ⌝ }
+    ensures pair { λ r. ⌜
+        now (answer .exit)
+        ≡ pairOf (call (now (tree .entry)) (now (list .entry)) «unresolved_context» (now (out .entry)) (now (diagnostics .entry)) .answer)
+        ⌝ }
+    ensures output { λ r. ⌜
+        now (out .exit) ≡ call (now (tree .entry)) (now (list .entry)) «unresolved_context» (now (out .entry)) (now (diagnostics .entry)) .out
+        ⌝ }
+    ensures diagnostics { λ r. ⌜
+        now (diagnostics .exit)
+        ≡ call (now (tree .entry)) (now (list .entry)) «unresolved_context» (now (out .entry)) (now (diagnostics .entry)) .diagnostics
+        ⌝ }
+{
+    let made = transform(tree, list, unresolved_context, out, diagnostics);
+    match made {
+        Answer::Done(length, count) => {
+            *answer = [length as u64, count as u64];
+            0
+        }
+        Answer::Refused(refusal, place) => {
+            *answer = [place as u64, 0];
+            grammar::number_of(refusal)
+        }
+    }
+}
