@@ -3,6 +3,7 @@
 use deno_ast::ModuleSpecifier;
 use deno_ast::SourceRange;
 use deno_ast::SourceTextInfo;
+use deno_ast::swc::ast::Module;
 use deno_ast::swc::ast::Program;
 use deno_ast::swc::common::SyntaxContext;
 
@@ -58,6 +59,16 @@ pub fn transform(
   unresolved: u32,
 ) -> (Rec, Vec<Diagnostic>) {
   let (module, notes) = decode::module(tree);
+  let (module, diagnostics) = run(module, list, unresolved);
+  (encode::module(&module, &notes), diagnostics)
+}
+
+/// The unchanged Rust alone, on swc's tree.
+pub fn run(
+  module: Module,
+  list: &[u8],
+  unresolved: u32,
+) -> (Module, Vec<Diagnostic>) {
   let impl_with_overload_ranges = list
     .chunks(10)
     .map(|entry| {
@@ -79,7 +90,7 @@ pub fn transform(
     unreachable!("a module becomes a module")
   };
   let diagnostics = transformer.diagnostics.iter().map(diagnostic).collect();
-  (encode::module(&module, &notes), diagnostics)
+  (module, diagnostics)
 }
 
 pub fn diagnostic(from: &FastCheckDtsDiagnostic) -> Diagnostic {

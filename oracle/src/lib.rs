@@ -1,6 +1,7 @@
 //! The unchanged Rust of deno_graph's declaration transform as the judge of
 //! the port: record trees go in as swc's syntax trees and come back as records.
 
+pub mod answers;
 pub mod call;
 pub mod decode;
 pub mod encode;

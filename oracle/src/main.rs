@@ -6,6 +6,7 @@ use std::process::ExitCode;
 
 use oracle::call::Answer;
 use oracle::call::call;
+use oracle::generate::Case;
 use oracle::leaves;
 use oracle::lines;
 use oracle::measure::count;
@@ -32,6 +33,10 @@ oracle leaves FOLDER [N SEED]
 oracle types FOLDER [N SEED]
     the cases of the program of this name and what it has to print, written to
     the files stdin and stdout in its folder; or those of N random trees
+oracle answers FOLDER N SEED
+    the cases of the program `replay` with the Rust's answers: those of
+    cases/shown.txt, the small ones at the limits, and N random ones with trees
+    of at most 400 bytes; written to stdin and stdout in its folder
 TREE is in notation, as 'Mo(Xe(Ar))'; without it bytes come from standard input.";
 
 fn main() -> ExitCode {
@@ -84,8 +89,36 @@ fn command(args: &[String]) -> Result<(), String> {
       };
       program(rest, &leaves::stdin(&trees), &types::stdout(&trees))
     }
+    Some("answers") => answers(rest),
     _ => Err(USAGE.to_string()),
   }
+}
+
+/// A case whose tree is small, or is refused for its length alone.
+fn is_small(case: &Case) -> bool {
+  let tree = case.tree.len();
+  (tree <= 400 || tree > 524_288)
+    && (case.list.len() <= 400 || case.list.len() > 40_960)
+}
+
+fn answers(args: &[String]) -> Result<(), String> {
+  let wanted: usize = number(args.get(1))?;
+  let seed = number(args.get(2))?;
+  let shown = include_str!("../cases/shown.txt");
+  let shown = shown.lines().filter_map(|line| Some(lines::read(line)?.0));
+  let random = (0..).map(|place| numbered(seed, place, false));
+  let limits = oracle::generate::limits().into_iter();
+  let mut stdin = vec![];
+  let mut count = 0;
+  for case in shown
+    .chain(limits)
+    .filter(is_small)
+    .chain(random.filter(is_small).take(wanted))
+  {
+    stdin.extend(oracle::answers::write(&case));
+    count += 1;
+  }
+  program(args, &stdin, &format!("{count} cases, 0 differ\n"))
 }
 
 fn standard_input() -> Result<Vec<u8>, String> {

@@ -9,6 +9,7 @@ mod tree;
 
 pub use limits::limits;
 pub use limits::long_key;
+pub use tree::tree;
 
 use crate::call::result;
 use crate::grammar::MAX_LIST;
@@ -17,7 +18,6 @@ use damage::damage_bytes;
 use damage::damage_list;
 use damage::damage_tree;
 use limits::deep;
-use tree::tree;
 
 #[derive(Clone, Debug)]
 pub struct Case {
