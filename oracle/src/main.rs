@@ -35,8 +35,8 @@ oracle types FOLDER [N SEED]
     the files stdin and stdout in its folder; or those of N random trees
 oracle answers FOLDER N SEED
     the cases of the program `replay` with the Rust's answers: those of
-    cases/shown.txt, the small ones at the limits, and N random ones with trees
-    of at most 400 bytes; written to stdin and stdout in its folder
+    cases/shown.txt, the small and some of the deep ones at the limits, and N
+    random ones with trees of at most 400 bytes; written to stdin and stdout in its folder
 TREE is in notation, as 'Mo(Xe(Ar))'; without it bytes come from standard input.";
 
 fn main() -> ExitCode {
@@ -101,18 +101,24 @@ fn is_small(case: &Case) -> bool {
     && (case.list.len() <= 400 || case.list.len() > 40_960)
 }
 
+/// Some of the trees with 63 to 66 levels.
+fn is_deep(place: usize, case: &Case) -> bool {
+  place % 7 == 0 && case.tree.len() <= 4096
+}
+
 fn answers(args: &[String]) -> Result<(), String> {
   let wanted: usize = number(args.get(1))?;
   let seed = number(args.get(2))?;
   let shown = include_str!("../cases/shown.txt");
   let shown = shown.lines().filter_map(|line| Some(lines::read(line)?.0));
   let random = (0..).map(|place| numbered(seed, place, false));
-  let limits = oracle::generate::limits().into_iter();
+  let limits = oracle::generate::limits().into_iter().enumerate();
+  let limits =
+    limits.filter(|(place, case)| is_small(case) || is_deep(*place, case));
   let mut stdin = vec![];
   let mut count = 0;
   for case in shown
-    .chain(limits)
-    .filter(is_small)
+    .chain(limits.map(|(_, case)| case))
     .chain(random.filter(is_small).take(wanted))
   {
     stdin.extend(oracle::answers::write(&case));
