@@ -18,7 +18,7 @@ use oracle::types;
 
 const USAGE: &str = "\
 oracle run [--list HEX] [--context N] [--out N] [--diagnostics N] [TREE]
-    the call on one tree, printed as the program `declares` will; with --output
+    the call on one tree, printed as the program `declares` does; with --output
     the tree that was written comes last, in notation
 oracle show          bytes on standard input, printed in notation
 oracle text TREE     notation, printed as bytes
