@@ -1,14 +1,16 @@
-// The check at document 01's limits, which are too large to evaluate in the logic: the longest tree and one byte more, 64 and 65 levels, the
-// longest overload list and one entry more. Each line is the check's answer.
+// Document 01's limits, which are too large to evaluate in the logic: the longest tree and one byte more, 64 and 65 levels, the longest overload
+// list and one entry more. Each line is the check's answer, but the last: the call's on the longest tree.
 use grammar::Checked;
 use libc::STDOUT_FILENO;
 use records::Head;
+use records::marks::AR;
 use records::marks::IM;
 use records::marks::MO;
 use records::marks::OE;
 use records::marks::OP;
 use records::marks::PR;
 use records::marks::XE;
+use transform_dts::Answer;
 
 const LONGEST_TREE: usize = 524288;
 
@@ -17,6 +19,9 @@ const TREE: usize = 524289;
 const LONGEST_LIST: usize = 40960;
 
 const LIST: usize = 40970;
+
+// More than the longest tree's declarations take.
+const OUTPUT: usize = 524416;
 
 const ENTRY: usize = 10;
 
@@ -60,17 +65,28 @@ fn filler(tree: &mut [u8], p: usize, n: usize) -> usize {
     records::advance(put(tree, q, OP, n, 0), n)
 }
 
-// A Mo of 524,288 bytes: eight items whose texts fill it.
+// `export default [];`
+fn default_export(tree: &mut [u8], p: usize) -> usize {
+    let q = put(tree, p, XE, 0, 1);
+    put(tree, q, AR, 0, 0)
+}
+
+fn four_fillers(tree: &mut [u8], p: usize) -> usize {
+    let mut q = filler(tree, p, 65504);
+    q = filler(tree, q, 65504);
+    q = filler(tree, q, 65504);
+    filler(tree, q, 65504)
+}
+
+// A Mo of 524,288 bytes: a default export, and eight items whose texts fill it.
 fn fill(tree: &mut [u8]) {
-    let mut p = put(tree, 0, MO, 0, 8);
+    let mut p = put(tree, 0, MO, 0, 9);
+    p = default_export(tree, p);
+    p = four_fillers(tree, p);
     p = filler(tree, p, 65504);
     p = filler(tree, p, 65504);
     p = filler(tree, p, 65504);
-    p = filler(tree, p, 65504);
-    p = filler(tree, p, 65504);
-    p = filler(tree, p, 65504);
-    p = filler(tree, p, 65504);
-    filler(tree, p, 65505);
+    filler(tree, p, 65475);
 }
 
 // A Mo of so many levels and two more: an Xe, so many Pr and an Oe.
@@ -105,6 +121,31 @@ fn try_parts(tree: &[u8], n: usize, list: &[u8], m: usize) {
     }
 }
 
+fn show_done(length: usize, count: usize) {
+    io::write_all(STDOUT_FILENO, b"ok ");
+    io::print_decimal(STDOUT_FILENO, length as u64);
+    io::write_all(STDOUT_FILENO, b" ");
+    io::print_decimal(STDOUT_FILENO, count as u64);
+    io::write_all(STDOUT_FILENO, b"\n");
+}
+
+// The call's answer for a tree, with an empty list and no room for diagnostics.
+fn call(tree: &[u8], out: &mut [u8]) {
+    let list = [0u8; 0];
+    let mut diagnostics = [0u8; 0];
+    match transform_dts::transform(tree, &list, 1, out, &mut diagnostics) {
+        Answer::Done(length, count) => show_done(length, count),
+        Answer::Refused(refusal, place) => show(Checked::Refused(refusal, place)),
+    }
+}
+
+// The same for the first n bytes of a tree.
+fn call_part(tree: &[u8], n: usize, out: &mut [u8]) {
+    if n <= tree.len() {
+        call(&tree[..n], out);
+    }
+}
+
 fn run(tree: &mut [u8], list: &mut [u8]) {
     entries(list, 4097);
     fill(tree);
@@ -128,4 +169,8 @@ fn main() {
     let mut list = [0u8; LIST];
     let mut tree = [0u8; TREE];
     run(&mut tree, &mut list);
+    let mut out = [0u8; OUTPUT];
+    fill(&mut tree);
+    io::write_all(STDOUT_FILENO, b"524,288 bytes through the call: ");
+    call_part(&tree, LONGEST_TREE, &mut out);
 }

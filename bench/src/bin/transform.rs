@@ -1,33 +1,29 @@
-//! The typing of wide expressions, timed: how many times the time twice the elements take. A call checks the tree and types one of its items.
+//! The exported call on wide expressions, timed: how many times the time twice the elements take.
 use bench::record;
 use std::time::{Duration, Instant};
 
 unsafe extern "C" {
-    fn dts_type_item(
+    fn dts_transform(
         tree: *const u8,
         tree_len: usize,
-        number: usize,
+        list: *const u8,
+        list_len: usize,
+        unresolved_context: u32,
         out: *mut u8,
         out_len: usize,
         diagnostics: *mut u8,
         diagnostics_len: usize,
-        lengths: *mut [u64; 2],
+        answer: *mut [u64; 2],
     ) -> u32;
 }
 
-/// A module, and the number of its item that is typed.
-struct Module {
-    tree: Vec<u8>,
-    number: usize,
-}
-
-/// Whether there is a type, and the bytes of it and of the diagnostics.
-fn type_item(module: &Module, out: &mut [u8], diagnostics: &mut [u8]) -> (u32, [u64; 2]) {
-    let mut lengths = [0; 2];
-    let (t, o, d) = (module.tree.len(), out.len(), diagnostics.len());
+/// The exported call with an empty list and 1 as the unresolved context: 0, and the bytes written and the number of diagnostics.
+fn transform(tree: &[u8], out: &mut [u8], diagnostics: &mut [u8]) -> (u32, [u64; 2]) {
+    let mut answer = [0; 2];
+    let (o, d) = (out.len(), diagnostics.len());
     let (out, diagnostics) = (out.as_mut_ptr(), diagnostics.as_mut_ptr());
-    let answer = unsafe { dts_type_item(module.tree.as_ptr(), t, module.number, out, o, diagnostics, d, &mut lengths) };
-    (answer, lengths)
+    let number = unsafe { dts_transform(tree.as_ptr(), tree.len(), tree.as_ptr(), 0, 1, out, o, diagnostics, d, &mut answer) };
+    (number, answer)
 }
 
 fn leaf(mark: &str) -> Vec<u8> {
@@ -44,7 +40,7 @@ fn default_export(expression: Vec<u8>) -> Vec<u8> {
 }
 
 /// Expressions without names, each in a module of one item.
-fn kinds(n: usize) -> Vec<(&'static str, Module)> {
+fn kinds(n: usize) -> Vec<(&'static str, Vec<u8>)> {
     let number = record("Nu", &[0; 8], &[]);
     let property = |value: Vec<u8>| record("Kv", &[], &[record("Ki", b"key", &[]), value]);
     let array = record("Ar", &[], &[number.clone()]);
@@ -62,7 +58,7 @@ fn kinds(n: usize) -> Vec<(&'static str, Module)> {
         ("an arrow with defaults", wide("Aw", &[leaf("No"), leaf("No")], default, n / 2)),
         ("a frozen object", wide("Ca", &[freeze], object, 1)),
     ];
-    let alone = |tree: Vec<u8>| Module { tree: record("Mo", &[], &[default_export(tree)]), number: 0 };
+    let alone = |expression: Vec<u8>| record("Mo", &[], &[default_export(expression)]);
     expressions.into_iter().map(|(kind, expression)| (kind, alone(expression))).collect()
 }
 
@@ -81,7 +77,7 @@ fn constant(symbol: &str, ty: Vec<u8>, init: Vec<u8>) -> Vec<u8> {
 
 /// Expressions of resolved names, each of which is a question put to the module: by `list` and `Class`, which it declares, and by a name that it
 /// does not. Each as a default export, as the init of a const and of an exported one; and each such item before two others, between and behind them.
-fn names(n: usize) -> Vec<(String, [Module; 3])> {
+fn names(n: usize) -> Vec<(String, [Vec<u8>; 3])> {
     let spread = record("Sp", &[], &[name("list")]);
     let class = record("Ne", &[], &[name("Class"), leaf("No")]);
     let shorthand = |symbol| record("Sh", &[], &[name(symbol)]);
@@ -105,7 +101,7 @@ fn names(n: usize) -> Vec<(String, [Module; 3])> {
             let modules = [0, 1, 2].map(|number| {
                 let mut items = vec![list.clone(), class.clone()];
                 items.insert(number, item.clone());
-                Module { tree: record("Mo", &[], &items), number }
+                record("Mo", &[], &items)
             });
             found.push((format!("{kind}, {place}"), modules));
         }
@@ -113,23 +109,23 @@ fn names(n: usize) -> Vec<(String, [Module; 3])> {
     found
 }
 
-fn time(module: &Module, out: &mut [u8], diagnostics: &mut [u8]) -> Duration {
+fn time(tree: &[u8], out: &mut [u8], diagnostics: &mut [u8]) -> Duration {
     let start = Instant::now();
-    let (answer, lengths) = type_item(module, out, diagnostics);
+    let (number, answer) = transform(tree, out, diagnostics);
     let took = start.elapsed();
-    assert_eq!(answer, 0);
-    assert!(lengths[0] >= 15 && lengths[0] as usize <= out.len() && lengths[1] as usize <= diagnostics.len());
+    assert_eq!(number, 0);
+    assert!(answer[0] > 30);
     took
 }
 
 /// By the shortest of many runs of each, taken in turns.
-fn times(small: &Module, large: &Module) -> f64 {
+fn times(small: &[u8], large: &[u8]) -> f64 {
     let mut out = vec![0; 8 << 20];
     let mut diagnostics = vec![0; 1 << 20];
     let mut best = [Duration::MAX; 2];
     for _ in 0..100 {
-        for (best, module) in best.iter_mut().zip([small, large]) {
-            *best = time(module, &mut out, &mut diagnostics).min(*best);
+        for (best, tree) in best.iter_mut().zip([small, large]) {
+            *best = time(tree, &mut out, &mut diagnostics).min(*best);
         }
     }
     best[1].as_secs_f64() / best[0].as_secs_f64()
