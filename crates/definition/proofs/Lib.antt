@@ -13,6 +13,7 @@ pub mod Handbook
 pub mod HandbookDeclarations
 pub mod HandbookOverloads
 pub mod HandbookEnums
+pub mod SmallTrees
 pub mod Differences
 pub mod Samples
 pub mod CheckSamples
