@@ -15,6 +15,7 @@ pub mod HandbookOverloads
 pub mod HandbookEnums
 pub mod SmallTrees
 pub mod Differences
+pub mod ObjectSpread
 pub mod Samples
 pub mod CheckSamples
 pub mod Stable
