@@ -5,9 +5,9 @@ use mathlib.Core.Path.{_≡_, refl}
 use mathlib.Core.List.{[], _∷_, _++_}
 use mathlib.Core.Bool.{Bool, true, false}
 use mathlib.Core.Option.{some}
-use Rattle.definition.specs.Tree.{Rec, Recs, rec, nil, cons, le4}
+use Rattle.definition.specs.Tree.{Rec, Recs, nil, le4}
 use Rattle.definition.specs.Grammar.{marks, member}
-use Rattle.definition.specs.Record.{text, sameText, fresh, absent, one}
+use Rattle.definition.specs.Record.{text, sameText, absent, one}
 use Rattle.definition.specs.Handbook.{propertyKey, onlyOps, plainTemplate, negatedNumber, negatedInteger, negatedLiteral, negatedKeyword, literalKind, typeBy, literalExpr, constType, variableType, isArray, annotatedKind, annotationBy, annotation, enumKind, constantBy, constantEnum, entityName, undotted, withoutDots}
 use Rattle.definition.proofs.SmallTrees.{
   leaf,

@@ -16,6 +16,8 @@ pub mod HandbookEnums
 pub mod SmallTrees
 pub mod Differences
 pub mod ObjectSpread
+pub mod IsolatedDeclarations
+pub mod SlowTypes
 pub mod Samples
 pub mod CheckSamples
 pub mod Stable
