@@ -5,17 +5,18 @@ use mathlib.Core.Bool.{Bool, true, false, _||_}
 use mathlib.Core.Option.{Option, some}
 use mathlib.Core.Logic.{⊎-elim}
 use Prim.Native.Nat.{ℕ}
+use native.Mathlib.Omega.{arith}
 use lib.Dec.{eqb}
 use borrow.Author.Tests.{eqb-true, eq-eqb}
 use Rattle.definition.specs.Tree.{Head, Rec, Recs, rec, nil, cons}
 use Rattle.definition.specs.Grammar.{mark, marks, member}
 use Rattle.definition.specs.Record.{kidsOf, markOf, among, isNo, flagged, kid, setKid, one, present, gone, listed, Out, Typing, each, second}
 use Rattle.definition.specs.Prescan.{PrescannedModuleIds}
-use Rattle.definition.specs.Typing.{xAs, xFn, xArrow, exprKind, exprBy, exprToTsType, arrowParams, fnParams, fnType}
+use Rattle.definition.specs.Typing.{xAs, xFn, xArrow, exprKind, exprBy, exprToTsType, arrowParams, fnParams, fnType, paramKind, paramBy, patToTsFnParam}
 use Rattle.definition.specs.Classes.{pIdent, pBox, patternKind, handleFuncParamIdent, handleFuncParamAssign, handlePatternBy, handlePattern, handleFuncParam, functionPart, handleFunction, propType, classProp}
-use Rattle.definition.specs.Items.{iDefault, iDecl, itemKind, dType, declKind, xFn as xFunction, defaultKind, declaratorPattern, declarator, withoutBody, transformModuleStmt, exportDefaultDecl, itemBy, transformModuleItem}
+use Rattle.definition.specs.Items.{iDefault, iDecl, itemKind, dType, declKind, xFn as xFunction, xOther, defaultKind, declaratorPattern, declarator, withoutBody, declToTypeDecl, transformModuleStmt, exportDecl, exportDefaultDecl, itemBy, transformModuleItem}
 use Rattle.definition.proofs.Handbook.{no-some}
-use Rattle.definition.proofs.SilenceModule.{either}
+use Rattle.definition.proofs.SilenceModule.{either, item-ed}
 use Rattle.definition.specs.Handbook.{Annotated, aFirst, aSecond, aPattern, annotatedKind, annotationBy, annotation, annotationFirst}
 
 -- ---- written types stay as written
@@ -124,6 +125,10 @@ item-xd m e = rw e
 pub default-fx : (m : ℕ) → m ≡ mark "Fx" → defaultKind m ≡ xFunction
 unfolding defaultKind
 default-fx m e = rw e
+
+default-in : (m : ℕ) → m ≡ mark "In" → defaultKind m ≡ xOther
+unfolding defaultKind
+default-in m e = rw e
 
 expr-as : (m : ℕ) → m ≡ mark "As" → exprKind m ≡ xAs
 unfolding exprKind marks member
@@ -288,10 +293,20 @@ module _ (ty : Typing) where
   unfolding transformModuleItem itemBy exportDefaultDecl second
   default-return-written list ctx h xh name f more ops t top n m x l k e = (withoutBody f n .0, rw (item-xd (h .mark) m, default-fx (xh .mark) x, l), default-return-kept f t n k e)
 
-  -- interfaces and type aliases pass
+  -- interfaces and type aliases pass, alone, exported, and as default
   pub types-pass : (list : List ℕ) (ctx : ℕ) (r : Rec) (top : Bool) (n : ℕ) → among "In Ty" (markOf r) ≡ true → transformModuleItem list ctx ty r top n ≡ (one r, [], n)
   unfolding transformModuleItem itemBy transformModuleStmt
   types-pass list ctx (rec h ks) top n e = rw (type-item (h .mark) e, type-decl (h .mark) e)
+
+  pub exported-types-pass : (list : List ℕ) (ctx : ℕ) (h : Head) (d : Rec) (ops : Recs) (top : Bool) (n : ℕ) → h .mark ≡ mark "Ed" → among "In Ty" (markOf d) ≡ true →
+      transformModuleItem list ctx ty (rec h (cons d ops)) top n ≡ (one (rec h (cons d ops)), [], n)
+  unfolding transformModuleItem itemBy exportDecl declToTypeDecl
+  exported-types-pass list ctx h (rec dh ks) ops top n m e = rw (item-ed (h .mark) m, type-decl (dh .mark) e)
+
+  pub default-interface-passes : (list : List ℕ) (ctx : ℕ) (r : Rec) (top : Bool) (n : ℕ) → markOf r ≡ mark "Xd" → markOf (kid 0 (kidsOf r)) ≡ mark "In" →
+      transformModuleItem list ctx ty r top n ≡ (one r, [], n)
+  unfolding transformModuleItem itemBy exportDefaultDecl
+  default-interface-passes list ctx (rec h ks) top n m e = rw (item-xd (h .mark) m, default-in (markOf (kid 0 ks)) e)
 
 module _ (ids : PrescannedModuleIds) (ctx : ℕ) where
   -- "as": what is asserted is the type
@@ -320,3 +335,17 @@ module _ (ids : PrescannedModuleIds) (ctx : ℕ) where
   function-return-written h name (rec fh fs) ops t c r n m k e =
       let ps : Recs = fnParams ids ctx fs 3 n .0 in
       (fnType fh fs ps, rw (expr-fx (h .mark) m), fn-type-written fh fs ps t (sym (annotated-second (rec fh fs) (mark "Fu") k kind-fu) ∙ e))
+
+  -- a parameter of either that has no default stays, with the type that is written
+  pub parameter-kept : (p : Rec) (n : ℕ) → among "Bd Pb Rs Po" (markOf p) ≡ true → patToTsFnParam ids ctx p n ≡ (one p, [], n)
+  unfolding patToTsFnParam paramBy paramKind marks member
+  parameter-kept (rec h ks) n e =
+      go (eqb (h .mark) (mark "Bd")) (eqb (h .mark) (mark "Pb")) (eqb (h .mark) (mark "Rs")) (eqb (h .mark) (mark "Po")) refl refl refl refl
+    where
+      go : (a b c d : Bool) → eqb (h .mark) (mark "Bd") ≡ a → eqb (h .mark) (mark "Pb") ≡ b → eqb (h .mark) (mark "Rs") ≡ c → eqb (h .mark) (mark "Po") ≡ d →
+          patToTsFnParam ids ctx (rec h ks) n ≡ (one (rec h ks), [], n)
+      go true b c d p q s t = rw p
+      go false true c d p q s t = rw (p, q)
+      go false false true d p q s t = rw (p, q, s)
+      go false false false true p q s t = rw (p, q, s, t)
+      go false false false false p q s t = absurd (let z : false ≡ true = rw (p, q, s, t) at e in let y : _≡_ {A = ℕ} 0 1 = cc in omega arith)
