@@ -5,7 +5,14 @@ use mathlib.Core.Path.{_≡_, refl}
 use mathlib.Core.List.{[], _∷_}
 use Rattle.definition.specs.Tree.{Rec, nil, cons}
 use Rattle.definition.specs.Record.{absent, one}
-use Rattle.definition.proofs.SmallTrees.{node, flags, two, key, op, number, keyword, module-of, exported, class-of, told, becomes}
+use Rattle.definition.proofs.SmallTrees.{node, flags, two, key, op, number, keyword, module-of, exported, variable, class-of, told, becomes}
+
+-- ---- simple inference
+
+-- `export const a = 1 + 1;`, which the page lets pass, is any, with d2
+simple-inference : becomes (exported (variable 2 "a" absent (node "Bn" (two number number)))) ≡ (exported (variable 3 "a" (keyword "any") absent), told "d2" ∷ [])
+unfolding becomes
+simple-inference = refl
 
 -- ---- augmentation
 
