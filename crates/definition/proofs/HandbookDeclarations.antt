@@ -5,18 +5,18 @@ use mathlib.Core.Bool.{Bool, true, false, _||_}
 use mathlib.Core.Option.{Option, some}
 use mathlib.Core.Logic.{⊎-elim}
 use Prim.Native.Nat.{ℕ}
+use native.Mathlib.Omega.{arith}
 use lib.Dec.{eqb}
 use borrow.Author.Tests.{eqb-true, eq-eqb}
 use Rattle.definition.specs.Tree.{Head, Rec, Recs, rec, nil, cons}
 use Rattle.definition.specs.Grammar.{mark, marks, member}
-use Rattle.definition.specs.Record.{kidsOf, markOf, among, isNo, flagged, kid, setKid, one, given, present, gone, Out, Typing, each}
-use Rattle.definition.specs.Helpers.{anyTypeAnn}
+use Rattle.definition.specs.Record.{kidsOf, markOf, among, isNo, flagged, kid, setKid, one, present, gone, listed, Out, Typing, each, second}
 use Rattle.definition.specs.Prescan.{PrescannedModuleIds}
-use Rattle.definition.specs.Typing.{xAs, xArrow, exprKind, exprBy, exprToTsType, arrowParams, fnType}
+use Rattle.definition.specs.Typing.{xAs, xFn, xArrow, exprKind, exprBy, exprToTsType, arrowParams, fnParams, fnType, paramKind, paramBy, patToTsFnParam}
 use Rattle.definition.specs.Classes.{pIdent, pBox, patternKind, handleFuncParamIdent, handleFuncParamAssign, handlePatternBy, handlePattern, handleFuncParam, functionPart, handleFunction, propType, classProp}
-use Rattle.definition.specs.Items.{iDecl, itemKind, dType, declKind, declaratorPattern, declarator, transformModuleStmt, itemBy, transformModuleItem}
+use Rattle.definition.specs.Items.{iDefault, iDecl, itemKind, dType, declKind, xFn as xFunction, xOther, defaultKind, declaratorPattern, declarator, withoutBody, declToTypeDecl, transformModuleStmt, exportDecl, exportDefaultDecl, itemBy, transformModuleItem}
 use Rattle.definition.proofs.Handbook.{no-some}
-use Rattle.definition.proofs.SilenceModule.{either}
+use Rattle.definition.proofs.SilenceModule.{either, item-ed}
 use Rattle.definition.specs.Handbook.{Annotated, aFirst, aSecond, aPattern, annotatedKind, annotationBy, annotation, annotationFirst}
 
 -- ---- written types stay as written
@@ -118,9 +118,25 @@ type-decl : (m : ℕ) → among "In Ty" m ≡ true → declKind m ≡ dType
 unfolding marks declKind
 type-decl m e = ⊎-elim (λ q. rw q) (λ q. rw q) (either m (mark "In") (mark "Ty") e)
 
+pub item-xd : (m : ℕ) → m ≡ mark "Xd" → itemKind m ≡ iDefault
+unfolding itemKind
+item-xd m e = rw e
+
+pub default-fx : (m : ℕ) → m ≡ mark "Fx" → defaultKind m ≡ xFunction
+unfolding defaultKind
+default-fx m e = rw e
+
+default-in : (m : ℕ) → m ≡ mark "In" → defaultKind m ≡ xOther
+unfolding defaultKind
+default-in m e = rw e
+
 expr-as : (m : ℕ) → m ≡ mark "As" → exprKind m ≡ xAs
 unfolding exprKind marks member
 expr-as m e = rw e
+
+expr-fx : (m : ℕ) → m ≡ mark "Fx" → exprKind m ≡ xFn
+unfolding exprKind marks member
+expr-fx m e = rw e
 
 expr-aw : (m : ℕ) → m ≡ mark "Aw" → exprKind m ≡ xArrow
 unfolding exprKind marks member
@@ -258,10 +274,39 @@ module _ (ty : Typing) where
       made : (a : Rec) (rest : Recs) → isNo t ≡ false → annotation (handleFunction ty false (rec h (cons a (cons t rest))) n .0) ≡ some t
       made a rest i = annotated-second (handleFunction ty false (rec h (cons a (cons t rest))) n .0) (mark "Fu") m kind-fu ∙ rw i
 
-  -- interfaces and type aliases pass
+  -- what a function returns that is exported as default
+  default-return-kept : (f t : Rec) (n : ℕ) → markOf f ≡ mark "Fu" → annotation f ≡ some t → annotation (withoutBody f n .0) ≡ some t
+  unfolding withoutBody each
+  default-return-kept (rec h ks) t n m e =
+      let s = second-there ks t (sym (annotated-second (rec h ks) (mark "Fu") m kind-fu) ∙ e) in
+      subst (λ (ks : Recs). annotation (withoutBody (rec h ks) n .0) ≡ some t) (sym (s .2)) (made (s .0) (s .1) (s .3))
+    where
+      made : (a : Rec) (rest : Recs) → isNo t ≡ false → annotation (withoutBody (rec h (cons a (cons t rest))) n .0) ≡ some t
+      made a rest i = annotated-second (withoutBody (rec h (cons a (cons t rest))) n .0) (mark "Fu") m kind-fu ∙ rw i
+
+  pub default-return-written : (list : List ℕ) (ctx : ℕ) (h xh : Head) (name f : Rec) (more ops : Recs) (t : Rec) (top : Bool) (n : ℕ) →
+      h .mark ≡ mark "Xd" → xh .mark ≡ mark "Fx" → listed list h ≡ false → markOf f ≡ mark "Fu" → annotation f ≡ some t →
+      (g : Rec)
+      × (transformModuleItem list ctx ty (rec h (cons (rec xh (cons name (cons f more))) ops)) top n .0
+      ≡ one (rec h (cons (rec xh (cons name (cons g more))) ops)))
+      × (annotation g ≡ some t)
+  unfolding transformModuleItem itemBy exportDefaultDecl second
+  default-return-written list ctx h xh name f more ops t top n m x l k e = (withoutBody f n .0, rw (item-xd (h .mark) m, default-fx (xh .mark) x, l), default-return-kept f t n k e)
+
+  -- interfaces and type aliases pass, alone, exported, and as default
   pub types-pass : (list : List ℕ) (ctx : ℕ) (r : Rec) (top : Bool) (n : ℕ) → among "In Ty" (markOf r) ≡ true → transformModuleItem list ctx ty r top n ≡ (one r, [], n)
   unfolding transformModuleItem itemBy transformModuleStmt
   types-pass list ctx (rec h ks) top n e = rw (type-item (h .mark) e, type-decl (h .mark) e)
+
+  pub exported-types-pass : (list : List ℕ) (ctx : ℕ) (h : Head) (d : Rec) (ops : Recs) (top : Bool) (n : ℕ) → h .mark ≡ mark "Ed" → among "In Ty" (markOf d) ≡ true →
+      transformModuleItem list ctx ty (rec h (cons d ops)) top n ≡ (one (rec h (cons d ops)), [], n)
+  unfolding transformModuleItem itemBy exportDecl declToTypeDecl
+  exported-types-pass list ctx h (rec dh ks) ops top n m e = rw (item-ed (h .mark) m, type-decl (dh .mark) e)
+
+  pub default-interface-passes : (list : List ℕ) (ctx : ℕ) (r : Rec) (top : Bool) (n : ℕ) → markOf r ≡ mark "Xd" → markOf (kid 0 (kidsOf r)) ≡ mark "In" →
+      transformModuleItem list ctx ty r top n ≡ (one r, [], n)
+  unfolding transformModuleItem itemBy exportDefaultDecl
+  default-interface-passes list ctx (rec h ks) top n m e = rw (item-xd (h .mark) m, default-in (markOf (kid 0 ks)) e)
 
 module _ (ids : PrescannedModuleIds) (ctx : ℕ) where
   -- "as": what is asserted is the type
@@ -270,13 +315,37 @@ module _ (ids : PrescannedModuleIds) (ctx : ℕ) where
   assertion-written (rec h ks) t c r n m e =
       rw (expr-as (h .mark) m) (ap {B = Out (Option Rec)} (λ (x : Option Rec). (x, [], n)) (sym (annotated-second (rec h ks) (mark "As") m kind-as) ∙ e))
 
-  -- what an arrow returns
+  -- what an arrow returns, and what a function expression does
+  fn-type-written : (h : Head) (ks ps : Recs) (t : Rec) → present (kid 1 ks) ≡ some t → annotation (fnType h ks ps) ≡ some t
+  fn-type-written h ks ps t e =
+      let i = there (kid 1 ks) t e in
+      annotated-second (fnType h ks ps) (mark "Ft") refl kind-ft
+      ∙ rw e (subst (λ (x : Rec). present x ≡ some x) (i .0) (rw (i .1)))
+
   pub arrow-written : (e t : Rec) (c r : Bool) (n : ℕ) → markOf e ≡ mark "Aw" → annotation e ≡ some t →
       (f : Rec) × (exprToTsType ids ctx e c r n .0 ≡ some f) × (annotation f ≡ some t)
   unfolding exprToTsType exprBy
   arrow-written (rec h ks) t c r n m e =
-      let s = second-there ks t (sym (annotated-second (rec h ks) (mark "Aw") m kind-aw) ∙ e) in
-      let k : ks ≡ cons (s .0) (cons t (s .1)) = s .2 in
-      let i : isNo t ≡ false = s .3 in
-      let f : Rec = fnType h ks (arrowParams ids ctx ks 2 n .0) in
-      (f, rw (expr-aw (h .mark) m), annotated-second f (mark "Ft") refl kind-ft ∙ subst (λ (ks : Recs). present (given (present (kid 1 ks)) anyTypeAnn (λ t. t)) ≡ some t) (sym k) (rw (i, i)))
+      let ps : Recs = arrowParams ids ctx ks 2 n .0 in
+      (fnType h ks ps, rw (expr-aw (h .mark) m), fn-type-written h ks ps t (sym (annotated-second (rec h ks) (mark "Aw") m kind-aw) ∙ e))
+
+  pub function-return-written : (h : Head) (name f : Rec) (ops : Recs) (t : Rec) (c r : Bool) (n : ℕ) → h .mark ≡ mark "Fx" → markOf f ≡ mark "Fu" → annotation f ≡ some t →
+      (g : Rec) × (exprToTsType ids ctx (rec h (cons name (cons f ops))) c r n .0 ≡ some g) × (annotation g ≡ some t)
+  unfolding exprToTsType exprBy
+  function-return-written h name (rec fh fs) ops t c r n m k e =
+      let ps : Recs = fnParams ids ctx fs 3 n .0 in
+      (fnType fh fs ps, rw (expr-fx (h .mark) m), fn-type-written fh fs ps t (sym (annotated-second (rec fh fs) (mark "Fu") k kind-fu) ∙ e))
+
+  -- a parameter of either that has no default stays, with the type that is written
+  pub parameter-kept : (p : Rec) (n : ℕ) → among "Bd Pb Rs Po" (markOf p) ≡ true → patToTsFnParam ids ctx p n ≡ (one p, [], n)
+  unfolding patToTsFnParam paramBy paramKind marks member
+  parameter-kept (rec h ks) n e =
+      go (eqb (h .mark) (mark "Bd")) (eqb (h .mark) (mark "Pb")) (eqb (h .mark) (mark "Rs")) (eqb (h .mark) (mark "Po")) refl refl refl refl
+    where
+      go : (a b c d : Bool) → eqb (h .mark) (mark "Bd") ≡ a → eqb (h .mark) (mark "Pb") ≡ b → eqb (h .mark) (mark "Rs") ≡ c → eqb (h .mark) (mark "Po") ≡ d →
+          patToTsFnParam ids ctx (rec h ks) n ≡ (one (rec h ks), [], n)
+      go true b c d p q s t = rw p
+      go false true c d p q s t = rw (p, q)
+      go false false true d p q s t = rw (p, q, s)
+      go false false false true p q s t = rw (p, q, s, t)
+      go false false false false p q s t = absurd (let z : false ≡ true = rw (p, q, s, t) at e in let y : _≡_ {A = ℕ} 0 1 = cc in omega arith)

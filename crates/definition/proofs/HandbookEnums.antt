@@ -10,8 +10,9 @@ use Rattle.definition.specs.Tree.{Head, Rec, Recs, rec, nil, cons}
 use Rattle.definition.specs.Grammar.{mark, marks, member}
 use Rattle.definition.specs.Record.{one, Typing, onValue}
 use Rattle.definition.specs.Enums.{initKind, validBy, validEnumInitExpr, validFirst, validBoth, validAll}
-use Rattle.definition.specs.Items.{iDecl, itemKind, dModule, declKind, bBlock, bNested, bodyKind, declared, declToTypeDecl, transformModuleStmt, itemBy, bodyBy, transformModuleItems, transformModuleItem}
+use Rattle.definition.specs.Items.{iDecl, itemKind, dModule, declKind, bBlock, bNested, bodyKind, declared, declToTypeDecl, transformModuleStmt, exportDecl, itemBy, bodyBy, transformModuleItems, transformModuleItem}
 use Rattle.definition.proofs.Handbook.{and-true}
+use Rattle.definition.proofs.SilenceModule.{item-ed}
 use Rattle.definition.specs.Handbook.{
   enumKind,
   constantBy,
@@ -129,6 +130,12 @@ module _ (list : List ℕ) (ctx : ℕ) (ty : Typing) where
       ≡ onValue (λ (items : Recs). one (rec (declared top h) (cons name (cons (rec bh items) ops)))) (transformModuleItems list ctx ty ks false n)
   unfolding transformModuleItem itemBy transformModuleStmt declToTypeDecl bodyBy
   namespace-agrees h bh name ks ops top n m b = rw (item-ns (h .mark) m, decl-ns (h .mark) m, body-nb (bh .mark) b)
+
+  pub exported-namespace-agrees : (eh h bh : Head) (name : Rec) (ks ops more : Recs) (top : Bool) (n : ℕ) → eh .mark ≡ mark "Ed" → h .mark ≡ mark "Ns" → bh .mark ≡ mark "Nb" →
+      transformModuleItem list ctx ty (rec eh (cons (rec h (cons name (cons (rec bh ks) ops))) more)) top n
+      ≡ onValue (λ (items : Recs). one (rec eh (cons (rec (declared top h) (cons name (cons (rec bh items) ops))) more))) (transformModuleItems list ctx ty ks false n)
+  unfolding transformModuleItem itemBy exportDecl declToTypeDecl bodyBy
+  exported-namespace-agrees eh h bh name ks ops more top n e m b = rw (item-ed (eh .mark) e, decl-ns (h .mark) m, body-nb (bh .mark) b)
 
   -- it is what it is without dots
   pub undotted-block : (h bh : Head) (name : Rec) (ks ops : Recs) → bh .mark ≡ mark "Nb" →

@@ -3,22 +3,21 @@
 use mathlib.Core.Path.{_≡_, refl}
 use mathlib.Core.List.{List, []}
 use mathlib.Core.Bool.{Bool, true, false, not, _&&_, _||_}
-use Prim.Native.Nat.{ℕ}
+use mathlib.Core.Option.{some}
+use Prim.Native.Nat.{ℕ, _*_, _/_}
 use native.Mathlib.Omega.{arith}
 use lib.Dec.{eqb}
 use borrow.Author.Tests.{eqb-true}
 use Rattle.definition.specs.Tree.{Head, Rec, Recs, rec, nil, cons, count}
-use Rattle.definition.specs.Grammar.{mark}
-use Rattle.definition.specs.Record.{headOf, markOf, is, isNo, kid, listed, Typing, flat}
-use Rattle.definition.specs.Classes.{memberBy, member}
+use Rattle.definition.specs.Grammar.{mark, marks, member as oneOf}
+use Rattle.definition.specs.Record.{headOf, kidsOf, markOf, is, among, isNo, withFlags, has1, kid, setKid, one, gone, listed, Typing, each, flat}
+use Rattle.definition.specs.Classes.{handleFunction, constructorPart, constructor, method, propType, classProp, memberKind, memberBy, member}
+use Rattle.definition.specs.Names.{validPropName}
 use Rattle.definition.specs.Items.{
-  iDefault,
   iDecl,
   itemKind,
   dFn,
   declKind,
-  xFn,
-  defaultKind,
   declToTypeDecl,
   transformModuleStmt,
   exportDecl,
@@ -28,6 +27,7 @@ use Rattle.definition.specs.Items.{
   transformModuleItem,
 }
 use Rattle.definition.proofs.Handbook.{and-true}
+use Rattle.definition.proofs.HandbookDeclarations.{item-xd, default-fx}
 use Rattle.definition.proofs.SilenceModule.{member-co, member-me, item-ed}
 use Rattle.definition.specs.Handbook.{functionIn, bodyOf, sameName, implements, implementsMethod, implementsConstructor, implementsMember, visible, Names}
 
@@ -47,17 +47,9 @@ item-fd : (m : ℕ) → m ≡ mark "Fd" → itemKind m ≡ iDecl
 unfolding itemKind
 item-fd m e = rw e
 
-item-xd : (m : ℕ) → m ≡ mark "Xd" → itemKind m ≡ iDefault
-unfolding itemKind
-item-xd m e = rw e
-
 decl-fd : (m : ℕ) → m ≡ mark "Fd" → declKind m ≡ dFn
 unfolding declKind
 decl-fd m e = rw e
-
-default-fx : (m : ℕ) → m ≡ mark "Fx" → defaultKind m ≡ xFn
-unfolding defaultKind
-default-fx m e = rw e
 
 -- ---- items
 
@@ -151,6 +143,33 @@ module _ (list : List ℕ) (ctx : ℕ) (ty : Typing) where
       (λ m. rw (member-me (markOf r) (method-is before r m), l))
       (λ m. rw (member-co (markOf r) (constructor-is before r m), l))
       e
+
+  -- a member that is not listed stays one of its mark: a constructor, an index signature, and a method or a property whose key is valid
+  pub member-declared : (r : Rec) (n : ℕ) → among "Co Me Cp Ix" (markOf r) ≡ true →
+      (among "Me Cp" (markOf r) ≡ true → (key : Rec) × (validPropName ctx (kid 0 (kidsOf r)) ≡ some key)) → listed list (headOf r) ≡ false →
+      (q : Rec) × (member list ctx ty r n .0 ≡ one q) × (markOf q ≡ markOf r)
+  unfolding memberBy memberKind constructor method classProp marks oneOf
+  member-declared (rec h ks) n k v l =
+      go (eqb (h .mark) (mark "Co")) (eqb (h .mark) (mark "Me")) (eqb (h .mark) (mark "Cp")) (eqb (h .mark) (mark "Ix")) refl refl refl refl
+    where
+      Stays : Type 0
+      Stays = (q : Rec) × (member list ctx ty (rec h ks) n .0 ≡ one q) × (markOf q ≡ h .mark)
+
+      method-stays : (key : Rec) → validPropName ctx (kid 0 ks) ≡ some key → eqb (h .mark) (mark "Co") ≡ false → eqb (h .mark) (mark "Me") ≡ true → Stays
+      method-stays key w p q = (rec h (setKid 0 key (setKid 1 (handleFunction ty (has1 h) (kid 1 ks) n .0) ks)), rw (p, q, l, w), refl)
+
+      property-stays : (key : Rec) → validPropName ctx (kid 0 ks) ≡ some key → eqb (h .mark) (mark "Co") ≡ false → eqb (h .mark) (mark "Me") ≡ false →
+          eqb (h .mark) (mark "Cp") ≡ true → Stays
+      property-stays key w p q s =
+          let ps : Recs = setKid 2 (gone (kid 2 ks)) (setKid 1 (propType ty (kid 2 ks) (kid 1 ks) n .0) ks) in
+          (rec (withFlags h (h .flags / 4 * 4)) (setKid 0 key ps), rw (p, q, s, w), refl)
+
+      go : (a b c d : Bool) → eqb (h .mark) (mark "Co") ≡ a → eqb (h .mark) (mark "Me") ≡ b → eqb (h .mark) (mark "Cp") ≡ c → eqb (h .mark) (mark "Ix") ≡ d → Stays
+      go true b c d p q s t = (rec h (each (constructorPart ty) 0 ks n .0), rw (p, l), refl)
+      go false true c d p q s t = let key = v (rw q) in method-stays (key .0) (key .1) p q
+      go false false true d p q s t = let key = v (rw (q, s)) in property-stays (key .0) (key .1) p q s
+      go false false false true p q s t = (rec h ks, rw (p, q, s, eqb-true (h .mark) (mark "Ix") t), refl)
+      go false false false false p q s t = absurd (let z : false ≡ true = rw (p, q, s, t) at k in let y : _≡_ {A = ℕ} 0 1 = cc in omega arith)
 
   pub member-overloads-agree : (before : Rec) (ms : Recs) (n : ℕ) → Names implementsMember list before ms →
       flat (member list ctx ty) ms n ≡ flat (member list ctx ty) (visible implementsMember before ms) n

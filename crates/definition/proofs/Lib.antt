@@ -13,7 +13,11 @@ pub mod Handbook
 pub mod HandbookDeclarations
 pub mod HandbookOverloads
 pub mod HandbookEnums
+pub mod SmallTrees
 pub mod Differences
+pub mod ObjectSpread
+pub mod IsolatedDeclarations
+pub mod SlowTypes
 pub mod Samples
 pub mod CheckSamples
 pub mod Stable
