@@ -1,4 +1,4 @@
--- The arms of `expr_to_ts_type` that type something below, with the wish for `readonly_of` carried down. Assumes nothing.
+-- The arms of `expr_to_ts_type` that type something below, and how their types are written where `readonly_of` them is wanted. Assumes nothing.
 use mathlib.Core.Path.{_≡_, refl, sym, ap, _∙_, subst}
 use mathlib.Core.List.{List, [], _∷_, _++_}
 use mathlib.Core.Bool.{Bool, true, false, cond, _&&_, _||_}
@@ -13,11 +13,11 @@ use Rattle.definition.specs.Record.{headOf, kidsOf, markOf, isNo, ranged, kid, 
 use Rattle.definition.specs.Helpers.{tsReadonly, objectFreezeCallArg}
 use Rattle.definition.specs.Prescan.{PrescannedModuleIds}
 use Rattle.definition.specs.Typing.{
-  readonlyOf,
   readonlyOfBy,
   frozenKind,
   tupleOf,
   fnType,
+  frozen,
   Expr,
   xArray,
   xObject,
@@ -45,11 +45,12 @@ use Rattle.definition.specs.Typing.{
 use Rattle.definition.proofs.Kids.{Child, mark-is, not-mark, member-not, kid-is}
 use Rattle.definition.proofs.Children.{child}
 use Rattle.typing.specs.declared.Mode.{Mode}
-use Rattle.typing.specs.Did.{Ready, idsOf, frozenIf, typeOf}
-use Rattle.typing.specs.Parts.{membersIf, asType}
+use Rattle.typing.specs.Did.{Ready, idsOf, readonlyIf, typeOf}
+use Rattle.typing.specs.Parts.{membersIf, asType, hasReadonly}
 use Rattle.typing.specs.Below.{tupleType, paramOf, paramsBy, behind, paramsFrom, functionOf}
-use Rattle.typing.proofs.Frozen.{frozen-again, frozen-tuple, frozen-lit, frozen-same, plain-props}
-use Rattle.typing.proofs.Steps.{wrapped}
+use Rattle.typing.proofs.Frozen.{frozen-again, frozen-from, frozen-tuple, frozen-lit, frozen-same, plain-props}
+use Rattle.typing.proofs.Steps.{wrapped, keptIf}
+use Rattle.typing.proofs.HasReadonly.{has-readonly}
 use Rattle.typing.proofs.Loops.{child-after}
 use Rattle.typing.proofs.ByPlace.{kids-count, first-is, second-is, fn-second-is}
 
@@ -90,7 +91,7 @@ unfolding functionType
 function-eta ids ctx (rec h ks) n = refl
 
 -- functions stay as they are
-frozen-fn : (b : Bool) (h : Head) (ks : Recs) (o : Out Recs) → frozenIf b (onValue (λ (ps : Recs). some (fnType h ks ps)) o) ≡ onValue (λ (ps : Recs). some (fnType h ks ps)) o
+frozen-fn : (b : Bool) (h : Head) (ks : Recs) (o : Out Recs) → readonlyIf b (onValue (λ (ps : Recs). some (fnType h ks ps)) o) ≡ onValue (λ (ps : Recs). some (fnType h ks ps)) o
 unfolding readonlyOfBy frozenKind
 frozen-fn b h ks o = frozen-same b (fnType h ks (o .0)) refl (o .1) (o .2)
 
@@ -111,10 +112,10 @@ module _ (tree : List ℕ) (m : Mode) (left at n : ℕ) where
   ids = idsOf tree
 
   type-by : (k : Expr) → exprKind (markAt tree at) ≡ k
-      → typeOf tree m left at n ≡ frozenIf (m .frozen) (exprBy ids (m .scope .unresolved) k (headOf t) (kidsOf t) (m .as_const) (m .as_readonly) (belowOf ids (m .scope .unresolved) (kidsOf t)) n)
+      → typeOf tree m left at n ≡ readonlyIf (m .frozen) (exprBy ids (m .scope .unresolved) k (headOf t) (kidsOf t) (m .as_const) (m .as_readonly) (belowOf ids (m .scope .unresolved) (kidsOf t)) n)
   unfolding typeOf
   type-by k e =
-      ap (frozenIf (m .frozen)) (expr-eta ids (m .scope .unresolved) t (m .as_const) (m .as_readonly) n
+      ap (readonlyIf (m .frozen)) (expr-eta ids (m .scope .unresolved) t (m .as_const) (m .as_readonly) n
       ∙ ap (λ (x : Expr). exprBy ids (m .scope .unresolved) x (headOf t) (kidsOf t) (m .as_const) (m .as_readonly) (belowOf ids (m .scope .unresolved) (kidsOf t)) n) (ap exprKind (mark-is left tree at) ∙ e))
 
   -- ---- `Expr::Array`
@@ -150,22 +151,22 @@ module _ (tree : List ℕ) (m : Mode) (left at n : ℕ) where
   unfolding exprKind exprBy marks member typeOf
   type-const {p} a e k =
       let one : 0 < count (kidsOf t) = (let l = k .there in omega (arith, kids-count left tree at a)) in
-      sym (type-by xConst (rw e) ∙ ap (frozenIf (m .frozen)) (first-is ids (m .scope .unresolved) (kidsOf t) true true n one ∙ ap (λ (x : Rec). exprToTsType ids (m .scope .unresolved) x true true n) (k .tree)))
+      sym (type-by xConst (rw e) ∙ ap (readonlyIf (m .frozen)) (first-is ids (m .scope .unresolved) (kidsOf t) true true n one ∙ ap (λ (x : Rec). exprToTsType ids (m .scope .unresolved) x true true n) (k .tree)))
 
   pub type-satisfies : {p : ℕ} → AcceptedAt left tree at → markAt tree at ≡ mark "Ts" → Child left tree at 0 p expression → typeOf tree m (left - 1) p n ≡ typeOf tree m left at n
   unfolding exprKind exprBy marks member typeOf
   type-satisfies {p} a e k =
       let one : 0 < count (kidsOf t) = (let l = k .there in omega (arith, kids-count left tree at a)) in
       sym (type-by xSatisfies (rw e)
-      ∙ ap (frozenIf (m .frozen)) (first-is ids (m .scope .unresolved) (kidsOf t) (m .as_const) (m .as_readonly) n one ∙ ap (λ (x : Rec). exprToTsType ids (m .scope .unresolved) x (m .as_const) (m .as_readonly) n) (k .tree)))
+      ∙ ap (readonlyIf (m .frozen)) (first-is ids (m .scope .unresolved) (kidsOf t) (m .as_const) (m .as_readonly) n one ∙ ap (λ (x : Rec). exprToTsType ids (m .scope .unresolved) x (m .as_const) (m .as_readonly) n) (k .tree)))
 
   -- ---- `Expr::TsAs`
 
-  as-by : (b : Bool) (x : Rec) → isNo x ≡ false → frozenIf b (present x, [], n) ≡ (asType b x, [], n)
+  as-by : (b : Bool) (x : Rec) → isNo x ≡ false → readonlyIf b (present x, [], n) ≡ (some (asType b x), [], n)
   as-by false x e = rw e
   as-by true x e = rw e
 
-  pub type-as : {p : ℕ} → markAt tree at ≡ mark "As" → Child left tree at 1 p type → typeOf tree m left at n ≡ (asType (m .frozen) (kid 1 (kidsOf t)), [], n)
+  pub type-as : {p : ℕ} → markAt tree at ≡ mark "As" → Child left tree at 1 p type → typeOf tree m left at n ≡ (some (asType (m .frozen) (kid 1 (kidsOf t))), [], n)
   unfolding exprKind exprBy marks member
   type-as {p} e k =
       type-by xAs (rw e)
@@ -179,7 +180,7 @@ module _ (tree : List ℕ) (m : Mode) (left at n : ℕ) where
       let two : 1 < count (kidsOf t) = (let l = k .there in omega (arith, kids-count left tree at a)) in
       let f : Rec = treeAt (left - 1) tree p in
       sym (type-by xFn (rw e)
-      ∙ (ap (frozenIf (m .frozen)) (fn-second-is ids (m .scope .unresolved) (kidsOf t) n two ∙ (ap (λ (x : Rec). functionType ids (m .scope .unresolved) x n) (k .tree) ∙ function-eta ids (m .scope .unresolved) f n))
+      ∙ (ap (readonlyIf (m .frozen)) (fn-second-is ids (m .scope .unresolved) (kidsOf t) n two ∙ (ap (λ (x : Rec). functionType ids (m .scope .unresolved) x n) (k .tree) ∙ function-eta ids (m .scope .unresolved) f n))
       ∙ (frozen-fn (m .frozen) (headOf f) (kidsOf f) (fnParams ids (m .scope .unresolved) (kidsOf f) 3 n)
       ∙ ap (onValue (λ (ps : Recs). some (fnType (headOf f) (kidsOf f) ps))) (fn-params ids (m .scope .unresolved) (kidsOf f) 3 n))))
 
@@ -192,25 +193,30 @@ module _ (tree : List ℕ) (m : Mode) (left at n : ℕ) where
 
   -- ---- `Expr::Call`
 
-  call-none : (b : Bool) → frozenIf b (none, [], n) ≡ (none, [], n)
+  abbrev frozenOf : Out (Option Rec) → Out (Option Rec)
+  frozenOf o = frozen ids (m .scope .unresolved) o
+
+  call-none : (b : Bool) → readonlyIf b (none, [], n) ≡ (none, [], n)
   call-none true = refl
   call-none false = refl
 
-  pub type-call : {p : ℕ} → AcceptedAt left tree at → markAt tree at ≡ mark "Ca" → objectFreezeCallArg (m .scope .unresolved) (kidsOf t) ≡ true → 1 < countAt tree at → p ≡ childAt left tree at 1
-      → typeOf tree (record { scope = m .scope; as_const = m .as_const; as_readonly = m .as_readonly; frozen = true }) (left - 1) p n ≡ typeOf tree m left at n
-  unfolding exprKind exprBy marks member typeOf
+  type-call : {p : ℕ} → AcceptedAt left tree at → markAt tree at ≡ mark "Ca" → objectFreezeCallArg (m .scope .unresolved) (kidsOf t) ≡ true → 1 < countAt tree at → p ≡ childAt left tree at 1
+      → keptIf (hasReadonly (treeAt (left - 1) tree p)) (typeOf tree (record { scope = m .scope; as_const = m .as_const; as_readonly = m .as_readonly; frozen = true }) (left - 1) p n) ≡ typeOf tree m left at n
+  unfolding exprKind exprBy marks member typeOf keptIf
   type-call {p} a e f l q =
       let two : 1 < count (kidsOf t) = omega (arith, kids-count left tree at a) in
-      let o : Out (Option Rec) = exprToTsType ids (m .scope .unresolved) (treeAt (left - 1) tree p) (m .as_const) (m .as_readonly) n in
-      sym (type-by xCall (rw e)
-      ∙ (ap (λ (x : Bool). frozenIf (m .frozen) (ifM x (λ n. frozenIf true (typeSecond ids (m .scope .unresolved) (kidsOf t) (m .as_const) (m .as_readonly) n)) (pure none) n)) f
-      ∙ (ap (λ (x : Out (Option Rec)). frozenIf (m .frozen) (frozenIf true x)) (second-is ids (m .scope .unresolved) (kidsOf t) (m .as_const) (m .as_readonly) n two
+      let arg : Rec = treeAt (left - 1) tree p in
+      let o : Out (Option Rec) = exprToTsType ids (m .scope .unresolved) arg (m .as_const) (m .as_readonly) n in
+      frozen-from (hasReadonly arg) o (has-readonly ids (m .scope .unresolved) arg (m .as_const) (m .as_readonly) n)
+      ∙ sym (type-by xCall (rw e)
+      ∙ (ap (λ (x : Bool). readonlyIf (m .frozen) (ifM x (λ n. frozenOf (typeSecond ids (m .scope .unresolved) (kidsOf t) (m .as_const) (m .as_readonly) n)) (pure none) n)) f
+      ∙ (ap (λ (x : Out (Option Rec)). readonlyIf (m .frozen) (frozenOf x)) (second-is ids (m .scope .unresolved) (kidsOf t) (m .as_const) (m .as_readonly) n two
       ∙ ap (λ (x : Rec). exprToTsType ids (m .scope .unresolved) x (m .as_const) (m .as_readonly) n) (kid-is left tree at a 1 l ∙ ap (treeAt (left - 1) tree) (sym q)))
       ∙ frozen-again (m .frozen) o)))
 
   pub type-other-call : markAt tree at ≡ mark "Ca" → objectFreezeCallArg (m .scope .unresolved) (kidsOf t) ≡ false → typeOf tree m left at n ≡ (none, [], n)
   unfolding exprKind exprBy marks member
-  type-other-call e f = type-by xCall (rw e) ∙ (ap (λ (x : Bool). frozenIf (m .frozen) (ifM x (λ n. frozenIf true (typeSecond ids (m .scope .unresolved) (kidsOf t) (m .as_const) (m .as_readonly) n)) (pure none) n)) f ∙ call-none (m .frozen))
+  type-other-call e f = type-by xCall (rw e) ∙ (ap (λ (x : Bool). readonlyIf (m .frozen) (ifM x (λ n. frozenOf (typeSecond ids (m .scope .unresolved) (kidsOf t) (m .as_const) (m .as_readonly) n)) (pure none) n)) f ∙ call-none (m .frozen))
 
   -- the argument of `Object.freeze`, as the helper finds it
   freeze-two : (ks : Recs) (ctx : ℕ) → objectFreezeCallArg ctx ks ≡ true → 1 < count ks
@@ -222,8 +228,9 @@ module _ (tree : List ℕ) (m : Mode) (left at n : ℕ) where
   freeze-there : AcceptedAt left tree at → objectFreezeCallArg (m .scope .unresolved) (kidsOf t) ≡ true → 1 < countAt tree at
   freeze-there a f = omega (arith, freeze-two (kidsOf t) (m .scope .unresolved) f, kids-count left tree at a)
 
+  -- the wish says how the argument's type is written, and whether it is the call's type is asked behind that
   pub freeze-is : {p : ℕ} → AcceptedAt left tree at → markAt tree at ≡ mark "Ca" → (objectFreezeCallArg (m .scope .unresolved) (kidsOf t) ≡ true) × (p ≡ childAt left tree at 1)
-      → typeOf tree (record { scope = m .scope; as_const = m .as_const; as_readonly = m .as_readonly; frozen = true }) (left - 1) p n ≡ typeOf tree m left at n
+      → keptIf (hasReadonly (treeAt (left - 1) tree p)) (typeOf tree (record { scope = m .scope; as_const = m .as_const; as_readonly = m .as_readonly; frozen = true }) (left - 1) p n) ≡ typeOf tree m left at n
   freeze-is a e f = type-call a e (f .0) (freeze-there a (f .0)) (f .1)
 
   pub freeze-ready : {p k : ℕ} → Ready left tree at k (m .scope) → markAt tree at ≡ mark "Ca" → (objectFreezeCallArg (m .scope .unresolved) (kidsOf t) ≡ true) × (p ≡ childAt left tree at 1) → Ready (left - 1) tree p k (m .scope)

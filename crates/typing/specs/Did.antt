@@ -10,7 +10,7 @@ use Rattle.definition.specs.Children.{AcceptedAt}
 use Rattle.definition.specs.Record.{kidsOf, one, given, Diag, diagBytes, diagsBytes, Out, onValue}
 use Rattle.definition.specs.Helpers.{anyTypeAnn}
 use Rattle.definition.specs.Prescan.{PrescannedModuleIds, prescanModuleIds}
-use Rattle.definition.specs.Typing.{readonlyOf, exprToTsType}
+use Rattle.definition.specs.Typing.{exprToTsType}
 use Rattle.definition.specs.Transform.{textsFit}
 use Rattle.prescan.specs.declared.Scope.{Scope}
 use Rattle.prescan.specs.Scope.{Skips}
@@ -21,6 +21,7 @@ use Rattle.typing.specs.declared.State.{State}
 use Rattle.typing.specs.declared.Mode.{Mode}
 use Rattle.typing.specs.declared.Typed.{Typed}
 use Rattle.typing.specs.declared.Typed.the-variants.{Some, None}
+use Rattle.typing.specs.Parts.{readonlyOrSame}
 
 -- ---- what is asked
 
@@ -36,10 +37,10 @@ pub record Ready (left : ℕ) (tree : List ℕ) (at n : ℕ) (scope : Scope) : T
 unfoldable pub idsOf : List ℕ → PrescannedModuleIds
 idsOf tree = prescanModuleIds (kidsOf (treeAt deepest tree 0))
 
--- `readonly_of` a type, where it is wanted
-abbrev pub frozenIf : Bool → Out (Option Rec) → Out (Option Rec)
-frozenIf false o = o
-frozenIf true o = onValue (λ (t : Option Rec). given t none readonlyOf) o
+-- how a type is written: as `readonly_of` it, where that is wanted and has an answer
+abbrev pub readonlyIf : Bool → Out (Option Rec) → Out (Option Rec)
+readonlyIf false o = o
+readonlyIf true o = onValue (λ (t : Option Rec). given t none (λ t. some (readonlyOrSame t))) o
 
 -- as_const and as_readonly off
 abbrev pub mutableMode : Scope → Mode
@@ -47,7 +48,7 @@ mutableMode scope = record { scope = scope; as_const = false; as_readonly = fals
 
 -- the type of the expression at `at`
 unfoldable pub typeOf : List ℕ → Mode → ℕ → ℕ → ℕ → Out (Option Rec)
-typeOf tree m left at n = frozenIf (m .frozen) (exprToTsType (idsOf tree) (m .scope .unresolved) (treeAt left tree at) (m .as_const) (m .as_readonly) n)
+typeOf tree m left at n = readonlyIf (m .frozen) (exprToTsType (idsOf tree) (m .scope .unresolved) (treeAt left tree at) (m .as_const) (m .as_readonly) n)
 
 -- ---- what was done
 

@@ -2,7 +2,7 @@
 ghost use mathlib.Core.Path.{_≡_};
 ghost use mathlib.Core.Option.{none, some};
 ghost use mathlib.Core.Bool.{cond};
-ghost use Rattle.definition.specs.Tree.{markAt, textAt, treeAt};
+ghost use Rattle.definition.specs.Tree.{encode, markAt, textAt, treeAt};
 ghost use Rattle.definition.specs.Grammar.{mark};
 ghost use Rattle.definition.specs.Check.{deepest};
 ghost use Rattle.definition.specs.Children.{AcceptedAt};
@@ -10,13 +10,14 @@ ghost use Rattle.definition.specs.Record.{kidsOf, symbolOf, kid};
 ghost use Rattle.definition.specs.Helpers.{tsKeywordType, tsTypeQuery};
 ghost use Rattle.definition.specs.Typing.{identToTsType};
 ghost use Rattle.prescan.specs.Scope.{Skips};
+ghost use Rattle.records.specs.Wrote.{Put};
 ghost use Rattle.swc_helpers.specs.Found.{isConst, PutMaybe};
 ghost use Rattle.swc_helpers.specs.Made.{keyword};
 ghost use Rattle.typing.specs.Did.{idsOf};
 ghost use Rattle.typing.specs.Parts.{numberName, nameType, classType, asType};
 ghost use Rattle.typing.specs.Leaf.{leafType};
 use crate::Mode;
-use crate::readonly::readonly_of;
+use crate::readonly::readonly_or_same;
 use prescan::Question;
 use prescan::Scope;
 use records::marks::BI;
@@ -146,24 +147,17 @@ fn new_type(
     MaybeType::Untyped
 }
 
-// `Expr::TsAs`: its type, copied, or `readonly_of` it.
-pub fn as_type(
-    tree: &[u8],
-    at: usize,
-    left: usize,
-    frozen: bool,
-    out: &mut [u8],
-    p: usize,
-) -> MaybeType
+// `Expr::TsAs`: its type, copied, or written as `readonly_of` it.
+pub fn as_type(tree: &[u8], at: usize, left: usize, frozen: bool, out: &mut [u8], p: usize) -> usize
     requires { ⌜ AcceptedAt left (now tree) at × (markAt (now tree) at ≡ mark "As") ⌝ }
-    ensures { λ r. ⌜ PutMaybe (now (out .entry)) (now (out .exit)) p (asType frozen (kid 1 (kidsOf (treeAt left (now (tree .entry)) at)))) r ⌝ }
+    ensures { λ r. ⌜ Put (now (out .entry)) (now (out .exit)) p (encode (asType frozen (kid 1 (kidsOf (treeAt left (now (tree .entry)) at))))) r ⌝ }
 {
     let expr = records::body_at(tree, at);
     let type_ann = records::record_end(tree, expr, left - 1);
     if frozen {
-        return readonly_of(tree, type_ann, left - 1, out, p);
+        return readonly_or_same(tree, type_ann, left - 1, out, p);
     }
-    MaybeType::Typed(records::put_record(tree, type_ann, left - 1, out, p))
+    records::put_record(tree, type_ann, left - 1, out, p)
 }
 
 // An array-typed Id that is spread: `Expr::Ident(ident) if self.array_typed_ids.contains(&ident.to_id())`.
@@ -190,7 +184,7 @@ pub fn array_ident(
 }
 
 // The arms of `expr_to_ts_type` that type nothing below them: `Expr::Lit`, `Expr::Tpl`, `Expr::Ident`, `Expr::Unary`, `Expr::New`, and those that
-// give `None`. `readonly_of` knows none of their types.
+// give `None`. `readonly_of` knows none of their types, so they are written as they are.
 pub fn leaf_type(
     tree: &[u8],
     at: usize,
@@ -204,9 +198,6 @@ pub fn leaf_type(
     requires { ⌜ Skips (now tree) (mode .scope) ⌝ }
     ensures { λ r. ⌜ PutMaybe (now (out .entry)) (now (out .exit)) p (leafType (now (tree .entry)) mode left at) r ⌝ }
 {
-    if mode.frozen {
-        return MaybeType::Untyped;
-    }
     let kind = decl_kind(mode.as_const);
     match records::mark_at(tree, at) {
         SS | BL | NL | NU | BI | RE | JT => swc_helpers::maybe_lit_to_ts_type(

@@ -21,6 +21,7 @@ use crate::params::put_fn_front;
 use crate::params::put_named;
 use crate::params::put_unnamed;
 use crate::params::unique_binding_size;
+use crate::readonly::has_readonly;
 use prescan::Scope;
 use records::HEAD_SIZE;
 use records::marks::AG;
@@ -74,7 +75,8 @@ pub enum Typed {
     None(State),
 }
 
-// How an expression is typed: in which scope, `as_const` and `as_readonly` of the Rust, and whether `readonly_of` the type is wanted.
+// How an expression is typed: in which scope, `as_const` and `as_readonly` of the Rust, and whether its type is written as `readonly_of` it, where
+// that has an answer.
 pub struct Mode {
     pub scope: Scope,
     pub as_const: bool,
@@ -264,7 +266,11 @@ pub fn expr_to_ts_type(
             let expr = records::body_at(tree, at);
             expr_to_ts_type(tree, expr, left - 1, mode, out, diagnostics, s)
         }
-        AS => answer_of(s, as_type(tree, at, left, mode.frozen, out, s.p)),
+        AS => {
+            let mut next = s;
+            next.p = as_type(tree, at, left, mode.frozen, out, s.p);
+            Typed::Some(next)
+        }
         FX => {
             let fu = child_at(tree, at, left, 1);
             function_type(tree, fu, left - 1, mode.scope, true, out, diagnostics, s)
@@ -518,7 +524,8 @@ fn key_value(
     Counted { s: made, count: 1 }
 }
 
-// `Expr::Call`: of `Object.freeze`, `readonly_of` the type of its argument.
+// `Expr::Call`, of `Object.freeze`: "An argument that cannot be typed ends the call's typing at once; else `readonly_of`". The argument's type is
+// written as `readonly_of` it, and is given up where that has no answer.
 fn call_type(
     tree: &[u8],
     at: usize,
@@ -544,6 +551,9 @@ fn call_type(
     let Typed::Some(next) = inner_type else {
         return inner_type;
     };
+    if !has_readonly(tree, arg, left - 1) {
+        return Typed::None(back(s, next));
+    }
     Typed::Some(next)
 }
 

@@ -8,7 +8,7 @@ use Rattle.definition.proofs.Children.{itself, some-left}
 use Rattle.definition.proofs.Kids.{placed, member-one}
 use Rattle.typing.proofs.Slots.{tc-expr, ts-expr, fx-ident, fx-function, as-type as as-type-of}
 use Rattle.typing.proofs.Ready.{ready-first, ready-second, second-at}
-use Rattle.typing.proofs.Steps.{did-as}
+use Rattle.typing.proofs.Steps.{did-as, did-put}
 use Rattle.typing.proofs.Fits.{tree-fits}
 use Rattle.typing.proofs.LeafFits.{kids-fit, kid-fits, as-fits, leaf-fits}
 use Rattle.typing.proofs.Maybe.{did-maybe}
@@ -29,7 +29,7 @@ use Rattle.typing.proofs.+array_type+call_type+element_type+expr_to_ts_
 use Rattle.typing.proofs.+array_type+call_type+element_type+expr_to_ts_type+function_type+key_value+named_param+object_type+param_type+pat_to_ts_fn_param+property_type+rest_type+spread_type+tuple_type+unnamed_param.Proof.Base.{expr-to-ts-type-at, array-type-below, call-type-below, expr-to-ts-type-below, function-type-below, object-type-below}
 
 abbrev pub calls : ℕ → expr-to-ts-type-lts.Claims
-calls t = (mark-at-reads.Asked, mark-at-reads.Learnt, array-type-below t, array-type.Post, object-type-below t, object-type.Post, body-at-reads.Asked, body-at-reads.Learnt, expr-to-ts-type-below t, expr-to-ts-type.Post, as-type-reads.Asked, as-type-reads.Learnt, answer-of-reads.Asked, answer-of-reads.Learnt, child-at-reads.Asked, child-at-reads.Learnt, function-type-below t, function-type.Post, call-type-below t, call-type.Post, leaf-type-reads.Asked, leaf-type-reads.Learnt)
+calls t = (mark-at-reads.Asked, mark-at-reads.Learnt, array-type-below t, array-type.Post, object-type-below t, object-type.Post, body-at-reads.Asked, body-at-reads.Learnt, expr-to-ts-type-below t, expr-to-ts-type.Post, as-type-reads.Asked, as-type-reads.Learnt, child-at-reads.Asked, child-at-reads.Learnt, function-type-below t, function-type.Post, call-type-below t, call-type.Post, leaf-type-reads.Asked, leaf-type-reads.Learnt, answer-of-reads.Asked, answer-of-reads.Learnt)
 
 pub mark-at-requires : (t : ℕ) → expr-to-ts-type-lts.Need-mark-at-requires (calls t) (expr-to-ts-type-at t) expr-to-ts-type.Post
 mark-at-requires t c κs = itself _ _ _ (c .before .before .before .pre .1 .accepted) .room
@@ -61,9 +61,6 @@ expr-to-ts-type-requires-2 t c κs = (omega (arith, c .before .before .before .b
 pub as-type-requires : (t : ℕ) → expr-to-ts-type-lts.Need-as-type-requires (calls t) (expr-to-ts-type-at t) expr-to-ts-type.Post
 as-type-requires t c κs = ((c .before .before .before .before .before .before .pre .1 .accepted), (sym (c .before .before .mark-at .ensures .0) ∙ c .before .match .keys5))
 
-pub answer-of-requires : (t : ℕ) → expr-to-ts-type-lts.Need-answer-of-requires (calls t) (expr-to-ts-type-at t) expr-to-ts-type.Post
-answer-of-requires t c κs = search needs
-
 pub child-at-requires : (t : ℕ) → expr-to-ts-type-lts.Need-child-at-requires (calls t) (expr-to-ts-type-at t) expr-to-ts-type.Post
 child-at-requires t c κs = ((c .before .before .before .before .before .pre .1 .accepted), omega (arith, fx-function _ _ _ (c .before .before .before .before .before .pre .1 .accepted) (sym (c .before .mark-at .ensures .0) ∙ c .match .keys6) .there))
 
@@ -83,8 +80,8 @@ call-type-requires t c κs = (omega (arith, c .before .before .before .before .b
 pub leaf-type-requires : (t : ℕ) → expr-to-ts-type-lts.Need-leaf-type-requires (calls t) (expr-to-ts-type-at t) expr-to-ts-type.Post
 leaf-type-requires t c κs = (c .before .before .before .before .before .before .pre .1 .accepted, (c .before .before .before .before .before .before .pre .1 .root, c .before .before .before .before .before .before .pre .1 .skips))
 
-pub answer-of-requires-2 : (t : ℕ) → expr-to-ts-type-lts.Need-answer-of-requires-2 (calls t) (expr-to-ts-type-at t) expr-to-ts-type.Post
-answer-of-requires-2 t c κs = search needs
+pub answer-of-requires : (t : ℕ) → expr-to-ts-type-lts.Need-answer-of-requires (calls t) (expr-to-ts-type-at t) expr-to-ts-type.Post
+answer-of-requires t c κs = search needs
 
 pub returns : (t : ℕ) → expr-to-ts-type-lts.Need-returns (calls t) (expr-to-ts-type-at t) expr-to-ts-type.Post
 returns t c = c .before .before .before .before .array-type .ensures
@@ -123,7 +120,7 @@ pub same-length-8 : (t : ℕ) → expr-to-ts-type-lts.Need-same-length-8 (calls 
 same-length-8 t c = returns-4 t c .step .ran .dia .same
 
 pub returns-5 : (t : ℕ) → expr-to-ts-type-lts.Need-returns-5 (calls t) (expr-to-ts-type-at t) expr-to-ts-type.Post
-returns-5 t c = let k = as-type-of _ _ _ (c .before .before .before .before .before .before .before .before .before .before .pre .1 .accepted) (sym (c .before .before .before .before .before .before .mark-at .ensures .0) ∙ c .before .before .before .before .before .match .keys5) in did-as (did-maybe _ (c .before .before .before .before .before .before .before .before .before .before .args .s) _ (omega (arith, c .before .before .before .before .before .before .before .before .before .before .good)) (omega (arith, c .before .before .before .before .before .before .before .before .before .before .good)) (as-fits (c .before .before .before .before .before .before .before .before .before .before .args .mode .frozen) _ (kid-fits 1 _ (kids-fit _ (tree-fits _ _ _ (c .before .before .before .before .before .before .before .before .before .before .pre .1 .accepted) (c .before .before .before .before .before .before .before .before .before .shared-slice-known .given))))) (c .before .before .before .as-type .ensures) (c .answer-of .ensures)) (sym (type-as (c .before .before .before .before .before .before .before .before .before .before .args .tree .now) (c .before .before .before .before .before .before .before .before .before .before .args .mode) (c .before .before .before .before .before .before .before .before .before .before .args .left) (c .before .before .before .before .before .before .before .before .before .before .args .at) (c .before .before .before .before .before .before .before .before .before .before .args .s .n) (sym (c .before .before .before .before .before .before .mark-at .ensures .0) ∙ c .before .before .before .before .before .match .keys5) k))
+returns-5 t c = let k = as-type-of _ _ _ (c .before .before .before .before .before .before .before .before .before .pre .1 .accepted) (sym (c .before .before .before .before .before .mark-at .ensures .0) ∙ (c .before .before .before .before .match .keys5)) in did-as (did-put _ (c .before .before .before .before .before .before .before .before .before .args .s) (omega (arith, c .before .before .before .before .before .before .before .before .before .good)) (as-fits (c .before .before .before .before .before .before .before .before .before .args .mode .frozen) _ (kid-fits 1 _ (kids-fit _ (tree-fits _ _ _ (c .before .before .before .before .before .before .before .before .before .pre .1 .accepted) (c .before .before .before .before .before .before .before .before .shared-slice-known .given))))) (c .before .before .as-type .ensures)) (sym (type-as (c .before .before .before .before .before .before .before .before .before .args .tree .now) (c .before .before .before .before .before .before .before .before .before .args .mode) (c .before .before .before .before .before .before .before .before .before .args .left) (c .before .before .before .before .before .before .before .before .before .args .at) (c .before .before .before .before .before .before .before .before .before .args .s .n) (sym (c .before .before .before .before .before .mark-at .ensures .0) ∙ (c .before .before .before .before .match .keys5)) k))
 
 pub same-length-9 : (t : ℕ) → expr-to-ts-type-lts.Need-same-length-9 (calls t) (expr-to-ts-type-at t) expr-to-ts-type.Post
 same-length-9 t c = returns-5 t c .step .ran .out .same
@@ -156,7 +153,7 @@ pub same-length-15 : (t : ℕ) → expr-to-ts-type-lts.Need-same-length-15 (call
 same-length-15 t c = returns-8 t c .step .ran .dia .same
 
 pub returns-9 : (t : ℕ) → expr-to-ts-type-lts.Need-returns-9 (calls t) (expr-to-ts-type-at t) expr-to-ts-type.Post
-returns-9 t c = did-as (did-maybe _ (c .before .before .before .before .before .before .before .before .before .before .args .s) _ (omega (arith, c .before .before .before .before .before .before .before .before .before .before .good)) (omega (arith, c .before .before .before .before .before .before .before .before .before .before .good)) (leaf-fits (c .before .before .before .before .before .before .before .before .before .before .args .tree .now) (c .before .before .before .before .before .before .before .before .before .before .args .mode) (c .before .before .before .before .before .before .before .before .before .before .args .left) (c .before .before .before .before .before .before .before .before .before .before .args .at) (tree-fits _ _ _ (c .before .before .before .before .before .before .before .before .before .before .pre .1 .accepted) (c .before .before .before .before .before .before .before .before .before .shared-slice-known .given))) (c .before .before .before .leaf-type .ensures) (c .answer-of2 .ensures)) (sym (leaf-is (c .before .before .before .before .before .before .before .before .before .before .args .tree .now) (c .before .before .before .before .before .before .before .before .before .before .args .mode) (c .before .before .before .before .before .before .before .before .before .before .args .left) (c .before .before .before .before .before .before .before .before .before .before .args .at) (c .before .before .before .before .before .before .before .before .before .before .args .s .n) (λ e. c .before .before .before .before .before .match .rest .0 .0 .0 .0 .0 .0 .0 .1 (c .before .before .before .before .before .before .mark-at .ensures .0 ∙ e)) (λ e. c .before .before .before .before .before .match .rest .0 .0 .0 .0 .0 .0 .1 (c .before .before .before .before .before .before .mark-at .ensures .0 ∙ e)) (λ e. c .before .before .before .before .before .match .rest .0 .0 .0 .0 .0 .1 (c .before .before .before .before .before .before .mark-at .ensures .0 ∙ e)) (λ e. c .before .before .before .before .before .match .rest .0 .0 .0 .0 .1 (c .before .before .before .before .before .before .mark-at .ensures .0 ∙ e)) (λ e. c .before .before .before .before .before .match .rest .0 .0 .0 .1 (c .before .before .before .before .before .before .mark-at .ensures .0 ∙ e)) (λ e. c .before .before .before .before .before .match .rest .0 .0 .1 (c .before .before .before .before .before .before .mark-at .ensures .0 ∙ e)) (λ e. c .before .before .before .before .before .match .rest .0 .1 (c .before .before .before .before .before .before .mark-at .ensures .0 ∙ e)) (λ e. c .before .before .before .before .before .match .rest .1 (c .before .before .before .before .before .before .mark-at .ensures .0 ∙ e))))
+returns-9 t c = did-as (did-maybe _ (c .before .before .before .before .before .before .before .before .before .before .args .s) _ (omega (arith, c .before .before .before .before .before .before .before .before .before .before .good)) (omega (arith, c .before .before .before .before .before .before .before .before .before .before .good)) (leaf-fits (c .before .before .before .before .before .before .before .before .before .before .args .tree .now) (c .before .before .before .before .before .before .before .before .before .before .args .mode) (c .before .before .before .before .before .before .before .before .before .before .args .left) (c .before .before .before .before .before .before .before .before .before .before .args .at) (tree-fits _ _ _ (c .before .before .before .before .before .before .before .before .before .before .pre .1 .accepted) (c .before .before .before .before .before .before .before .before .before .shared-slice-known .given))) (c .before .before .before .leaf-type .ensures) (c .answer-of .ensures)) (sym (leaf-is (c .before .before .before .before .before .before .before .before .before .before .args .tree .now) (c .before .before .before .before .before .before .before .before .before .before .args .mode) (c .before .before .before .before .before .before .before .before .before .before .args .left) (c .before .before .before .before .before .before .before .before .before .before .args .at) (c .before .before .before .before .before .before .before .before .before .before .args .s .n) (λ e. c .before .before .before .before .before .match .rest .0 .0 .0 .0 .0 .0 .0 .1 (c .before .before .before .before .before .before .mark-at .ensures .0 ∙ e)) (λ e. c .before .before .before .before .before .match .rest .0 .0 .0 .0 .0 .0 .1 (c .before .before .before .before .before .before .mark-at .ensures .0 ∙ e)) (λ e. c .before .before .before .before .before .match .rest .0 .0 .0 .0 .0 .1 (c .before .before .before .before .before .before .mark-at .ensures .0 ∙ e)) (λ e. c .before .before .before .before .before .match .rest .0 .0 .0 .0 .1 (c .before .before .before .before .before .before .mark-at .ensures .0 ∙ e)) (λ e. c .before .before .before .before .before .match .rest .0 .0 .0 .1 (c .before .before .before .before .before .before .mark-at .ensures .0 ∙ e)) (λ e. c .before .before .before .before .before .match .rest .0 .0 .1 (c .before .before .before .before .before .before .mark-at .ensures .0 ∙ e)) (λ e. c .before .before .before .before .before .match .rest .0 .1 (c .before .before .before .before .before .before .mark-at .ensures .0 ∙ e)) (λ e. c .before .before .before .before .before .match .rest .1 (c .before .before .before .before .before .before .mark-at .ensures .0 ∙ e))))
 
 pub same-length-16 : (t : ℕ) → expr-to-ts-type-lts.Need-same-length-16 (calls t) (expr-to-ts-type-at t) expr-to-ts-type.Post
 same-length-16 t c = returns-9 t c .step .ran .out .same
