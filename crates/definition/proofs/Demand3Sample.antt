@@ -14,7 +14,7 @@ use Rattle.definition.specs.Record.{text, is, fresh, kid, one, diagsByte
 use Rattle.definition.specs.Names.{decimalUpTo, genUniqueName}
 use Rattle.definition.specs.Typing.{exprKind, exprBy, exprToTsType}
 use Rattle.definition.specs.Items.{itemKind, declKind, bodyKind, declaratorPattern, declarator, defaultTyped, declToTypeDecl, transformModuleStmt, exportDefaultExpr, itemBy, bodyBy, transformModuleItems}
-use Rattle.definition.specs.Transform.{transformBy, transform, textsFit, written, callBy, call}
+use Rattle.definition.specs.Transform.{transformBy, transform, textsFit}
 use Rattle.definition.specs.Demand3.{ExportsIds, AllExportIds, SpacesExportIds, AllSpacesExportIds, output, Supposed}
 use Rattle.definition.proofs.Texts.{written as written-out}
 
@@ -84,7 +84,7 @@ unfolding
     hasForm openBody openAt checkAll checkAt entriesFine listFine checkTree
     diagsBytes each decimalUpTo genUniqueName exprKind exprBy exprToTsType
     itemKind declKind bodyKind declaratorPattern declarator defaultTyped declToTypeDecl transformModuleStmt exportDefaultExpr itemBy bodyBy
-    transformModuleItems transformBy transform textsFit written callBy call
+    transformModuleItems transformBy transform textsFit
 conditions-met = (
   written-out (encode sample) refl,
   record {

@@ -1,6 +1,6 @@
 -- No silence on the exported call: after a success the ten bytes of each diagnostic that the transform gives stand in the diagnostics buffer, so of
 -- every member of an object literal that is left out. Assumes nothing.
-use mathlib.Core.Path.{_≡_, refl, sym, ap, _∙_}
+use mathlib.Core.Path.{_≡_, refl, ap, _∙_}
 use mathlib.Core.List.{List, [], _∷_, _++_, append-assoc}
 use mathlib.Core.Bool.{Bool, false}
 use Prim.Native.Nat.{ℕ, suc, _+_, _*_}
@@ -12,7 +12,7 @@ use Rattle.definition.specs.Grammar.{mark}
 use Rattle.definition.specs.Check.{deepest}
 use Rattle.definition.specs.Record.{headOf, kidsOf, Diag, diagBytes, diagsBytes}
 use Rattle.definition.specs.Prescan.{prescanModuleIds}
-use Rattle.definition.specs.Transform.{transform, done, over, call}
+use Rattle.definition.specs.Transform.{transform, done, call}
 use Rattle.definition.specs.Silence.{OneOf, Given, Stands, Told, Meets}
 use Rattle.definition.specs.Typed.{InItem}
 use Rattle.definition.proofs.Calls.{call-done}
