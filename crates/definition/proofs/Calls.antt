@@ -151,8 +151,8 @@ module _ (tree list : List ℕ) (ctx : ℕ) (out diags : List ℕ) where
       let w = call-done n k p .2 in
       rw (w .out-is, w .bytes) (take-over (encode (made .0)) out (w .room))
 
-  -- an accepted tree, whose output a record can hold, with buffers that are long enough: success, with the counts that the definition fixes
-  pub succeeds : (e : ℕ) → checkTree tree list ≡ fine e → textsFit (made .0) ≡ true → LongEnough tree list ctx out diags →
+  -- an accepted tree with buffers that are long enough: success, with the counts that the definition fixes
+  pub succeeds : (e : ℕ) → checkTree tree list ≡ fine e → LongEnough tree list ctx out diags →
       call tree list ctx out diags .answer ≡ done (length (encode (made .0))) (length (made .1))
   unfolding call callBy writtenBy
-  succeeds e c t l = rw c (ap (λ (z : Result). z .answer) (written-is (made .0) (made .1) out diags t (l .output) (l .diagnostics)))
+  succeeds e c l = rw c (ap (λ (z : Result). z .answer) (written-is (made .0) (made .1) out diags (l .texts) (l .bytes) (l .diagnostics)))

@@ -7,17 +7,16 @@ use native.Mathlib.Omega.{arith}
 use lib.Dec.{eqb}
 use lib.ListN.{replicate}
 use borrow.Author.Tests.{eqb-true, eq-eqb, leb-true}
-use Rattle.definition.specs.Tree.{Rec, Recs, rec, nil, cons, le4, headBytes, encode, headAt, readAll, endOfAll, endAt, treeAt}
+use Rattle.definition.specs.Tree.{Rec, Recs, rec, nil, cons, Bytes, le4, headBytes, encode, headAt, readAll, endOfAll, endAt, treeAt}
 use Rattle.definition.specs.Grammar.{mark, marks, member, grammar, known, forms, slots, place, allowed, after, least, isProperty}
 use Rattle.definition.specs.Check.{deepest, hasForm, openBody, openAt, checkAll, checkAt, entriesFine, listFine, checkTree}
 use Rattle.definition.specs.Record.{text, is, fresh, kid, one, diagsBytes, each}
 use Rattle.definition.specs.Names.{decimalUpTo, genUniqueName}
 use Rattle.definition.specs.Typing.{exprKind, exprBy, exprToTsType}
 use Rattle.definition.specs.Items.{itemKind, declKind, bodyKind, declaratorPattern, declarator, defaultTyped, declToTypeDecl, transformModuleStmt, exportDefaultExpr, itemBy, bodyBy, transformModuleItems}
-use Rattle.definition.specs.Transform.{transformBy, transform, textsFit, written, callBy, call}
-use Rattle.definition.specs.Demand3.{ExportsIds, AllExportIds, SpacesExportIds, AllSpacesExportIds, writtenBy}
+use Rattle.definition.specs.Transform.{transformBy, transform, textsFit}
+use Rattle.definition.specs.Demand3.{ExportsIds, AllExportIds, SpacesExportIds, AllSpacesExportIds, output, Supposed}
 use Rattle.definition.proofs.Texts.{written as written-out}
-use Rattle.definition.proofs.Demand3.{SecondCall}
 
 -- ---- the conditions on trees, decided
 
@@ -68,7 +67,7 @@ mutual
 
 -- ---- the sample
 
-abbrev sample : Rec
+abbrev pub sample : Rec
 sample =
     rec (fresh "Mo" 0 [])
     (cons
@@ -78,19 +77,22 @@ sample =
     (one (rec (fresh "Xe" 0 []) (one (rec (fresh "Ar" 0 []) nil)))))
 
 -- two calls with 256 bytes for the output and none for diagnostics
-conditions-met : SecondCall (encode sample) [] 1 (replicate 256 7) [] 251 0 (replicate 256 9) []
+pub conditions-met : Bytes (encode sample) × Supposed (encode sample) [] 1 (replicate 256 7) [] (replicate 256 9) []
 unfolding
     headBytes encode headAt readAll endOfAll endAt treeAt
     marks member grammar known forms slots place allowed after least isProperty
     hasForm openBody openAt checkAll checkAt entriesFine listFine checkTree
     diagsBytes each decimalUpTo genUniqueName exprKind exprBy exprToTsType
     itemKind declKind bodyKind declaratorPattern declarator defaultTyped declToTypeDecl transformModuleStmt exportDefaultExpr itemBy bodyBy
-    transformModuleItems transformBy transform textsFit written callBy call
-conditions-met = record {
-  bytes = written-out (encode sample) refl;
-  first = refl;
-  accepted = (251, refl);
-  exports = exports-ids (treeAt deepest (writtenBy (encode sample) [] 1 (replicate 256 7) [] 251) 0) refl;
-  namespaces = spaces-export-ids (treeAt deepest (encode sample) 0) refl;
-  room = record { output = leb-true _ 256 refl; diagnostics = leb-true _ 0 refl };
-}
+    transformModuleItems transformBy transform textsFit
+conditions-met = (
+  written-out (encode sample) refl,
+  record {
+    accepted = (126, refl);
+    accepted′ = (251, refl);
+    room = record { texts = refl; bytes = leb-true _ 256 refl; diagnostics = leb-true _ 0 refl };
+    room′ = record { texts = refl; bytes = leb-true _ 256 refl; diagnostics = leb-true _ 0 refl };
+    exports = exports-ids (treeAt deepest (output (encode sample) [] 1) 0) refl;
+    namespaces = spaces-export-ids (treeAt deepest (encode sample) 0) refl;
+  },
+)

@@ -9,6 +9,7 @@ pub mod CountingItems
 pub mod Silence
 pub mod Properties
 pub mod SilenceModule
+pub mod SilenceCall
 pub mod Handbook
 pub mod HandbookDeclarations
 pub mod HandbookOverloads

@@ -14,7 +14,7 @@ use Rattle.definition.specs.Children.{AcceptedAt}
 use Rattle.definition.specs.Record.{kidsOf, markOf, ranged}
 use Rattle.definition.specs.Prescan.{PrescannedModuleIds}
 use Rattle.definition.specs.Typing.{exprToTsType}
-use Rattle.definition.specs.Silence.{_∈_, here, there, Ledger}
+use Rattle.definition.specs.Silence.{OneOf, here, there, Ledger}
 use Rattle.definition.proofs.Accepted.{Accepted, accepted, first-accepted}
 use Rattle.definition.proofs.Children.{some-left, itself, tree-is}
 use Rattle.definition.proofs.Kids.{member-wider, mark-is, inside-plain}
@@ -59,16 +59,16 @@ after-slots ps m (inr q) a =
     let o : member m (marks "Op") ≡ true = only-set _ (subst (λ (ps : List Part). allowed ps m ≡ true) q a) in
     inr (subst (λ (ps : List Part). after ps m ≡ ops) (sym q) (rw o))
 
-in-cons : {q r : Rec} {rs : Recs} → q ∈ cons r rs → (q ≡ r) ⊎ (q ∈ rs)
+in-cons : {q r : Rec} {rs : Recs} → OneOf q (cons r rs) → (q ≡ r) ⊎ OneOf q rs
 in-cons here = inl refl
 in-cons (there i) = inr i
 
-in-nil : {q : Rec} {A : Type 0} → q ∈ nil → A
+in-nil : {q : Rec} {A : Type 0} → OneOf q nil → A
 in-nil i = elim i [ ]
 
 -- n records at such slots
 all-marks : (left : ℕ) (s : List ℕ) (n p : ℕ) (ps : List Part) (e : ℕ) → (ps ≡ properties) ⊎ (ps ≡ ops) → checkAll (checkAt left s) s n p ps ≡ fine e →
-    (q : Rec) → q ∈ readAll (treeAt left s) (endAt left s) n p → member (markOf q) (marks "Kv Sh Pq Sp Op") ≡ true
+    (q : Rec) → OneOf q (readAll (treeAt left s) (endAt left s) n p) → member (markOf q) (marks "Kv Sh Pq Sp Op") ≡ true
 unfolding readAll
 all-marks left s zero p ps e k c q i = in-nil i
 all-marks left s (suc n) p ps e k c q i =
@@ -87,10 +87,10 @@ module _ (left : ℕ) (s : List ℕ) (at : ℕ) (a : AcceptedAt left s at) (ob :
   unfolding grammar known slots place
   slots-are = ap (inside (a .slots)) ob ∙ inside-plain (a .slots) (mark "Ob") (eqb-false (mark "Ob") (mark "Ag") refl)
 
-  pub object-properties : (p : Rec) → p ∈ kidsOf (treeAt left s at) → member (markOf p) (marks "Kv Sh Pq Sp Op") ≡ true
+  pub object-properties : (p : Rec) → OneOf p (kidsOf (treeAt left s at)) → member (markOf p) (marks "Kv Sh Pq Sp Op") ≡ true
   object-properties p i =
       all-marks (left - 1) s (countAt s at) (bodyAt s at) (inside (a .slots) (markAt s at)) (a .past) (inl slots-are) (apart .all) p
-      (subst (λ (r : Rec). p ∈ kidsOf r) (tree-is left s at a) i)
+      (subst (λ (r : Rec). OneOf p (kidsOf r)) (tree-is left s at a) i)
 
   -- so in an accepted tree every property of an object literal is a member of its type or is told of, in order
   pub none-missing-accepted : (ids : PrescannedModuleIds) (ctx : ℕ) (c r : Bool) (n : ℕ) →
@@ -100,4 +100,4 @@ module _ (left : ℕ) (s : List ℕ) (at : ℕ) (a : AcceptedAt left s at) (ob :
   none-missing-accepted ids ctx c r n =
       rw (tree-is left s at a)
       (none-missing ids ctx (headAt s at) (readAll (treeAt (left - 1) s) (endAt (left - 1) s) (countAt s at) (bodyAt s at)) ob
-      (λ p i. object-properties p (subst (λ (r : Rec). p ∈ kidsOf r) (sym (tree-is left s at a)) i)) c r n)
+      (λ p i. object-properties p (subst (λ (r : Rec). OneOf p (kidsOf r)) (sym (tree-is left s at a)) i)) c r n)

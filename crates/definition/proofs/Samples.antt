@@ -57,12 +57,12 @@ name s t = node "Bd" (two (id 2 s) t)
 -- ---- writing samples
 
 -- a call and what it gives
-record Sample : Type 0 where
-  tree : List ℕ
-  list : List ℕ
-  out : List ℕ
-  diagnostics : List ℕ
-  result : Result
+pub record Sample : Type 0 where
+  pub tree : List ℕ
+  pub list : List ℕ
+  pub out : List ℕ
+  pub diagnostics : List ℕ
+  pub result : Result
 
 -- n bytes that were in a buffer before
 abbrev rest : ℕ → List ℕ
@@ -182,7 +182,20 @@ namespaces-out =
     (flags 1 (node "Ns" (two (leaf "Op" (text "N")) (node "Nb" (cons (var 2 (name "a" (keyword "any")) absent) (made-default "_dts_2" nil))))))
     (made-default "_dts_3" nil)))
 
-unfoldable samples : List Sample
+-- `class A { a = [1] as const; }`: "Cp without type but with value: typed (off, off)", and `as const` turns both on
+abbrev number-one : Rec
+number-one = leaf "Nu" (0 ∷ 0 ∷ 0 ∷ 0 ∷ 0 ∷ 0 ∷ 240 ∷ 63 ∷ [])
+
+abbrev class-of : ℕ → Rec → Rec → Rec
+class-of f t v = module-of (one (flags f (node "Cd" (two (id 2 "A") (node "Cl" (two absent (node "Cp" (three (leaf "Ki" (text "a")) t v))))))))
+
+abbrev const-property : Rec
+const-property = class-of 0 absent (node "Tc" (one (node "Ar" (one number-one))))
+
+abbrev const-property-out : Rec
+const-property-out = class-of 1 (node "Ro" (one (node "Tu" (one (node "Tm" (two absent (node "Tl" (one number-one)))))))) absent
+
+unfoldable pub samples : List Sample
 samples =
     accepted default-array default-array-out 170 0 [] ∷
     accepted const-a-b (module-of (one (var 3 (at 6 7 (name "a" (keyword "any"))) absent))) 113 1 (diag "d2" 6 7 ∷ []) ∷
@@ -206,15 +219,16 @@ samples =
     makes object-spread (module-of (one (var 3 (name "a" (node "Li" nil)) absent))) (diag "d4" 12 17 ∷ []) ∷
     makes array-spread array-spread-out [] ∷
     makes namespaces namespaces-out [] ∷
+    accepted const-property const-property-out 224 0 [] ∷
     []
 
 -- what `call` gives on the trees, lists and buffers of the samples
-answers : List Sample → List Result
+unfoldable pub answers : List Sample → List Result
 answers [] = []
 answers (s ∷ ss) = call (s .tree) (s .list) 1 (s .out) (s .diagnostics) ∷ answers ss
 
 -- every sample is as document 01 says
-samples-hold : answers samples ≡ map (λ (s : Sample). s .result) samples
+pub samples-hold : answers samples ≡ map (λ (s : Sample). s .result) samples
 unfolding
     samples answers
     headBytes encode headAt readAll endOfAll endAt treeAt

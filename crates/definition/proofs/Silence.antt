@@ -46,7 +46,7 @@ use Rattle.definition.specs.Typing.{
   arrowParams,
   patToTsFnParam,
 }
-use Rattle.definition.specs.Silence.{_∈_, here, there, Piece, Given, Told, Ledger, Reaches, now, later, Meets}
+use Rattle.definition.specs.Silence.{OneOf, here, there, Piece, Given, Told, Ledger, Reaches, now, later, Meets}
 
 -- ---- pieces of lists of diagnostics
 
@@ -116,7 +116,7 @@ module _ (ids : PrescannedModuleIds) (ctx : ℕ) where
         go false false false false p q s t = rw (p, q, s, t) (Ledger.other (only-other (h .mark) k p q s t))
 
   -- the whole literal: each property is a member or is told of, in order
-  pub ledger : (ks : Recs) → ((p : Rec) → p ∈ ks → member (markOf p) (marks "Kv Sh Pq Sp Op") ≡ true) → (c r : Bool) (n : ℕ) →
+  pub ledger : (ks : Recs) → ((p : Rec) → OneOf p ks → member (markOf p) (marks "Kv Sh Pq Sp Op") ≡ true) → (c r : Bool) (n : ℕ) →
       Ledger ids ctx c r n ks (props ids ctx ks c r n .0) (props ids ctx ks c r n .1)
   unfolding props
   ledger nil k c r n = Ledger.ends
@@ -127,7 +127,7 @@ module _ (ids : PrescannedModuleIds) (ctx : ℕ) where
   -- ---- what is told of the properties of an object literal
 
   -- what is told of one property is told of them all
-  prop-piece : {p : Rec} {ks : Recs} → p ∈ ks → (c r : Bool) (n : ℕ) → (m : ℕ) × Piece (prop ids ctx p c r m .1) (props ids ctx ks c r n .1)
+  prop-piece : {p : Rec} {ks : Recs} → OneOf p ks → (c r : Bool) (n : ℕ) → (m : ℕ) × Piece (prop ids ctx p c r m .1) (props ids ctx ks c r n .1)
   unfolding props
   prop-piece {p} here c r n = (n, piece-left _ (piece-whole _))
   prop-piece {p} (there {q} i) c r n =
@@ -147,9 +147,9 @@ module _ (ids : PrescannedModuleIds) (ctx : ℕ) where
   unfolding prop propBy propKind
   shorthand-says (rec h ks) e c r n u = rw (e, u)
 
-  props-told : (ks : Recs) (c r : Bool) (n : ℕ) → Told ids ctx c ks (props ids ctx ks c r n .1)
+  props-told : (ks : Recs) (c r : Bool) (n : ℕ) → Told ids ctx c ks (Given (props ids ctx ks c r n .1))
   props-told ks c r n =
-      let given : (p : Rec) (d : Diag) → p ∈ ks → ((m : ℕ) → prop ids ctx p c r m .1 ≡ d ∷ []) → Given d (props ids ctx ks c r n .1) =
+      let given : (p : Rec) (d : Diag) → OneOf p ks → ((m : ℕ) → prop ids ctx p c r m .1 ≡ d ∷ []) → Given (props ids ctx ks c r n .1) d =
       (λ p d i e. let q = prop-piece i c r n in subst (λ (ds : List Diag). Piece ds (props ids ctx ks c r n .1)) (e (q .0)) (q .1)) in
       record {
         spreads = λ p i e. given p (diag "d4" (headOf p)) i (spread-says p e c r);
@@ -157,12 +157,13 @@ module _ (ids : PrescannedModuleIds) (ctx : ℕ) where
         shorthands = λ p i e u. given p (diag "d3" (headOf p)) i (λ m. shorthand-says p e c r m u);
       }
 
-  pub told-more : {c : Bool} {ks : Recs} {ds es : List Diag} → Told ids ctx c ks ds → Piece ds es → Told ids ctx c ks es
-  told-more t p =
+  -- where a diagnostic is, seen from elsewhere
+  pub told-more : {c : Bool} {ks : Recs} {Is Is′ : Diag → Type 0} → Told ids ctx c ks Is → ((d : Diag) → Is d → Is′ d) → Told ids ctx c ks Is′
+  told-more t f =
       record {
-        spreads = λ q i e. piece-of (t .spreads q i e) p;
-        others = λ q i e. piece-of (t .others q i e) p;
-        shorthands = λ q i e u. piece-of (t .shorthands q i e u) p;
+        spreads = λ q i e. f (diag "d4" (headOf q)) (t .spreads q i e);
+        others = λ q i e. f (diag "d3" (headOf q)) (t .others q i e);
+        shorthands = λ q i e u. f (diag "d3" (headOf q)) (t .shorthands q i e u);
       }
 
   -- ---- what is told of an expression is told of whatever holds it
@@ -243,14 +244,14 @@ module _ (ids : PrescannedModuleIds) (ctx : ℕ) where
       go none l m = piece-whole l
       go (some t) l m = named (is "Bd" left) _ _ l m (suc m)
 
-  arrow-piece : {p : Rec} {ks : Recs} → p ∈ ks → (n : ℕ) → (m : ℕ) × Piece (patToTsFnParam ids ctx p m .1) (arrowParams ids ctx ks 0 n .1)
+  arrow-piece : {p : Rec} {ks : Recs} → OneOf p ks → (n : ℕ) → (m : ℕ) × Piece (patToTsFnParam ids ctx p m .1) (arrowParams ids ctx ks 0 n .1)
   unfolding arrowParams
   arrow-piece here n = (n, piece-left _ (piece-whole _))
   arrow-piece (there {q} i) n =
       let rest = arrow-piece i (patToTsFnParam ids ctx q n .2) in
       (rest .0, piece-right (patToTsFnParam ids ctx q n .1) (rest .1))
 
-  fn-piece : {p : Rec} {ks : Recs} → p ∈ ks → (n : ℕ) → (m : ℕ) × Piece (fnParam ids ctx p m .1) (fnParams ids ctx ks 0 n .1)
+  fn-piece : {p : Rec} {ks : Recs} → OneOf p ks → (n : ℕ) → (m : ℕ) × Piece (fnParam ids ctx p m .1) (fnParams ids ctx ks 0 n .1)
   unfolding fnParams
   fn-piece here n = (n, piece-left _ (piece-whole _))
   fn-piece (there {q} i) n =
@@ -329,13 +330,13 @@ module _ (ids : PrescannedModuleIds) (ctx : ℕ) where
   -- No member of an object literal is left out in silence. Typing e, with whatever as_const and as_readonly and from whatever counter, tells of every
   -- Sp, Pq and untyped Sh of every object literal that it meets
   pub no-silence : {e : Rec} {c r c′ r′ : Bool} (h : Head) (ks : Recs) → h .mark ≡ mark "Ob" → Meets ids ctx (rec h ks) c′ r′ e c r → (n : ℕ) →
-      Told ids ctx c′ ks (exprToTsType ids ctx e c r n .1)
+      Told ids ctx c′ ks (Given (exprToTsType ids ctx e c r n .1))
   no-silence {c′ = c′} {r′ = r′} h ks m w n =
       let a = heard w n in
-      told-more (rw (object-piece h ks c′ r′ (a .counter) m) (props-told ks c′ r′ (a .counter))) (a .piece)
+      told-more (rw (object-piece h ks c′ r′ (a .counter) m) (props-told ks c′ r′ (a .counter))) (λ d g. piece-of g (a .piece))
 
   -- and every other member is in the type that is made, in order
-  pub none-missing : (h : Head) (ks : Recs) → h .mark ≡ mark "Ob" → ((p : Rec) → p ∈ ks → member (markOf p) (marks "Kv Sh Pq Sp Op") ≡ true) → (c r : Bool) (n : ℕ) →
+  pub none-missing : (h : Head) (ks : Recs) → h .mark ≡ mark "Ob" → ((p : Rec) → OneOf p ks → member (markOf p) (marks "Kv Sh Pq Sp Op") ≡ true) → (c r : Bool) (n : ℕ) →
       (ms : Recs) × (exprToTsType ids ctx (rec h ks) c r n .0 ≡ some (rec (ranged "Li" h []) ms)) × Ledger ids ctx c r n ks ms (exprToTsType ids ctx (rec h ks) c r n .1)
   unfolding exprToTsType exprBy exprKind marks member
   none-missing h ks m k c r n = (props ids ctx ks c r n .0, rw m, rw m (ledger ks k c r n))

@@ -65,7 +65,7 @@ use Rattle.definition.specs.Items.{
   transformTsNsBody,
 }
 use Rattle.definition.specs.Transform.{transformBy, transform}
-use Rattle.definition.specs.Silence.{_∈_, here, there, Piece, Given, Told, now, Meets}
+use Rattle.definition.specs.Silence.{OneOf, here, there, Piece, Given, Told, now, Meets}
 use Rattle.definition.specs.Typed.{InPattern, InParam, InFunction, InMember, InClass, InDecl, InBody, InItem}
 use Rattle.definition.proofs.Silence.{piece-whole, piece-left, piece-right, piece-of, orAny-piece, told-more, no-silence}
 
@@ -125,7 +125,7 @@ module _ (ty : Typing) where
   in-param (InParam.param {h} m p) n = rw (param-test (h .mark) m) (in-pattern p n)
 
   -- the parameters of a function, and of a constructor
-  function-piece : {q : Rec} {ks : Recs} → q ∈ ks → (setter : Bool) (i n : ℕ) →
+  function-piece : {q : Rec} {ks : Recs} → OneOf q ks → (setter : Bool) (i n : ℕ) →
       (m : ℕ) × Piece (handleFuncParam ty q m .1) (each (functionPart ty setter) (suc (suc (suc i))) ks n .1)
   unfolding each functionPart
   function-piece here setter i n = (n, piece-left _ (piece-whole _))
@@ -133,7 +133,7 @@ module _ (ty : Typing) where
       let rest = function-piece k setter (suc i) (handleFuncParam ty q n .2) in
       (rest .0, piece-right (handleFuncParam ty q n .1) (rest .1))
 
-  constructor-piece : {q : Rec} {ks : Recs} → q ∈ ks → (i n : ℕ) → (m : ℕ) × Piece (handleFuncParam ty q m .1) (each (constructorPart ty) (suc i) ks n .1)
+  constructor-piece : {q : Rec} {ks : Recs} → OneOf q ks → (i n : ℕ) → (m : ℕ) × Piece (handleFuncParam ty q m .1) (each (constructorPart ty) (suc i) ks n .1)
   unfolding each constructorPart
   constructor-piece here i n = (n, piece-left _ (piece-whole _))
   constructor-piece (there {q} k) i n =
@@ -148,7 +148,7 @@ module _ (ty : Typing) where
 
   -- ---- members of classes
 
-  flat-piece : (f : Rec → ℕ → Out Recs) {q : Rec} {ks : Recs} → q ∈ ks → (n : ℕ) → (m : ℕ) × Piece (f q m .1) (flat f ks n .1)
+  flat-piece : (f : Rec → ℕ → Out Recs) {q : Rec} {ks : Recs} → OneOf q ks → (n : ℕ) → (m : ℕ) × Piece (f q m .1) (flat f ks n .1)
   unfolding flat
   flat-piece f here n = (n, piece-left _ (piece-whole _))
   flat-piece f (there {q} k) n =
@@ -173,7 +173,7 @@ module _ (ty : Typing) where
 
     -- ---- declarations and items
 
-    declarator-piece : {q : Rec} {ks : Recs} → q ∈ ks → (i n : ℕ) → (m : ℕ) × Piece (declarator ty q m .1) (each (λ i. declarator ty) i ks n .1)
+    declarator-piece : {q : Rec} {ks : Recs} → OneOf q ks → (i n : ℕ) → (m : ℕ) × Piece (declarator ty q m .1) (each (λ i. declarator ty) i ks n .1)
     unfolding each
     declarator-piece here i n = (n, piece-left _ (piece-whole _))
     declarator-piece (there {q} k) i n =
@@ -269,7 +269,7 @@ module _ (ty : Typing) where
     unfolding transformTsNsBody bodyBy bodyKind
     nested-says h name b ops n e = rw e
 
-    items-piece : {i : Rec} {ks : Recs} → i ∈ ks → (top : Bool) (n : ℕ) →
+    items-piece : {i : Rec} {ks : Recs} → OneOf i ks → (top : Bool) (n : ℕ) →
         (m : ℕ) × Piece (transformModuleItem list ctx ty i top m .1) (transformModuleItems list ctx ty ks top n .1)
     unfolding transformModuleItems
     items-piece here top n = (n, piece-left _ (piece-whole _))
@@ -326,14 +326,14 @@ module _ (ty : Typing) where
 
 -- No member of an object literal of a module is left out in silence: whatever expression e an item has typed, the diagnostics of the whole transform tell
 -- of every Sp, Pq and untyped Sh of every object literal that this typing meets
-pub no-silence-in-module : {i e : Rec} {r c′ r′ : Bool} (list : List ℕ) (ctx : ℕ) (h : Head) (items : Recs) → i ∈ items → InItem list ctx e r i →
+pub no-silence-in-module : {i e : Rec} {r c′ r′ : Bool} (list : List ℕ) (ctx : ℕ) (h : Head) (items : Recs) → OneOf i items → InItem list ctx e r i →
     (oh : Head) (ks : Recs) → oh .mark ≡ mark "Ob" → Meets (prescanModuleIds items) ctx (rec oh ks) c′ r′ e false r →
-    Told (prescanModuleIds items) ctx c′ ks (transform list ctx (rec h items) .1)
+    Told (prescanModuleIds items) ctx c′ ks (Given (transform list ctx (rec h items) .1))
 unfolding transform transformBy
 no-silence-in-module list ctx h items m i oh ks o w =
     let p = items-piece (exprToTsType (prescanModuleIds items) ctx) list ctx m true 0 in
     let a = in-item (exprToTsType (prescanModuleIds items) ctx) list ctx i true (p .0) in
-    told-more (prescanModuleIds items) ctx (no-silence (prescanModuleIds items) ctx oh ks o w (a .counter)) (piece-of (a .piece) (p .1))
+    told-more (prescanModuleIds items) ctx (no-silence (prescanModuleIds items) ctx oh ks o w (a .counter)) (λ d g. piece-of g (piece-of (a .piece) (p .1)))
 
 -- an example: `const a = [{ ...b }] as const;`, with the spread at 12 to 16, tells of it
 abbrev example-spread : Rec
@@ -346,7 +346,7 @@ abbrev example-items : Recs
 example-items =
     one (rec (fresh "Vd" 2 []) (one (rec (fresh "Vr" 0 []) (cons (rec (fresh "Bd" 0 []) (cons (ident (text "a")) (one absent))) (one example-value)))))
 
-example : (list : List ℕ) (ctx : ℕ) (h : Head) → Given (diag "d4" (headOf example-spread)) (transform list ctx (rec h example-items) .1)
+example : (list : List ℕ) (ctx : ℕ) (h : Head) → Given (transform list ctx (rec h example-items) .1) (diag "d4" (headOf example-spread))
 unfolding elementKind
 example list ctx h =
     no-silence-in-module list ctx h example-items here

@@ -11,11 +11,10 @@ use borrow.Author.Tests.{ltb-true, lt-ltb}
 use Rattle.definition.specs.Tree.{Head, Rec, Recs, rec, nil, cons, count, encode, treeAt, Bytes, FitsHead, Fits, FitsAll}
 use Rattle.definition.specs.Grammar.{mark}
 use Rattle.definition.specs.Check.{fine, longestTree, deepest, checkTree}
-use Rattle.definition.specs.Record.{textOf, kidsOf, kid}
+use Rattle.definition.specs.Record.{textOf, kidsOf, kid, diagsBytes}
 use Rattle.definition.specs.Prescan.{PrescannedModuleIds, prescanModuleIds}
 use Rattle.definition.specs.Typing.{exprToTsType}
 use Rattle.definition.specs.Transform.{transform, done, textsFit, allTextsFit, call}
-use Rattle.definition.specs.Demand3.{LongEnough}
 use Rattle.definition.specs.Widths.{KeysUpTo}
 use Rattle.definition.proofs.Accepted.{accepted-tree}
 use Rattle.definition.proofs.Converse.{read-accepted}
@@ -129,7 +128,9 @@ module _ (tree list : List ℕ) (ctx e : ℕ) (bytes : Bytes tree) (accepted : c
   pub output-fits-but : KeysUpTo 65531 (treeAt deepest tree 0) → Fits made
   output-fits-but q = fit-fits made (transform-fits 0 list ctx (treeAt deepest tree 0) (fits-fit (treeAt deepest tree 0) 0 fits-read) q short)
 
-  -- so a call on such a tree succeeds once its buffers are long enough
-  pub call-succeeds : KeysUpTo 65531 (treeAt deepest tree 0) → (out diags : List ℕ) → LongEnough tree list ctx out diags →
+  -- so for such a tree buffers are long enough once both lengths fit in them, and the call succeeds
+  pub call-succeeds : KeysUpTo 65531 (treeAt deepest tree 0) → (out diags : List ℕ) → length (encode made) ≤ length out →
+      length (diagsBytes (transform list ctx (treeAt deepest tree 0) .1)) ≤ length diags →
       call tree list ctx out diags .answer ≡ done (length (encode made)) (length (transform list ctx (treeAt deepest tree 0) .1))
-  call-succeeds q out diags room = succeeds tree list ctx out diags e accepted (fits-texts made (output-fits-but q)) room
+  call-succeeds q out diags l m =
+      succeeds tree list ctx out diags e accepted (record { texts = fits-texts made (output-fits-but q); bytes = l; diagnostics = m })

@@ -78,7 +78,7 @@ openBody s at ps m =
     (opened (bodyAt s at) (countAt s at) (inside ps m)))
     (stopped 5))
 
--- "3 (head), 4, 5 (slot), 6", then the text and the count
+-- "3 (head), 4, 5 (slot; root must be Mo), 6", then the text and the count
 unfoldable pub openAt : List ℕ → ℕ → List Part → Opening
 openAt s at ps =
     cond (ltb (length s - at) headSize) (stopped 3)

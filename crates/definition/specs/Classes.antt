@@ -61,7 +61,7 @@ module _ (ty : Typing) where
   unfoldable pub handleFuncParam : Rec → ℕ → Out Rec
   handleFuncParam p n = ifM (is "Pa" p || is "Pp" p) (λ n. wrap (headOf p) (atKid 0 handlePattern (kidsOf p) n)) (pure p) n
 
-  -- "`Fu` Op? type? Op? Pa*: type parameters, return type, body": "Bodies go. Setters lose the return type"
+  -- "`Fu` (flags 1 async, 2 generator) Op? type? Op? Pa*: type parameters, return type, body": "Bodies go. Setters lose the return type"
   unfoldable pub functionPart : Bool → ℕ → Rec → ℕ → Out Rec
   functionPart setter zero r n = pure r n
   functionPart setter (suc zero) r n = pure (cond setter (gone r) r) n
@@ -81,7 +81,7 @@ module _ (ty : Typing) where
   unfoldable pub constructor : Rec → ℕ → Out Recs
   constructor r n = single (wrap (headOf r) (each constructorPart 0 (kidsOf r) n))
 
-  -- `ClassMember::Method`, with its new key: "`Me` (1 setter) key Fu" (reading 8)
+  -- `ClassMember::Method`, with its new key: "`Me` (1 setter, 2 getter, 4 static) key Fu" (reading 18)
   unfoldable pub method : Rec → Option Rec → ℕ → Out Recs
   method r none n = pure nil n
   method r (some key) n =

@@ -14,7 +14,7 @@ abbrev pub mark : String → ℕ
 mark ε = 0
 mark (c ∷ₛ s) = code c + 256 * mark s
 
--- a set of marks written "Aa Bb Cc", as their numbers
+-- a set of marks, written with a space between two of them, as their numbers
 unfoldable pub marks : String → List ℕ
 marks ε = []
 marks (a ∷ₛ ε) = []
@@ -34,8 +34,8 @@ pub data Part : Type 0 where
   many : String → Part
   property : Part
 
--- the form of a text: "empty text"; "any bytes"; "8 bytes of f64" (Nu); "sign byte and decimal digits" (Bi); "4-byte context, symbol" (Id);
--- "the cooked value, else empty" (Qu)
+-- the form of a text: "empty text"; "any bytes"; "8 bytes of f64" (Nu); "sign byte (1 negative, else 0) and decimal digits without leading
+-- zeros" (Bi); "4-byte context, symbol" (Id); "the cooked value, else empty" (Qu)
 pub data Form : Type 0 where
   empty anything eight integer identifier cooked : Form
 

@@ -68,7 +68,7 @@ unfoldable pub noExprs : Recs → Bool
 noExprs nil = true
 noExprs (cons r rs) = (is "Qu" r || is "Op" r) && noExprs rs
 
--- `quasis.first()` is there and cooked: "`Qu` (1 cooked)"
+-- `quasis.first()` is there and cooked: "`Qu` (1 cooked; its text is the cooked value, else empty)"
 abbrev pub firstCooked : Recs → Bool
 firstCooked ks = is "Qu" (kid 0 ks) && has1 (headOf (kid 0 ks))
 
@@ -79,7 +79,7 @@ tplToTsType ks false = tsKeywordType "string"
 
 -- ---- `maybe_lit_to_ts_type`
 
--- "A literal is a string, a number, a big integer, a boolean, null or a regex; also `Jt` (JSX text)"
+-- "A literal is a string, a number, a big integer, a boolean, null or a regex"; "also `Jt` (JSX text)"
 pub data Lit : Type 0 where
   lStr lBool lNull lNum lBigInt lRegex lJsxText : Lit
 

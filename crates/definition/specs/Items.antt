@@ -117,7 +117,8 @@ module _ (list : List ℕ) (ctx : ℕ) (ty : Typing) where
   declToTypeDecl dUsing h ks top ns n = (none, diag "d5" h ∷ [], n)
   declToTypeDecl dType h ks top ns n = pure (some (rec h ks)) n
 
-  -- `transform_module_stmt`: "Fd goes if the range is in the overload list"; "In, Ty and a bare Us pass"
+  -- `transform_module_stmt`: "Fd .. goes if the range of the outermost of Ed, Xd, Fd is in the overload list"; "In, Ty and a
+  -- bare Us pass"
   unfoldable pub transformModuleStmt : Decl → Head → Recs → Bool → (ℕ → Out Recs) → ℕ → Out Recs
   transformModuleStmt dFn h ks top ns n = ifM (listed list h) (pure nil) (λ n. stmtOf h (declToTypeDecl dFn h ks top ns n)) n
   transformModuleStmt dClass h ks top ns n = stmtOf h (declToTypeDecl dClass h ks top ns n)

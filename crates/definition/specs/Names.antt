@@ -97,12 +97,12 @@ unfoldable mutual
   propNameFromFirst nil ctx = none
   propNameFromFirst (cons r rs) ctx = propNameFromExpr r ctx
 
-  -- "a Te of one expression and no Qu" (reading 4: trailing Ops do not count)
+  -- "a Te of one expression and no Qu": its first child is no Qu (reading 4), and only Ops follow (reading 3)
   pub propNameFromOnly : Recs → ℕ → Option Rec
   propNameFromOnly nil ctx = none
   propNameFromOnly (cons r rs) ctx = cond ((not (is "Qu" r) && not (is "Op" r)) && ends rs) (propNameFromExpr r ctx) none
 
--- ---- `valid_prop_name`: "Ki, Ss, Nu, Bi stand. `Kc` expression .."
+-- ---- `valid_prop_name`: "Keys: `Ki` (symbol), Ss, Nu, Bi stand. `Kc` expression: a literal Ss|Nu|Bi becomes the key"
 
 unfoldable pub validPropName : ℕ → Rec → Option Rec
 validPropName ctx r = cond (is "Kc" r) (propNameFromFirst (kidsOf r) ctx) (some r)

@@ -84,7 +84,7 @@ addConst typeofSafe t v = not (isNo t) || (is "Fx" v || is "Aw" v)
 addConst nonGenericClass t v = false
 addConst arrayTyped t v = cond (isNo t) (isArrayLitInit v) (isArrayType t)
 
--- whether an Id has this text: "names equal when symbol and context are"
+-- whether an Id has this text, that is this context and this symbol, as `to_id` gives them
 abbrev pub named : List ℕ → Rec → Bool
 named name i = is "Id" i && sameText (textOf i) name
 

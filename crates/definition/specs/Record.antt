@@ -52,7 +52,7 @@ among s m = member m (marks s)
 abbrev pub isNo : Rec → Bool
 isNo r = is "No" r
 
--- "`Id`: 4-byte context, symbol"
+-- "`Id` (1 optional): 4-byte context, symbol"
 abbrev pub contextOf : Rec → ℕ
 contextOf r = u32At (textOf r) 0
 
@@ -148,14 +148,14 @@ gone r = cond (isNo r) r absent
 
 -- ---- diagnostics
 
--- "A diagnostic is 10 bytes: `d1` to `d5`, start, end"
+-- "A diagnostic is 10 bytes: `d1` to `d5` (the cases of `FastCheckDtsDiagnostic`, in order), start, end"
 pub record Diag : Type 0 where
   pub mark : ℕ
   pub start : ℕ
   pub end : ℕ
 
--- "the cases of `FastCheckDtsDiagnostic`, in order": d1 UnableToInferType, d2 UnableToInferTypeFallbackAny, d3 UnableToInferTypeFromProp,
--- d4 UnableToInferTypeFromSpread, d5 UnsupportedUsing; each at a record
+-- the five cases, each at a record: d1 UnableToInferType, d2 UnableToInferTypeFallbackAny, d3 UnableToInferTypeFromProp,
+-- d4 UnableToInferTypeFromSpread, d5 UnsupportedUsing
 abbrev pub diag : String → Head → Diag
 diag s h = record { mark = mark s; start = h .start; end = h .end }
 

@@ -1,22 +1,22 @@
 -- What it says that no member of an object literal is left out in silence: "Ob: untyped value any, d2 at it; untyped Sh and every Pq skipped, d3 at
 -- it; Sp skipped, d4 at it." Assumes nothing: these are definitions.
-use Prim.Native.Nat.{ℕ}
+use Prim.Native.Nat.{ℕ, _*_, _<_}
 use mathlib.Core.Path.{_≡_}
 use mathlib.Core.List.{List, [], _∷_, _++_}
 use mathlib.Core.Bool.{Bool, true, false}
 use mathlib.Core.Option.{none, some}
+use lib.ListN.{take, drop}
 use Rattle.definition.specs.Tree.{Head, Rec, Recs, rec, nil, cons}
 use Rattle.definition.specs.Grammar.{mark}
-use Rattle.definition.specs.Record.{headOf, kidsOf, markOf, symbolOf, identAt, kid, Diag, diag}
+use Rattle.definition.specs.Record.{headOf, kidsOf, markOf, symbolOf, identAt, kid, Diag, diag, diagBytes}
 use Rattle.definition.specs.Helpers.{anyTypeAnn, objectFreezeCallArg}
 use Rattle.definition.specs.Prescan.{PrescannedModuleIds}
 use Rattle.definition.specs.Typing.{eExpr, elementKind, keyKind, keyExpr, keyFlag, propertySignature, identToTsType, typeSecond, spreadType}
 
 -- r is one of the records rs
-infix 40 _∈_
-pub data _∈_ (r : Rec) : Recs → Type 0 where
-  here : {rs : Recs} → r ∈ cons r rs
-  there : {q : Rec} {rs : Recs} → r ∈ rs → r ∈ cons q rs
+pub data OneOf (r : Rec) : Recs → Type 0 where
+  here : {rs : Recs} → OneOf r (cons r rs)
+  there : {q : Rec} {rs : Recs} → OneOf r rs → OneOf r (cons q rs)
 
 -- the list xs stands in ys, in one piece
 pub record Piece (xs ys : List Diag) : Type 0 where
@@ -24,23 +24,29 @@ pub record Piece (xs ys : List Diag) : Type 0 where
   pub after : List Diag
   pub whole : ys ≡ before ++ (xs ++ after)
 
--- a diagnostic is given
-abbrev pub Given : Diag → List Diag → Type 0
-Given d ds = Piece (d ∷ []) ds
+-- a diagnostic is one of those given
+abbrev pub Given : List Diag → Diag → Type 0
+Given ds d = Piece (d ∷ []) ds
 
--- the member that a Kv becomes, with the type t: "`Ps` (1 readonly) expression type?", of its key
+-- its ten bytes stand in a buffer of which k diagnostics were written
+pub record Stands (buffer : List ℕ) (k : ℕ) (d : Diag) : Type 0 where
+  pub place : ℕ
+  pub inside : place < k
+  pub bytes : take 10 (drop (10 * place) buffer) ≡ diagBytes d
+
+-- the member that a Kv becomes, with the type t: "`Ps` (1 readonly, 2 computed, 4 optional) expression type?", of its key
 abbrev pub signatureOf : Rec → Bool → Rec → Rec
 signatureOf p r t =
     let k : Rec = kid 0 (kidsOf p) in
     propertySignature (keyExpr (keyKind (markOf k)) k) r (keyFlag (keyKind (markOf k))) t
 
 module _ (ids : PrescannedModuleIds) (ctx : ℕ) where
-  -- the diagnostics ds tell of every property in ks that has no member, where as_const is c: "untyped Sh and every Pq skipped, d3 at it; Sp
-  -- skipped, d4 at it"
-  pub record Told (c : Bool) (ks : Recs) (ds : List Diag) : Type 0 where
-    pub spreads : (p : Rec) → p ∈ ks → markOf p ≡ mark "Sp" → Given (diag "d4" (headOf p)) ds
-    pub others : (p : Rec) → p ∈ ks → markOf p ≡ mark "Pq" → Given (diag "d3" (headOf p)) ds
-    pub shorthands : (p : Rec) → p ∈ ks → markOf p ≡ mark "Sh" → identToTsType ids ctx (kid 0 (kidsOf p)) c ≡ none → Given (diag "d3" (headOf p)) ds
+  -- every property in ks that has no member is told of, where as_const is c and `Is` says where its diagnostic is: "untyped Sh and every Pq
+  -- skipped, d3 at it; Sp skipped, d4 at it"
+  pub record Told (c : Bool) (ks : Recs) (Is : Diag → Type 0) : Type 0 where
+    pub spreads : (p : Rec) → OneOf p ks → markOf p ≡ mark "Sp" → Is (diag "d4" (headOf p))
+    pub others : (p : Rec) → OneOf p ks → markOf p ≡ mark "Pq" → Is (diag "d3" (headOf p))
+    pub shorthands : (p : Rec) → OneOf p ks → markOf p ≡ mark "Sh" → identToTsType ids ctx (kid 0 (kidsOf p)) c ≡ none → Is (diag "d3" (headOf p))
 
   -- the properties of an object literal one by one, with the members that are made of them and the diagnostics that are given, in order: each is
   -- a member or is told of, and nothing else is made or given. `c` and `r` are as_const and as_readonly; the first index is the name counter
@@ -52,7 +58,7 @@ module _ (ids : PrescannedModuleIds) (ctx : ℕ) where
     -- "every Pq skipped, d3 at it"
     other : {n : ℕ} {p : Rec} {ps ms : Recs} {ds : List Diag} → markOf p ≡ mark "Pq" → Ledger c r n ps ms ds →
         Ledger c r n (cons p ps) ms (diag "d3" (headOf p) ∷ ds)
-    -- "untyped Sh skipped, d3 at it"
+    -- "untyped Sh .. skipped, d3 at it"
     untyped : {n : ℕ} {p : Rec} {ps ms : Recs} {ds : List Diag} → markOf p ≡ mark "Sh" → identToTsType ids ctx (kid 0 (kidsOf p)) c ≡ none →
         Ledger c r n ps ms ds → Ledger c r n (cons p ps) ms (diag "d3" (headOf p) ∷ ds)
     -- a typed Sh is a member of its name
@@ -88,7 +94,7 @@ module _ (ids : PrescannedModuleIds) (ctx : ℕ) where
     spread : {h : Head} {ks : Recs} {c r : Bool} (sh : Head) (a : Rec) (rest : Recs) → h .mark ≡ mark "Ar" → Reaches c (rec sh (cons a rest)) ks →
         sh .mark ≡ mark "Sp" → markOf a ≡ mark "Ar" → Meets o c′ r′ a c false → Meets o c′ r′ (rec h ks) c r
     -- the value of a Kv in an Ob
-    value : {h : Head} {ks : Recs} {c r : Bool} (ph : Head) (k v : Rec) (rest : Recs) → h .mark ≡ mark "Ob" → rec ph (cons k (cons v rest)) ∈ ks →
+    value : {h : Head} {ks : Recs} {c r : Bool} (ph : Head) (k v : Rec) (rest : Recs) → h .mark ≡ mark "Ob" → OneOf (rec ph (cons k (cons v rest))) ks →
         ph .mark ≡ mark "Kv" → Meets o c′ r′ v c r → Meets o c′ r′ (rec h ks) c r
     -- `as const`
     const : {h : Head} {v : Rec} {ks : Recs} {c r : Bool} → h .mark ≡ mark "Tc" → Meets o c′ r′ v true true → Meets o c′ r′ (rec h (cons v ks)) c r
@@ -99,8 +105,8 @@ module _ (ids : PrescannedModuleIds) (ctx : ℕ) where
         Meets o c′ r′ v c r → Meets o c′ r′ (rec h (cons f (cons v ks))) c r
     -- the default of a parameter of an Aw
     arrow : {h : Head} {tps ret : Rec} {ks : Recs} {c r : Bool} (ph : Head) (left v : Rec) (rest : Recs) → h .mark ≡ mark "Aw" →
-        rec ph (cons left (cons v rest)) ∈ ks → ph .mark ≡ mark "Ag" → Meets o c′ r′ v false false → Meets o c′ r′ (rec h (cons tps (cons ret ks))) c r
+        OneOf (rec ph (cons left (cons v rest))) ks → ph .mark ≡ mark "Ag" → Meets o c′ r′ v false false → Meets o c′ r′ (rec h (cons tps (cons ret ks))) c r
     -- the default of a parameter of an Fx
     function : {h fh : Head} {name tps ret body : Rec} {ks ops : Recs} {c r : Bool} (qh ph : Head) (left v : Rec) (rest more : Recs) →
-        h .mark ≡ mark "Fx" → rec qh (cons (rec ph (cons left (cons v rest))) more) ∈ ks → qh .mark ≡ mark "Pa" → ph .mark ≡ mark "Ag" →
+        h .mark ≡ mark "Fx" → OneOf (rec qh (cons (rec ph (cons left (cons v rest))) more)) ks → qh .mark ≡ mark "Pa" → ph .mark ≡ mark "Ag" →
         Meets o c′ r′ v false false → Meets o c′ r′ (rec h (cons name (cons (rec fh (cons tps (cons ret (cons body ks)))) ops))) c r

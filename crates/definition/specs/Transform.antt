@@ -47,7 +47,7 @@ unfoldable mutual
 abbrev pub over : List ℕ → List ℕ → List ℕ
 over bytes buffer = bytes ++ drop (length bytes) buffer
 
--- "9: output longer than its buffer; 10: diagnostics longer than theirs": what is made of a tree r with the diagnostics ds
+-- 9, "output longer than its buffer", and 10, "diagnostics longer than theirs": what is made of a tree r with the diagnostics ds
 unfoldable pub written : Rec → List Diag → List ℕ → List ℕ → Result
 written r ds out diags =
     cond (textsFit r && leb (length (encode r)) (length out))

@@ -5,7 +5,7 @@ use lib.ListN.{length, getD, take, drop}
 
 -- ---- trees
 
--- what a record holds beside its children: "mark, flags, start and end" and its text
+-- what a record holds beside its children: mark, flags, start and end, and its text
 pub record Head : Type 0 where
   pub mark : ℕ
   pub flags : ℕ
@@ -49,7 +49,8 @@ le2 n = n % 256 ∷ n / 256 % 256 ∷ []
 abbrev pub le4 : ℕ → List ℕ
 le4 n = n % 256 ∷ n / 256 % 256 ∷ n / 65536 % 256 ∷ n / 16777216 % 256 ∷ []
 
--- "mark (two ASCII letters), flags (1 byte), start and end (4 each), text length (2), child count (2)"
+-- "mark (two ASCII letters), flags (1 byte), start and end (4 each; what `range()` gives; 0,0 is `DUMMY_SP`), text length (2), child
+-- count (2)"
 unfoldable pub headBytes : Head → ℕ → List ℕ
 headBytes h n = le2 (h .mark) ++ ((h .flags % 256) ∷ (le4 (h .start) ++ (le4 (h .end) ++ (le2 (length (h .text)) ++ le2 n))))
 

@@ -9,7 +9,7 @@ use Rattle.definition.specs.Tree.{Head, Rec, Recs, rec, cons}
 use Rattle.definition.specs.Grammar.{mark}
 use Rattle.definition.specs.Record.{headOf, markOf, among, isNo, listed}
 use Rattle.definition.specs.Names.{validPropName}
-use Rattle.definition.specs.Silence.{_∈_}
+use Rattle.definition.specs.Silence.{OneOf}
 
 -- a pattern with the default e: "Ag over Bd, Pb, Po becomes the left side .., its type kept or the right side's (off, off)"
 pub data InPattern (e : Rec) : Rec → Type 0 where
@@ -22,14 +22,14 @@ pub data InPattern (e : Rec) : Rec → Type 0 where
 pub data InParam (e : Rec) : Rec → Type 0 where
   param : {h : Head} {p : Rec} {ops : Recs} → among "Pa Pp" (h .mark) ≡ true → InPattern e p → InParam e (rec h (cons p ops))
 
--- a function with a parameter: "`Fu` Op? type? Op? Pa*"
+-- a function with a parameter: "`Fu` (flags 1 async, 2 generator) Op? type? Op? Pa*"
 pub data InFunction (e : Rec) : Rec → Type 0 where
-  function : {h : Head} {tps ret body q : Rec} {ks : Recs} → q ∈ ks → InParam e q → InFunction e (rec h (cons tps (cons ret (cons body ks))))
+  function : {h : Head} {tps ret body q : Rec} {ks : Recs} → OneOf q ks → InParam e q → InFunction e (rec h (cons tps (cons ret (cons body ks))))
 
 module _ (list : List ℕ) (ctx : ℕ) where
   -- a member of a class: "Co and Me whose range is listed go, then .. Me|Cp without a valid key"; "Cp without type but with value: typed (off, off)"
   pub data InMember (e : Rec) : Rec → Type 0 where
-    constructor : {h : Head} {body q : Rec} {ks : Recs} → h .mark ≡ mark "Co" → listed list h ≡ false → q ∈ ks → InParam e q →
+    constructor : {h : Head} {body q : Rec} {ks : Recs} → h .mark ≡ mark "Co" → listed list h ≡ false → OneOf q ks → InParam e q →
         InMember e (rec h (cons body ks))
     method : {h : Head} {key f : Rec} {ops : Recs} (key′ : Rec) → h .mark ≡ mark "Me" → listed list h ≡ false → validPropName ctx key ≡ some key′ →
         InFunction e f → InMember e (rec h (cons key (cons f ops)))
@@ -38,7 +38,7 @@ module _ (list : List ℕ) (ctx : ℕ) where
 
   -- a class with a member: "`Cl` Op? (type parameters) member*"
   pub data InClass (e : Rec) : Rec → Type 0 where
-    class : {h : Head} {tps m : Rec} {ms : Recs} → m ∈ ms → InMember e m → InClass e (rec h (cons tps ms))
+    class : {h : Head} {tps m : Rec} {ms : Recs} → OneOf m ms → InMember e m → InClass e (rec h (cons tps ms))
 
   -- a declaration, the body of a namespace, and an item; as_const is off, and the argument r is as_readonly
   mutual
@@ -47,12 +47,12 @@ module _ (list : List ℕ) (ctx : ℕ) where
       function : {h : Head} {i f : Rec} {ops : Recs} → h .mark ≡ mark "Fd" → InFunction e f → InDecl e false (rec h (cons i (cons f ops)))
       -- "Vr: identifier .. without" type, "its init is typed (c off, r on)"
       variable : {h : Head} {ks : Recs} (vh bh : Head) (i t : Rec) (ops more : Recs) → h .mark ≡ mark "Vd" →
-          rec vh (cons (rec bh (cons i (cons t ops))) (cons e more)) ∈ ks → vh .mark ≡ mark "Vr" → bh .mark ≡ mark "Bd" → isNo t ≡ true →
+          OneOf (rec vh (cons (rec bh (cons i (cons t ops))) (cons e more))) ks → vh .mark ≡ mark "Vr" → bh .mark ≡ mark "Bd" → isNo t ≡ true →
           isNo e ≡ false → InDecl e true (rec h ks)
       namespace : {h : Head} {name b : Rec} {ops : Recs} {r : Bool} → h .mark ≡ mark "Ns" → InBody e r b → InDecl e r (rec h (cons name (cons b ops)))
 
     pub data InBody (e : Rec) : Bool → Rec → Type 0 where
-      block : {h : Head} {ks : Recs} {r : Bool} (i : Rec) → h .mark ≡ mark "Nb" → i ∈ ks → InItem e r i → InBody e r (rec h ks)
+      block : {h : Head} {ks : Recs} {r : Bool} (i : Rec) → h .mark ≡ mark "Nb" → OneOf i ks → InItem e r i → InBody e r (rec h ks)
       nested : {h : Head} {name b : Rec} {ops : Recs} {r : Bool} → h .mark ≡ mark "Nd" → InBody e r b → InBody e r (rec h (cons name (cons b ops)))
 
     pub data InItem (e : Rec) : Bool → Rec → Type 0 where

@@ -131,14 +131,14 @@ keyExpr kStr k = k
 keyExpr kNum k = k
 keyExpr kComputed k = kid 0 (kidsOf k)
 
--- "`Ps` (2 computed)"
+-- "`Ps` (1 readonly, 2 computed, 4 optional)"
 abbrev pub keyFlag : Key → ℕ
 keyFlag kIdent = 0
 keyFlag kStr = 0
 keyFlag kNum = 2
 keyFlag kComputed = 2
 
--- "`Ps` (1 readonly) expression type?"
+-- "`Ps` (1 readonly, 2 computed, 4 optional) expression type?"
 abbrev pub propertySignature : Rec → Bool → ℕ → Rec → Rec
 propertySignature key r f t = rec (fresh "Ps" (cond r 1 0 + f) []) (cons key (one t))
 
@@ -157,7 +157,7 @@ keyValue ks r o =
     let v : Out Rec = orAny o (diag "d2" (headOf (kid 1 ks)) ∷ []) in
     onValue (λ t. one (propertySignature (keyExpr (keyKind (markOf k)) k) r (keyFlag (keyKind (markOf k))) t)) v
 
--- `Prop::Shorthand` at h, with the type of its Id i: "untyped Sh skipped, d3 at it" (reading 10)
+-- `Prop::Shorthand` at h, with the type of its Id i: "untyped Sh .. skipped, d3 at it" (reading 10)
 abbrev pub shorthand : Head → Rec → Bool → Option Rec → ℕ → Out Recs
 shorthand h i r o n =
     given o (nil, diag "d3" h ∷ [], n) (λ t. (one (propertySignature (identAt (headOf i) (symbolOf i)) r 0 t), [], n))

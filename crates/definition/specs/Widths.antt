@@ -6,7 +6,8 @@ use Rattle.definition.specs.Tree.{Rec, Recs, rec, nil, cons}
 use Rattle.definition.specs.Grammar.{mark}
 use Rattle.definition.specs.Record.{markOf, textOf, kid}
 
--- "A `Kv` whose `Ki` has more than 65,531 bytes would make an `Id` whose text length no head can hold": no Kv of a tree has a Ki of more than `most`
+-- "A `Kv` whose `Ki` has more than 65,531 bytes makes an `Id` whose text length does not fit two bytes" (reading 20): no Kv of a tree has a Ki of
+-- more than `most`
 abbrev mutual
   pub KeysUpTo : ℕ → Rec → Type 0
   KeysUpTo most (rec h ks) = (h .mark ≡ mark "Kv" → markOf (kid 0 ks) ≡ mark "Ki" → length (textOf (kid 0 ks)) ≤ most) × AllKeysUpTo most ks

@@ -39,7 +39,7 @@ module _ (s : List ℕ) (at : ℕ) (ps : List Part) (h : Head) (code : ℕ) (is 
   mark-is : h .mark ≡ markAt s at
   mark-is = ap (λ (x : Head). x .mark) is
 
-  -- ---- "3 (head), 4, 5 (slot), 6"
+  -- ---- "3 (head), 4, 5 (slot; root must be Mo), 6"
 
   module _ (a : headSize ≤ length s - at) where
     number-is : place known (markAt s at) ≡ code

@@ -1,4 +1,5 @@
-// The check of a record with what it holds: document 01's "per record in preorder 7, 3 (head), 4, 5 (slot), 6, 3 (text), 5 (text, count)".
+// The check of a record with what it holds: document 01's "per record in preorder 7, 3 (head), 4, 5 (slot; root must be Mo), 6, 3 (text), 5 (text,
+// count)".
 ghost use mathlib.Core.Path.{_≡_};
 ghost use Prim.Native.Nat.{_+_, _≤_, _<_};
 ghost use lib.ListN.{length};

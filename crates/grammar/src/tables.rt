@@ -31,14 +31,14 @@ const PARTS: [u8; PLACES] =
 // How many places PARTS has.
 const PLACES: usize = 166;
 
-// What the entries of PARTS begin with: "T", "T*", and the child of a Pp.
+// What the entries of PARTS begin with: `T`, `T*`, and the child of a Pp.
 const ONE: usize = 1;
 
 const MANY: usize = 65;
 
 const PROPERTY: usize = 128;
 
-// The set "Bd Ag" of the child of a Pp.
+// The set `Bd|Ag` of the child of a Pp.
 const PROPERTY_SET: usize = 34;
 
 // The slots of the Ag of a Pp.

@@ -22,12 +22,13 @@ fieldsAt s at = record {
 abbrev pub fieldsOf : Tree.Head → ℕ → Head
 fieldsOf h n = record { mark = h .mark; flags = h .flags; start = h .start; end = h .end; text = length (h .text); count = n }
 
--- "mark (two ASCII letters), flags (1 byte), start and end (4 each), text length (2), child count (2)"
+-- "mark (two ASCII letters), flags (1 byte), start and end (4 each; what `range()` gives; 0,0 is `DUMMY_SP`), text length (2), child
+-- count (2)"
 unfoldable pub fieldBytes : Head → List ℕ
 fieldBytes h =
     le2 (h .mark) ++ ((h .flags % 256) ∷ (le4 (h .start) ++ (le4 (h .end) ++ (le2 (h .text) ++ le2 (h .count)))))
 
--- "A diagnostic is 10 bytes: `d1` to `d5`, start, end"
+-- "A diagnostic is 10 bytes"
 abbrev pub diagSize : ℕ
 diagSize = 10
 

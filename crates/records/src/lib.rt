@@ -40,7 +40,7 @@ const DIAGNOSTIC_END: usize = 6;
 // The largest position.
 const TOP: usize = 0xffff_ffff_ffff_ffff;
 
-// A record's head by value: "mark, flags, start and end, text length, child count".
+// A record's head by value: mark, flags, start and end, text length, child count.
 pub struct Head {
     pub mark: u16,
     pub flags: u8,
@@ -176,7 +176,7 @@ pub fn put(out: &mut [u8], p: usize, b: u8)
     }
 }
 
-// A number in two bytes, "little-endian", as far as there is room.
+// A number in two bytes, little-endian, as far as there is room.
 pub fn put2(out: &mut [u8], p: usize, v: usize)
     ensures { λ _. ⌜ now (out .exit) ≡ sets (now (out .entry)) p (le2 v) ⌝ }
 {

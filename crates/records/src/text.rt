@@ -11,7 +11,7 @@ use crate::marks::ID;
 use crate::text_at;
 use crate::u32_at;
 
-// "`Id`: 4-byte context, symbol"
+// "`Id` (1 optional): 4-byte context, symbol"
 const CONTEXT_SIZE: usize = 4;
 
 // Whether two texts are equal.

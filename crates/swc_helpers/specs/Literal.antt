@@ -12,7 +12,7 @@ use Rattle.swc_helpers.specs.declared.literals.Literal.the-variants.{Str
 
 -- ---- numbers
 
--- the number in eight bytes, "little-endian"
+-- the number in eight bytes, little-endian
 abbrev pub u64At : List ℕ → ℕ → ℕ
 u64At s i = u32At s i + 4294967296 * u32At s (i + 4)
 

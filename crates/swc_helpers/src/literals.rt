@@ -21,7 +21,7 @@ use records::marks::RE;
 use records::marks::SS;
 use records::marks::TL;
 
-// `Lit`: "A literal is a string, a number, a big integer, a boolean, null or a regex; also `Jt` (JSX text)". A string and a big integer are
+// `Lit`: "A literal is a string, a number, a big integer, a boolean, null or a regex", "also `Jt` (JSX text)". A string and a big integer are
 // the offsets of their records.
 pub enum Literal {
     Str(usize),

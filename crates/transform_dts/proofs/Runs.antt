@@ -60,7 +60,7 @@ module _ {o1 g1 : List ℕ} {r : State} {x : Out Rec} (dry : Makes [] o1 [] g1 s
   diags-kept : g1 ++ diags ≡ diags
   diags-kept = front-none g1 diags (dry .step .ran .dia .same)
 
-  -- "9: output longer than its buffer": a text that no head can hold (reading 20), or too many bytes
+  -- 9, "output longer than its buffer": a text that no head can hold (reading 20), or too many bytes
   pub text-too-long : r .fits ≡ false → Gives (written (x .0) (x .1) out diags) (Refused OutputFull 0) (o1 ++ out) (g1 ++ diags)
   unfolding written
   text-too-long f = rw (texts, f) (record { answer = refl; output = out-kept; diagnostics = diags-kept })
@@ -77,7 +77,7 @@ module _ {o1 g1 : List ℕ} {r : State} {x : Out Rec} (dry : Makes [] o1 [] g1 s
       output-fits : leb (length (encode (x .0))) (length out) ≡ true
       output-fits = le-leb (length (encode (x .0))) (length out) (omega (arith, output-size))
 
-      -- "10: diagnostics longer than theirs"
+      -- 10, "diagnostics longer than theirs"
       pub diagnostics-too-long : length diags < r .d → Gives (written (x .0) (x .1) out diags) (Refused DiagnosticsFull 0) (o1 ++ out) (g1 ++ diags)
       unfolding written
       diagnostics-too-long h =

@@ -1,7 +1,8 @@
 // Demand 3 on the exported call: what the transform made, transformed again.
+ghost use Rattle.definition.specs.Demand3.{Supposed};
 ghost use Rattle.definition.specs.Transform.{call};
 ghost use Rattle.transform_dts.specs.Answers.{Gives};
-ghost use Rattle.transform_dts.specs.Twice.{firstOf, GivesAgain, Unchanged};
+ghost use Rattle.transform_dts.specs.Twice.{firstOf, GivesAgain, Same};
 use crate::Answer;
 use crate::transform;
 use grammar::Refusal;
@@ -31,7 +32,9 @@ pub fn transform_twice(
         r (now (again .exit)) (now (others .exit))
         ⌝ }
     ensures demand3 { λ r. ⌜
-        Unchanged (now (tree .entry)) (now (list .entry)) «unresolved_context» r (now (out .exit)) (now (again .exit)) (now (others .exit))
+        (Supposed (now (tree .entry)) (now (list .entry)) «unresolved_context»
+        (now (out .entry)) (now (diagnostics .entry)) (now (again .entry)) (now (others .entry))
+        → Same (now (tree .entry)) (now (list .entry)) «unresolved_context» r (now (out .exit)) (now (again .exit)))
         ⌝ }
 {
     let first = transform(tree, list, unresolved_context, out, diagnostics);

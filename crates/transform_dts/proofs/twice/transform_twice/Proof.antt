@@ -37,7 +37,7 @@ same-length-4 : tie.Need-same-length-4
 same-length-4 c = search needs
 
 returns : tie.Need-returns
-returns c = again-all _ _ _ _ _ (c .before .before .before .before .before .before .before .before .before .before .before .before .before .before .before .transform .ensures) _ _ (c .before .before .before .before .before .before .before .before .before .first .given .1) (slice-bytes _ (c .before .before .before .before .before .before .before .before .before .before .before .before .before .before .before .before .before .before .before .before .before .before .before .shared-slice-known .given)) _ _ (c .before .before .before .before .transform2 .ensures) (c .before .before .before .before .transform2 .kept .1 .1 .1 .0) (c .before .before .before .before .transform2 .kept .1 .1 .1 .1 .0)
+returns c = again-all _ _ _ _ _ (c .before .before .before .before .before .before .before .before .before .before .before .before .before .before .before .transform .ensures) _ _ (c .before .before .before .before .before .before .before .before .before .first .given .1) (slice-bytes _ (c .before .before .before .before .before .before .before .before .before .before .before .before .before .before .before .before .before .before .before .before .before .before .before .shared-slice-known .given)) _ _ (c .before .before .before .before .transform2 .ensures)
 
 same-length-5 : tie.Need-same-length-5
 same-length-5 c = search needs
@@ -46,7 +46,7 @@ same-length-6 : tie.Need-same-length-6
 same-length-6 c = search needs
 
 returns-2 : tie.Need-returns-2
-returns-2 c = once-all _ _ _ _ _ (c .before .before .before .before .before .before .before .transform .ensures) _ _ (c .before .first2 .given .1) _ _
+returns-2 c = once-all _ _ _ _ _ (c .before .before .before .before .before .before .before .transform .ensures) _ _ (c .before .first2 .given .1) (slice-bytes _ (c .before .before .before .before .before .before .before .before .before .before .before .before .before .before .before .shared-slice-known .given)) _ _
 
 pub transform-twice-spec : {M : Type 1} → statement M
 transform-twice-spec =
