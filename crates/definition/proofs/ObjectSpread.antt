@@ -51,7 +51,7 @@ module _ (ids : PrescannedModuleIds) (ctx : ℕ) where
   -- a spread between other properties
   among-others : (before : Recs) (p : Rec) (after : Recs) (c r : Bool) (n : ℕ) → markOf p ≡ mark "Sp" →
       (props ids ctx (join before (cons p after)) c r n .0 ≡ props ids ctx (join before after) c r n .0)
-      × Given (diag "d4" (headOf p)) (props ids ctx (join before (cons p after)) c r n .1)
+      × Given (props ids ctx (join before (cons p after)) c r n .1) (diag "d4" (headOf p))
   unfolding props
   among-others nil p after c r n e = rw (spread-skipped p c r n e) (refl, piece-left _ (piece-whole _))
   among-others (cons q before) p after c r n e =
@@ -63,7 +63,7 @@ module _ (ids : PrescannedModuleIds) (ctx : ℕ) where
       (members : Recs)
       × (exprToTsType ids ctx (rec h (join before (cons p after))) c r n .0 ≡ some (rec (ranged "Li" h []) members))
       × (exprToTsType ids ctx (rec h (join before after)) c r n .0 ≡ some (rec (ranged "Li" h []) members))
-      × Given (diag "d4" (headOf p)) (exprToTsType ids ctx (rec h (join before (cons p after))) c r n .1)
+      × Given (exprToTsType ids ctx (rec h (join before (cons p after))) c r n .1) (diag "d4" (headOf p))
   unfolding exprToTsType exprBy exprKind marks member
   spread-left-out h before p after c r n m e =
       let a = among-others before p after c r n e in
