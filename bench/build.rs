@@ -1,10 +1,8 @@
-// Links the archives that `rt staticlib grammar` and, for the binary `transform`, `rt staticlib transform_dts` write.
+// Links the archive that `rt staticlib dts` writes.
 fn main() {
     let root = std::env::var("CARGO_MANIFEST_DIR").unwrap();
     let archives = format!("{root}/../target/staticlib");
     println!("cargo:rustc-link-search=native={archives}");
-    println!("cargo:rustc-link-lib=static=grammar");
-    println!("cargo:rerun-if-changed={archives}/libgrammar.a");
-    println!("cargo:rustc-link-arg-bin=transform={archives}/libtransform_dts.a");
-    println!("cargo:rerun-if-changed={archives}/libtransform_dts.a");
+    println!("cargo:rustc-link-lib=static=dts");
+    println!("cargo:rerun-if-changed={archives}/libdts.a");
 }

@@ -1,17 +1,12 @@
 /* The exported call from C: the declarations of the module whose tree stands in standard input, with an empty overload list and the unresolved
    context 1. Prints what the program `declares` prints.
 
-       rt staticlib transform_dts
-       cc examples/call.c target/staticlib/libtransform_dts.a -o call
+       rt staticlib dts
+       cc -Iinclude examples/call.c target/staticlib/libdts.a -o call
        ./call < crates/declares/stdin
 */
-#include <stdint.h>
+#include "dts.h"
 #include <stdio.h>
-
-/* A slice is a pointer and a length. Returns 0 and sets answer to the bytes written and the number of diagnostics, or returns the refusal's number
-   and sets answer to its place and 0; both buffers then hold what they held before. */
-uint32_t dts_transform(const uint8_t *tree, size_t tree_length, const uint8_t *list, size_t list_length, uint32_t unresolved_context,
-                       uint8_t *out, size_t out_length, uint8_t *diagnostics, size_t diagnostics_length, uint64_t answer[2]);
 
 static uint8_t tree[32769], out[65536], diagnostics[21840];
 

@@ -1,30 +1,6 @@
 //! The exported call on wide expressions, timed: how many times the time twice the elements take.
-use bench::record;
+use bench::{record, transform};
 use std::time::{Duration, Instant};
-
-unsafe extern "C" {
-    fn dts_transform(
-        tree: *const u8,
-        tree_len: usize,
-        list: *const u8,
-        list_len: usize,
-        unresolved_context: u32,
-        out: *mut u8,
-        out_len: usize,
-        diagnostics: *mut u8,
-        diagnostics_len: usize,
-        answer: *mut [u64; 2],
-    ) -> u32;
-}
-
-/// The exported call with an empty list and 1 as the unresolved context: 0, and the bytes written and the number of diagnostics.
-fn transform(tree: &[u8], out: &mut [u8], diagnostics: &mut [u8]) -> (u32, [u64; 2]) {
-    let mut answer = [0; 2];
-    let (o, d) = (out.len(), diagnostics.len());
-    let (out, diagnostics) = (out.as_mut_ptr(), diagnostics.as_mut_ptr());
-    let number = unsafe { dts_transform(tree.as_ptr(), tree.len(), tree.as_ptr(), 0, 1, out, o, diagnostics, d, &mut answer) };
-    (number, answer)
-}
 
 fn leaf(mark: &str) -> Vec<u8> {
     record(mark, &[], &[])

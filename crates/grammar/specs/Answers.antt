@@ -32,12 +32,3 @@ checked (Refused n p) = refused (number n) p
 abbrev pub opening : Opening → Check.Opening
 opening (Opened body count slot) = opened body count (partsFrom slot)
 opening (Stopped n) = stopped (number n)
-
--- the two numbers that the C function `dts_check` gives: 0 and the tree's length, or the refusal's number and its place
-abbrev pub foundNumber : Check.Checked → ℕ
-foundNumber (fine e) = 0
-foundNumber (refused n p) = n
-
-abbrev pub foundPlace : Check.Checked → ℕ
-foundPlace (fine e) = e
-foundPlace (refused n p) = p

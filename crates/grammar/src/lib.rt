@@ -1,7 +1,7 @@
 // The check of a tree and of an overload list: refusals 1 to 8 of document 01's table, in its order and with its places.
 ghost use mathlib.Core.Path.{_≡_};
 ghost use Rattle.definition.specs.Check.{checkTree};
-ghost use Rattle.grammar.specs.Answers.{checked, number, foundNumber, foundPlace};
+ghost use Rattle.grammar.specs.Answers.{checked, number};
 
 pub mod overloads;
 mod record;
@@ -70,24 +70,5 @@ pub fn number_of(refusal: Refusal) -> u32
         Refusal::TrailingBytes => 8,
         Refusal::OutputFull => 9,
         Refusal::DiagnosticsFull => 10,
-    }
-}
-
-// `check_tree` for C and Rust: 0 and the tree's length in `place`, or the refusal's number and its place there.
-#[no_mangle]
-pub extern "C" fn dts_check(tree: &[u8], list: &[u8], place: &mut u64) -> u32
-    ensures number { λ r. ⌜ r ≡ foundNumber (checkTree (now (tree .entry)) (now (list .entry))) ⌝ }
-    ensures place { λ r. ⌜ now (place .exit) ≡ foundPlace (checkTree (now (tree .entry)) (now (list .entry))) ⌝ }
-{
-    let found = check_tree(tree, list);
-    match found {
-        Checked::Fine(end) => {
-            *place = end as u64;
-            0
-        }
-        Checked::Refused(refusal, at) => {
-            *place = at as u64;
-            number_of(refusal)
-        }
     }
 }

@@ -1,13 +1,13 @@
--- The exported call: what the check found decides, and the two numbers of the C function follow from the answer. Assumes nothing.
+-- The exported call: what the check found decides. Assumes nothing.
 use mathlib.Core.Path.{_≡_, refl, sym, ap, _∙_}
-use mathlib.Core.List.{List, [], _∷_}
+use mathlib.Core.List.{List}
 use Prim.Native.Nat.{ℕ, _*_, _≤_}
 use native.Mathlib.Omega.{arith}
 use lib.ListN.{length, take}
 use lib.Seq.{length-take-le}
 use Rattle.definition.specs.Check.{fine, refused, deepest, checkTree}
 use Rattle.definition.specs.Children.{AcceptedAt}
-use Rattle.definition.specs.Transform.{done, refused as refusal, Result, callBy, call}
+use Rattle.definition.specs.Transform.{done, callBy, call}
 use Rattle.definition.proofs.Calls.{Beyond, success-keeps}
 use Rattle.definition.proofs.Children.{root-accepted}
 use Rattle.grammar.specs.Answers.{number, checked}
@@ -16,7 +16,7 @@ use Rattle.grammar.specs.declared.Checked.{Checked}
 use Rattle.grammar.specs.declared.Checked.the-variants.{Fine, Refused as Rejected}
 use Rattle.transform_dts.specs.declared.Answer.{Answer}
 use Rattle.transform_dts.specs.declared.Answer.the-variants.{Done, Refused}
-use Rattle.transform_dts.specs.Answers.{writtenOf, answered, Gives, codeOf, pairOf}
+use Rattle.transform_dts.specs.Answers.{writtenOf, answered, Gives}
 
 module _ (tree list : List ℕ) {f : Checked} (c : checked f ≡ checkTree tree list) where
   -- ---- refusals 1 to 8
@@ -61,20 +61,3 @@ module _ (tree list : List ℕ) (ctx : ℕ) (out diags : List ℕ) {a : Answer} 
 
   pub marked-length : k * 10 ≡ length (take (k * 10) g)
   marked-length = sym (length-take-le (k * 10) g marked-inside)
-
--- ---- the C function
-
--- the number, the pair and both buffers
-abbrev pub Coded : Result → ℕ → List ℕ → List ℕ → List ℕ → Type 0
-Coded z code pair out diags = (code ≡ codeOf (z .answer)) × ((pair ≡ pairOf (z .answer)) × ((out ≡ z .out) × (diags ≡ z .diagnostics)))
-
-module _ (z : Result) {a : Answer} {o g : List ℕ} (w : Gives z a o g) where
-  pub coded-done : (n k : ℕ) → a ≡ Done n k → Coded z 0 (n ∷ k ∷ []) o g
-  coded-done n k q =
-      let e : done n k ≡ z .answer = sym (ap answered q) ∙ w .answer in
-      (ap codeOf e, (ap pairOf e, (w .output, w .diagnostics)))
-
-  pub coded-refused : (n : Refusal) (p : ℕ) {code : ℕ} → a ≡ Refused n p → code ≡ number n → Coded z code (p ∷ 0 ∷ []) o g
-  coded-refused n p q c =
-      let e : refusal (number n) p ≡ z .answer = sym (ap answered q) ∙ w .answer in
-      (c ∙ ap codeOf e, (ap pairOf e, (w .output, w .diagnostics)))

@@ -2,7 +2,7 @@
 use Prim.Native.Nat.{ℕ}
 use mathlib.Core.Path.{_≡_}
 use mathlib.Core.Bool.{true}
-use mathlib.Core.List.{List, [], _∷_}
+use mathlib.Core.List.{List}
 use Rattle.definition.specs.Tree.{Rec, treeAt}
 use Rattle.definition.specs.Check.{deepest}
 use Rattle.definition.specs.Record.{Out}
@@ -35,12 +35,3 @@ pub record Gives (x : Result) (r : Answer) (out diags : List ℕ) : Type 0 where
   pub answer : answered r ≡ x .answer
   pub output : out ≡ x .out
   pub diagnostics : diags ≡ x .diagnostics
-
--- the two numbers of the C function: 0 with (bytes written, diagnostics), or the refusal's number with (place, 0)
-abbrev pub codeOf : Transform.Answer → ℕ
-codeOf (done n k) = 0
-codeOf (refused n p) = n
-
-abbrev pub pairOf : Transform.Answer → List ℕ
-pairOf (done n k) = n ∷ k ∷ []
-pairOf (refused n p) = p ∷ 0 ∷ []

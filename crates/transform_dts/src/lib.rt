@@ -4,7 +4,7 @@ ghost use Rattle.definition.specs.Check.{deepest};
 ghost use Rattle.definition.specs.Children.{AcceptedAt};
 ghost use Rattle.definition.specs.Transform.{call};
 ghost use Rattle.parts.specs.Makes.{Makes};
-ghost use Rattle.transform_dts.specs.Answers.{start, transformed, writtenOf, Gives, codeOf, pairOf};
+ghost use Rattle.transform_dts.specs.Answers.{start, transformed, writtenOf, Gives};
 use grammar::Checked;
 use grammar::Refusal;
 use prescan::Scope;
@@ -124,44 +124,5 @@ pub fn transform(
     match grammar::check_tree(tree, list) {
         Checked::Refused(refusal, place) => Answer::Refused(refusal, place),
         Checked::Fine(end) => accepted(tree, list, unresolved_context, out, diagnostics),
-    }
-}
-
-// `transform` for C and Rust: 0 with the bytes written and the number of diagnostics in `answer`, or the refusal's number with its place and 0
-// there.
-#[no_mangle]
-pub extern "C" fn dts_transform(
-    tree: &[u8],
-    list: &[u8],
-    unresolved_context: u32,
-    out: &mut [u8],
-    diagnostics: &mut [u8],
-    answer: &mut [u64; 2],
-) -> u32
-    ensures number { λ r. ⌜
-        r ≡ codeOf (call (now (tree .entry)) (now (list .entry)) «unresolved_context» (now (out .entry)) (now (diagnostics .entry)) .answer)
-        ⌝ }
-    ensures pair { λ r. ⌜
-        now (answer .exit)
-        ≡ pairOf (call (now (tree .entry)) (now (list .entry)) «unresolved_context» (now (out .entry)) (now (diagnostics .entry)) .answer)
-        ⌝ }
-    ensures output { λ r. ⌜
-        now (out .exit) ≡ call (now (tree .entry)) (now (list .entry)) «unresolved_context» (now (out .entry)) (now (diagnostics .entry)) .out
-        ⌝ }
-    ensures diagnostics { λ r. ⌜
-        now (diagnostics .exit)
-        ≡ call (now (tree .entry)) (now (list .entry)) «unresolved_context» (now (out .entry)) (now (diagnostics .entry)) .diagnostics
-        ⌝ }
-{
-    let made = transform(tree, list, unresolved_context, out, diagnostics);
-    match made {
-        Answer::Done(length, count) => {
-            *answer = [length as u64, count as u64];
-            0
-        }
-        Answer::Refused(refusal, place) => {
-            *answer = [place as u64, 0];
-            grammar::number_of(refusal)
-        }
     }
 }

@@ -1,8 +1,8 @@
 -- `dts_transform` meets its contract: both numbers and both buffers are those of the call. Assumes nothing.
-use Rattle.transform_dts.proofs.Calls.{coded-done, coded-refused}
+use Rattle.dts.proofs.Codes.{coded-done, coded-refused}
 use borrow.Author.Needs.{needs}
-use Rattle.transform_dts.proofs.dts_transform.Statement.{statement}
-use Rattle.transform_dts.proofs.dts_transform.Tie as tie
+use Rattle.dts.proofs.dts_transform.Statement.{statement}
+use Rattle.dts.proofs.dts_transform.Tie as tie
 
 transform-requires : tie.Need-transform-requires
 transform-requires c κs = search needs

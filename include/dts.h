@@ -1,0 +1,42 @@
+/* Declaration trees: the proved declaration transform, for C.
+
+   Link libdts.a, which `rt staticlib dts` proves and writes. A module is a tree of flat records (document 01); an overload list holds entries of
+   10 bytes. Each function takes any bytes, lists, numbers and lengths: nothing has to be tested first, but memory has to be there for as many
+   bytes as a length says (a pointer with length 0 may point anywhere, but not be null).
+
+   Each function returns 0, or the number of a refusal, with its place in answer[0] and 0 in answer[1]; what is lent to be written then holds what it
+   held before:
+
+     1  the tree is over 524,288 bytes                               6  a record's start is behind its end
+     2  the list is over 40,960 bytes, no whole entries, or          7  more than 64 levels
+        has a wrong mark or a start behind its end                   8  bytes after the root
+     3  a head or a text runs past the tree                          9  the output is longer than its buffer
+     4  an unknown mark                                             10  the diagnostics are longer than theirs
+     5  a mark that its slot doesn't allow, a wrong form of
+        text, or too few children
+
+   The place is the record's offset for 3 to 7, that of the first extra byte for 8, else 0. */
+#ifndef DTS_H
+#define DTS_H
+
+#include <stddef.h>
+#include <stdint.h>
+
+#ifdef __cplusplus
+extern "C" {
+#endif
+
+/* Refusals 1 to 8 of a tree and an overload list. Success: answer is the tree's length and 0. */
+uint32_t dts_check(const uint8_t *tree, size_t tree_length, const uint8_t *list, size_t list_length, uint64_t answer[2]);
+
+/* The declarations of a module. `list` has the ranges of the overloads' implementations; `unresolved_context` is the context of the names that no
+   scope declares. Success: answer[0] bytes of declarations, a tree too, stand at the start of `out`, and answer[1] diagnostics of 10 bytes at the
+   start of `diagnostics`; every byte beyond is as it was. */
+uint32_t dts_transform(const uint8_t *tree, size_t tree_length, const uint8_t *list, size_t list_length, uint32_t unresolved_context,
+                       uint8_t *out, size_t out_length, uint8_t *diagnostics, size_t diagnostics_length, uint64_t answer[2]);
+
+#ifdef __cplusplus
+}
+#endif
+
+#endif
