@@ -84,11 +84,16 @@ second-there left s at e f = f ∙ (ap (endAt (left - 1) s) e ∙ sym (child-1 l
 
 -- ---- a generated name, and a const before its type
 
-pub unique-put : {o o1 o2 o3 : List ℕ} {p q r t : ℕ} (k counter : ℕ) → length o < 2 ^ 64 → k ≡ length (genUniqueName counter) → Put o o1 p (fieldBytes (freshFields (mark "Id") 0 (4 + k) 0)) q → Put o1 o2 q (le4 0) r
-    → Put o2 o3 r (genUniqueName counter) t → Put o o3 p (encode (ident (genUniqueName counter))) t
-unique-put k counter l e a b c =
-    put-as (put-put l (put-put l a b) c)
-    (append-assoc (fieldBytes (freshFields (mark "Id") 0 (4 + k) 0)) (le4 0) (genUniqueName counter) ∙ unique-is 0 0 k (genUniqueName counter) e)
+pub front-put : {o o1 o2 : List ℕ} {p q r : ℕ} (k counter : ℕ) → length o < 2 ^ 64 → k ≡ length (genUniqueName counter) → Put o o1 p (fieldBytes (freshFields (mark "Id") 0 (4 + k) 0)) q → Put o1 o2 q (le4 0) r
+    → Put o o2 p (fieldBytes (freshFields (mark "Id") 0 (4 + length (genUniqueName counter)) 0) ++ le4 0) r
+front-put k counter l e a b = put-put l (rw e at a) b
+
+pub unique-put : {o o1 o2 : List ℕ} {p q r : ℕ} (counter : ℕ) → length o < 2 ^ 64 → Put o o1 p (fieldBytes (freshFields (mark "Id") 0 (4 + length (genUniqueName counter)) 0) ++ le4 0) q
+    → Put o1 o2 q (genUniqueName counter) r → Put o o2 p (encode (ident (genUniqueName counter))) r
+unique-put counter l a b =
+    let k : ℕ = length (genUniqueName counter) in
+    put-as (put-put l a b)
+    (append-assoc (fieldBytes (freshFields (mark "Id") 0 (4 + k) 0)) (le4 0) (genUniqueName counter) ∙ unique-is 0 0 k (genUniqueName counter) refl)
 
 pub const-put : {o o1 o2 o3 o4 : List ℕ} {p q r t u : ℕ} (counter : ℕ) → length o < 2 ^ 64 → Put o o1 p (fieldBytes (freshFields (mark "Vd") 3 0 1)) q → Put o1 o2 q (fieldBytes (freshFields (mark "Vr") 0 0 2)) r
     → Put o2 o3 r (fieldBytes (freshFields (mark "Bd") 0 0 2)) t → Put o3 o4 t (encode (ident (genUniqueName counter))) u → Put o o4 p (constFront counter) u

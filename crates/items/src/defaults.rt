@@ -1,6 +1,9 @@
 // `ModuleDecl::ExportDefaultDecl` and `ModuleDecl::ExportDefaultExpr`.
 ghost use mathlib.Core.Path.{_≡_};
-ghost use Rattle.definition.specs.Tree.{rec, encode, markAt, bodyAt, headAt, treeAt};
+ghost use mathlib.Core.List.{_++_};
+ghost use Prim.Native.Nat.{_+_, _<_, _^_};
+ghost use lib.ListN.{length};
+ghost use Rattle.definition.specs.Tree.{rec, encode, le4, markAt, bodyAt, headAt, treeAt};
 ghost use Rattle.definition.specs.Grammar.{mark};
 ghost use Rattle.definition.specs.Children.{AcceptedAt, childAt};
 ghost use Rattle.definition.specs.Record.{ident, kidsOf, setKid};
@@ -16,6 +19,7 @@ use crate::decls::with_class;
 use crate::vars::readonly;
 use classes::overloads::is_impl_with_overloads;
 use names::unique;
+use names::unique::Made;
 use parts::keep;
 use parts::keep_all;
 use parts::put_front;
@@ -138,24 +142,47 @@ fn put_fresh(mark: u16, flags: u8, text: usize, count: usize, out: &mut [u8], p:
     records::put_head(out, p, head)
 }
 
-// `Ident::new(name, DUMMY_SP, ..)` with a generated name.
-fn put_unique_ident(counter: usize, out: &mut [u8], p: usize) -> usize
-    ensures { λ r. ⌜ Put (now (out .entry)) (now (out .exit)) p (encode (ident (genUniqueName counter))) r ⌝ }
+// What stands before the name of an Id with the name that the counter gave: its head and its context.
+fn put_ident_front(counter: usize, out: &mut [u8], p: usize) -> usize
+    ensures { λ r. ⌜
+        Put (now (out .entry)) (now (out .exit)) p
+        (fieldBytes (freshFields (mark "Id") 0 (4 + length (genUniqueName counter)) 0) ++ le4 0) r
+        ⌝ }
 {
     let length = CONTEXT_SIZE + unique::unique_name_length(counter);
     let q = put_fresh(ID, 0, length, 0, out, p);
-    let r = records::put_text(out, q, b"\0\0\0\0");
-    unique::gen_unique_name(counter, out, r)
+    records::put_text(out, q, b"\0\0\0\0")
 }
 
-// "a declared const, named _dts_1 at the first", before its type.
-fn put_const_front(counter: usize, out: &mut [u8], p: usize) -> usize
-    ensures { λ r. ⌜ Put (now (out .entry)) (now (out .exit)) p (constFront counter) r ⌝ }
+// `Ident::new(name, DUMMY_SP, ..)` with a name that is generated: the counter `n` is raised.
+fn put_new_ident(n: usize, out: &mut [u8], p: usize) -> Made
+    requires { ⌜ n + 1 < 2 ^ 64 ⌝ }
+    ensures { λ r. ⌜
+        (r .«id_counter» ≡ n + 1)
+        × Put (now (out .entry)) (now (out .exit)) p (encode (ident (genUniqueName (n + 1)))) (r .p)
+        ⌝ }
+{
+    let q = put_ident_front(n + 1, out, p);
+    unique::make_unique_name(n, out, q)
+}
+
+// The same name once more: `name.clone()`.
+fn put_unique_ident(counter: usize, out: &mut [u8], p: usize) -> usize
+    ensures { λ r. ⌜ Put (now (out .entry)) (now (out .exit)) p (encode (ident (genUniqueName counter))) r ⌝ }
+{
+    let q = put_ident_front(counter, out, p);
+    unique::put_unique_name(counter, out, q)
+}
+
+// "a declared const, named _dts_1 at the first", before its type: the counter `n` is raised.
+fn put_const_front(n: usize, out: &mut [u8], p: usize) -> Made
+    requires { ⌜ n + 1 < 2 ^ 64 ⌝ }
+    ensures { λ r. ⌜ (r .«id_counter» ≡ n + 1) × Put (now (out .entry)) (now (out .exit)) p (constFront (n + 1)) (r .p) ⌝ }
 {
     let q = put_fresh(VD, 3, 0, 1, out, p);
     let r = put_fresh(VR, 0, 0, 2, out, q);
     let t = put_fresh(BD, 0, 0, 2, out, r);
-    put_unique_ident(counter, out, t)
+    put_new_ident(n, out, t)
 }
 
 // The Xe at `at` with the generated name for its expression; `rest` is what stands behind that.
@@ -202,10 +229,11 @@ pub fn export_default_expr(
         let next = keep(tree, at, left, out, s);
         return Counted { s: next, count: 1 };
     }
-    let counter = s.n + 1;
+    let named = put_const_front(s.n, out, s.p);
+    let counter = named.id_counter;
     let mut front = s;
     front.n = counter;
-    front.p = put_const_front(counter, out, s.p);
+    front.p = named.p;
     match typing::expr_to_ts_type(
         tree,
         expr,

@@ -415,10 +415,14 @@ fn show_tree(tree: &[u8]) {
     }
 }
 
-// `gen_unique_name`, where the counter becomes this number.
-fn show_name(counter: usize) {
+// `gen_unique_name`, where the counter is raised to this number.
+fn show_name(raised: usize) {
+    if raised == 0 {
+        return;
+    }
     let mut out = io::buffer();
-    let end = names::unique::gen_unique_name(counter, &mut out, 0);
+    let named = names::unique::make_unique_name(raised - 1, &mut out, 0);
+    let end = named.p;
     if end <= out.len() {
         print(&out[..end]);
     }

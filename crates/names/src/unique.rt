@@ -1,6 +1,6 @@
-// `gen_unique_name`, with the counter by value, already raised.
+// Names that are made: `gen_unique_name`, and the counter that it raises.
 ghost use mathlib.Core.Path.{_≡_};
-ghost use Prim.Native.Nat.{_≤_};
+ghost use Prim.Native.Nat.{_+_, _<_, _≤_, _^_};
 ghost use lib.ListN.{length};
 ghost use Rattle.definition.specs.Names.{decimal, genUniqueName};
 ghost use Rattle.records.specs.Wrote.{Put};
@@ -34,17 +34,57 @@ fn decimal_length(n: usize) -> usize
     digits
 }
 
-// `format!("_dts_{}", self.id_counter)`, from p on.
-pub fn gen_unique_name(counter: usize, out: &mut [u8], p: usize) -> usize
-    ensures { λ r. ⌜ Put (now (out .entry)) (now (out .exit)) p (genUniqueName counter) r ⌝ }
+// The state that names are made of: `id_counter` of `FastCheckDtsTransformer`.
+pub struct Names {
+    pub id_counter: usize,
+}
+
+// A name that was made: the position behind it, and the counter that it was made of.
+pub struct Made {
+    pub p: usize,
+    pub id_counter: usize,
+}
+
+// `format!("_dts_{}", self.id_counter)`, from p on: the name that the counter gave, also where it stands again (`name.clone()`).
+pub fn put_unique_name(id_counter: usize, out: &mut [u8], p: usize) -> usize
+    ensures { λ r. ⌜ Put (now (out .entry)) (now (out .exit)) p (genUniqueName «id_counter») r ⌝ }
 {
     let q = put_text(out, p, b"_dts_");
-    put_decimal(counter, out, q)
+    put_decimal(id_counter, out, q)
 }
 
 // How long that name is.
-pub fn unique_name_length(counter: usize) -> usize
-    ensures { λ r. ⌜ (r ≡ length (genUniqueName counter)) × (r ≤ 25) ⌝ }
+pub fn unique_name_length(id_counter: usize) -> usize
+    ensures { λ r. ⌜ (r ≡ length (genUniqueName «id_counter»)) × (r ≤ 25) ⌝ }
 {
-    5 + decimal_length(counter)
+    5 + decimal_length(id_counter)
+}
+
+// `gen_unique_name`: "The name counter is lent by &mut to the step that makes a name". It is raised, and the name is written.
+pub fn gen_unique_name<'s, 'o>(names: &'s mut Names, out: &'o mut [u8], p: usize) -> usize
+    requires { ⌜ now names .«id_counter» + 1 < 2 ^ 64 ⌝ }
+    ensures { λ r. ⌜
+        (now (names .exit) .«id_counter» ≡ now (names .entry) .«id_counter» + 1)
+        × Put (now (out .entry)) (now (out .exit)) p (genUniqueName (now (names .entry) .«id_counter» + 1)) r
+        ⌝ }
+{
+    let raised = names.id_counter + 1;
+    names.id_counter = raised;
+    put_unique_name(raised, out, p)
+}
+
+// The same where the counter is had by value: it is lent for this one name.
+pub fn make_unique_name(id_counter: usize, out: &mut [u8], p: usize) -> Made
+    requires { ⌜ «id_counter» + 1 < 2 ^ 64 ⌝ }
+    ensures { λ r. ⌜
+        (r .«id_counter» ≡ «id_counter» + 1)
+        × Put (now (out .entry)) (now (out .exit)) p (genUniqueName («id_counter» + 1)) (r .p)
+        ⌝ }
+{
+    let mut names = Names { id_counter };
+    let end = gen_unique_name(&mut names, out, p);
+    Made {
+        p: end,
+        id_counter: names.id_counter,
+    }
 }

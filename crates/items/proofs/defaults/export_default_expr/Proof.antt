@@ -37,20 +37,17 @@ same-length c = search needs
 returns : tie.Need-returns
 returns c = expr-name _ (c .before .before .before .before .before .before .before .before .before .before .args .scope) _ _ (xe-kids _ _ _ (c .before .before .before .before .before .before .before .before .before .before .pre .0 .accepted) (c .before .before .before .before .before .before .before .before .before .before .pre .1) (c .before .before .before .before .before .before .body-at .ensures) refl) _ (told (c .before .before .before .before .before .mark-at .ensures .0) (c .before .before .before .before .if1 .taken)) (c .before .before .keep .ensures) (omega (arith, c .before .before .before .before .before .before .before .before .before .before .good))
 
-add-counter : tie.Need-add-counter
-add-counter c = search needs
-
 put-const-front-requires : tie.Need-put-const-front-requires
-put-const-front-requires c κs = search needs
+put-const-front-requires c κs = omega (arith, c .before .before .before .before .before .before .before .good, c .before .before .before .before .before .before .before .pre .0 .low, itself _ _ _ (c .before .before .before .before .before .before .before .pre .0 .accepted) .room)
 
 sub-expr-to-ts-type : tie.Need-sub-expr-to-ts-type
-sub-expr-to-ts-type c = omega (arith, some-left _ _ _ (c .before .before .before .before .before .before .before .before .before .before .before .pre .0 .accepted))
+sub-expr-to-ts-type c = omega (arith, some-left _ _ _ (c .before .before .before .before .before .before .before .before .before .before .pre .0 .accepted))
 
 readonly-requires : tie.Need-readonly-requires
 readonly-requires c κs = search needs
 
 expr-to-ts-type-requires : tie.Need-expr-to-ts-type-requires
-expr-to-ts-type-requires c κs = ready-mode (c .before .before .readonly .ensures) (expr-ready (c .before .before .before .before .before .before .before .before .before .before .before .before .before .before .pre .0) (xe-kids _ _ _ (c .before .before .before .before .before .before .before .before .before .before .before .before .before .before .pre .0 .accepted) (c .before .before .before .before .before .before .before .before .before .before .before .before .before .before .pre .1) (c .before .before .before .before .before .before .before .before .before .before .body-at .ensures) refl) (c .before .before .before .before .before .before .before .before .before .before .body-at .ensures))
+expr-to-ts-type-requires c κs = rw (c .before .before .before .before .before .put-const-front .ensures .0) (ready-mode (c .before .before .readonly .ensures) (expr-ready (c .before .before .before .before .before .before .before .before .before .before .before .before .before .pre .0) (xe-kids _ _ _ (c .before .before .before .before .before .before .before .before .before .before .before .before .before .pre .0 .accepted) (c .before .before .before .before .before .before .before .before .before .before .before .before .before .pre .1) (c .before .before .before .before .before .before .before .before .before .body-at .ensures) refl) (c .before .before .before .before .before .before .before .before .before .body-at .ensures)))
 
 enum-known-typed : tie.Need-enum-known-typed
 enum-known-typed c = search needs
@@ -59,13 +56,13 @@ put-absent-requires : tie.Need-put-absent-requires
 put-absent-requires c κs = search needs
 
 sub-record-end : tie.Need-sub-record-end
-sub-record-end c = omega (arith, some-left _ _ _ (c .before .before .before .before .before .before .before .before .before .before .before .before .before .before .before .before .before .before .before .before .before .before .before .before .before .before .pre .0 .accepted))
+sub-record-end c = omega (arith, some-left _ _ _ (c .before .before .before .before .before .before .before .before .before .before .before .before .before .before .before .before .before .before .before .before .before .before .before .before .before .pre .0 .accepted))
 
 record-end-requires : tie.Need-record-end-requires
-record-end-requires c κs = is-whole _ _ _ (xe-kids _ _ _ (c .before .before .before .before .before .before .before .before .before .before .before .before .before .before .before .before .before .before .before .before .before .before .before .before .before .before .pre .0 .accepted) (c .before .before .before .before .before .before .before .before .before .before .before .before .before .before .before .before .before .before .before .before .before .before .before .before .before .before .pre .1) (c .before .before .before .before .before .before .before .before .before .before .before .before .before .before .before .before .before .before .before .before .before .before .body-at .ensures) refl .first)
+record-end-requires c κs = is-whole _ _ _ (xe-kids _ _ _ (c .before .before .before .before .before .before .before .before .before .before .before .before .before .before .before .before .before .before .before .before .before .before .before .before .before .pre .0 .accepted) (c .before .before .before .before .before .before .before .before .before .before .before .before .before .before .before .before .before .before .before .before .before .before .before .before .before .pre .1) (c .before .before .before .before .before .before .before .before .before .before .before .before .before .before .before .before .before .before .before .before .before .body-at .ensures) refl .first)
 
 put-default-name-requires : tie.Need-put-default-name-requires
-put-default-name-requires c κs = ((c .before .before .before .before .before .before .before .before .before .before .before .before .before .before .before .before .before .before .before .before .before .before .before .before .before .before .before .before .pre .0 .accepted, c .before .before .before .before .before .before .before .before .before .before .before .before .before .before .before .before .before .before .before .before .before .before .before .before .before .before .before .before .pre .1), second-there _ _ _ (c .before .before .before .before .before .before .before .before .before .before .before .before .before .before .before .before .before .before .before .before .before .before .before .before .body-at .ensures) (c .before .record-end .ensures))
+put-default-name-requires c κs = ((c .before .before .before .before .before .before .before .before .before .before .before .before .before .before .before .before .before .before .before .before .before .before .before .before .before .before .before .pre .0 .accepted, c .before .before .before .before .before .before .before .before .before .before .before .before .before .before .before .before .before .before .before .before .before .before .before .before .before .before .before .pre .1), second-there _ _ _ (c .before .before .before .before .before .before .before .before .before .before .before .before .before .before .before .before .before .before .before .before .before .before .before .body-at .ensures) (c .before .record-end .ensures))
 
 enum-known-failed : tie.Need-enum-known-failed
 enum-known-failed c = search needs
@@ -74,13 +71,13 @@ back-requires : tie.Need-back-requires
 back-requires c κs = search needs
 
 keep-requires-2 : tie.Need-keep-requires-2
-keep-requires-2 c κs = c .before .before .before .before .before .before .before .before .before .before .before .before .before .before .before .before .before .before .before .before .before .before .before .before .pre .0 .accepted
+keep-requires-2 c κs = c .before .before .before .before .before .before .before .before .before .before .before .before .before .before .before .before .before .before .before .before .before .before .before .pre .0 .accepted
 
 same-length-3 : tie.Need-same-length-3
 same-length-3 c = search needs
 
 returns-2 : tie.Need-returns-2
-returns-2 c = expr-typed _ (c .before .before .before .before .before .before .before .before .before .before .before .before .before .before .before .before .before .before .before .before .before .before .before .before .before .before .before .before .before .before .before .args .scope) _ _ (xe-kids _ _ _ (c .before .before .before .before .before .before .before .before .before .before .before .before .before .before .before .before .before .before .before .before .before .before .before .before .before .before .before .before .before .before .before .pre .0 .accepted) (c .before .before .before .before .before .before .before .before .before .before .before .before .before .before .before .before .before .before .before .before .before .before .before .before .before .before .before .before .before .before .before .pre .1) (c .before .before .before .before .before .before .before .before .before .before .before .before .before .before .before .before .before .before .before .before .before .before .before .before .before .before .before .body-at .ensures) refl) (c .before .before .before .before .before .before .before .before .before .before .before .before .before .before .before .before .before .before .before .before .before .before .before .before .before .before .before .before .before .before .before .args .s) (told-not (c .before .before .before .before .before .before .before .before .before .before .before .before .before .before .before .before .before .before .before .before .before .before .before .before .before .before .mark-at .ensures .0) (c .before .before .before .before .before .before .before .before .before .before .before .before .before .before .before .before .before .before .before .before .before .before .before .before .before .if1 .left)) (c .before .before .before .before .before .before .before .before .before .before .before .before .before .before .before .before .before .before .before .readonly .ensures) (omega (arith, c .before .before .before .before .before .before .before .before .before .before .before .before .before .before .before .before .before .before .before .before .before .before .before .before .before .before .before .before .before .before .before .good, c .before .before .before .before .before .before .before .before .before .before .before .before .before .before .before .before .before .before .before .before .before .before .before .before .before .before .before .before .before .before .before .pre .0 .low, itself _ _ _ (c .before .before .before .before .before .before .before .before .before .before .before .before .before .before .before .before .before .before .before .before .before .before .before .before .before .before .before .before .before .before .before .pre .0 .accepted) .room)) (omega (arith, c .before .before .before .before .before .before .before .before .before .before .before .before .before .before .before .before .before .before .before .before .before .before .before .before .before .before .before .before .before .before .before .good)) (c .before .before .before .before .before .before .before .before .before .before .before .before .before .before .before .before .before .before .before .before .before .before .put-const-front .ensures) (c .before .before .before .before .before .before .before .before .before .before .before .before .before .before .before .before .expr-to-ts-type .ensures) (c .before .before .before .before .before .before .before .before .before .before .typed .given .1) (c .before .before .before .before .before .before .before .put-absent .ensures) (c .before .before .put-default-name .ensures)
+returns-2 c = expr-typed _ (c .before .before .before .before .before .before .before .before .before .before .before .before .before .before .before .before .before .before .before .before .before .before .before .before .before .before .before .before .before .before .args .scope) _ _ (xe-kids _ _ _ (c .before .before .before .before .before .before .before .before .before .before .before .before .before .before .before .before .before .before .before .before .before .before .before .before .before .before .before .before .before .before .pre .0 .accepted) (c .before .before .before .before .before .before .before .before .before .before .before .before .before .before .before .before .before .before .before .before .before .before .before .before .before .before .before .before .before .before .pre .1) (c .before .before .before .before .before .before .before .before .before .before .before .before .before .before .before .before .before .before .before .before .before .before .before .before .before .before .body-at .ensures) refl) (c .before .before .before .before .before .before .before .before .before .before .before .before .before .before .before .before .before .before .before .before .before .before .before .before .before .before .before .before .before .before .args .s) (told-not (c .before .before .before .before .before .before .before .before .before .before .before .before .before .before .before .before .before .before .before .before .before .before .before .before .before .mark-at .ensures .0) (c .before .before .before .before .before .before .before .before .before .before .before .before .before .before .before .before .before .before .before .before .before .before .before .before .if1 .left)) (c .before .before .before .before .before .before .before .before .before .before .before .before .before .before .before .before .before .before .before .readonly .ensures) (omega (arith, c .before .before .before .before .before .before .before .before .before .before .before .before .before .before .before .before .before .before .before .before .before .before .before .before .before .before .before .before .before .before .good, c .before .before .before .before .before .before .before .before .before .before .before .before .before .before .before .before .before .before .before .before .before .before .before .before .before .before .before .before .before .before .pre .0 .low, itself _ _ _ (c .before .before .before .before .before .before .before .before .before .before .before .before .before .before .before .before .before .before .before .before .before .before .before .before .before .before .before .before .before .before .pre .0 .accepted) .room)) (omega (arith, c .before .before .before .before .before .before .before .before .before .before .before .before .before .before .before .before .before .before .before .before .before .before .before .before .before .before .before .before .before .before .good)) (c .before .before .before .before .before .before .before .before .before .before .before .before .before .before .before .before .before .before .before .before .before .before .put-const-front .ensures .1) (rw (c .before .before .before .before .before .before .before .before .before .before .before .before .before .before .before .before .before .before .before .before .before .before .put-const-front .ensures .0) at (c .before .before .before .before .before .before .before .before .before .before .before .before .before .before .before .before .expr-to-ts-type .ensures)) (c .before .before .before .before .before .before .before .before .before .before .typed .given .1) (c .before .before .before .before .before .before .before .put-absent .ensures) (rw (c .before .before .before .before .before .before .before .before .before .before .before .before .before .before .before .before .before .before .before .before .before .before .put-const-front .ensures .0) at (c .before .before .put-default-name .ensures))
 
 same-length-2 : tie.Need-same-length-2
 same-length-2 c = returns-2 c .step .ran .out .same
@@ -92,7 +89,7 @@ same-length-5 : tie.Need-same-length-5
 same-length-5 c = search needs
 
 returns-3 : tie.Need-returns-3
-returns-3 c = expr-untyped _ (c .before .before .before .before .before .before .before .before .before .before .before .before .before .before .before .before .before .before .before .before .before .before .before .before .before .before .before .args .scope) _ _ (xe-kids _ _ _ (c .before .before .before .before .before .before .before .before .before .before .before .before .before .before .before .before .before .before .before .before .before .before .before .before .before .before .before .pre .0 .accepted) (c .before .before .before .before .before .before .before .before .before .before .before .before .before .before .before .before .before .before .before .before .before .before .before .before .before .before .before .pre .1) (c .before .before .before .before .before .before .before .before .before .before .before .before .before .before .before .before .before .before .before .before .before .before .before .body-at .ensures) refl) (c .before .before .before .before .before .before .before .before .before .before .before .before .before .before .before .before .before .before .before .before .before .before .before .before .before .before .before .args .s) (told-not (c .before .before .before .before .before .before .before .before .before .before .before .before .before .before .before .before .before .before .before .before .before .before .mark-at .ensures .0) (c .before .before .before .before .before .before .before .before .before .before .before .before .before .before .before .before .before .before .before .before .before .if1 .left)) (c .before .before .before .before .before .before .before .before .before .before .before .before .before .before .before .readonly .ensures) (omega (arith, c .before .before .before .before .before .before .before .before .before .before .before .before .before .before .before .before .before .before .before .before .before .before .before .before .before .before .before .good)) (omega (arith, c .before .before .before .before .before .before .before .before .before .before .before .before .before .before .before .before .before .before .before .before .before .before .before .before .before .before .before .good)) (c .before .before .before .before .before .before .before .before .before .before .before .before .before .before .before .before .before .before .put-const-front .ensures) (c .before .before .before .before .before .before .before .before .before .before .before .before .expr-to-ts-type .ensures) (c .before .before .before .before .before .before .failed .given .1) (c .before .before .before .back .ensures) (c .before .before .keep2 .ensures)
+returns-3 c = expr-untyped _ (c .before .before .before .before .before .before .before .before .before .before .before .before .before .before .before .before .before .before .before .before .before .before .before .before .before .before .args .scope) _ _ (xe-kids _ _ _ (c .before .before .before .before .before .before .before .before .before .before .before .before .before .before .before .before .before .before .before .before .before .before .before .before .before .before .pre .0 .accepted) (c .before .before .before .before .before .before .before .before .before .before .before .before .before .before .before .before .before .before .before .before .before .before .before .before .before .before .pre .1) (c .before .before .before .before .before .before .before .before .before .before .before .before .before .before .before .before .before .before .before .before .before .before .body-at .ensures) refl) (c .before .before .before .before .before .before .before .before .before .before .before .before .before .before .before .before .before .before .before .before .before .before .before .before .before .before .args .s) (told-not (c .before .before .before .before .before .before .before .before .before .before .before .before .before .before .before .before .before .before .before .before .before .mark-at .ensures .0) (c .before .before .before .before .before .before .before .before .before .before .before .before .before .before .before .before .before .before .before .before .if1 .left)) (c .before .before .before .before .before .before .before .before .before .before .before .before .before .before .before .readonly .ensures) (omega (arith, c .before .before .before .before .before .before .before .before .before .before .before .before .before .before .before .before .before .before .before .before .before .before .before .before .before .before .good)) (omega (arith, c .before .before .before .before .before .before .before .before .before .before .before .before .before .before .before .before .before .before .before .before .before .before .before .before .before .before .good)) (c .before .before .before .before .before .before .before .before .before .before .before .before .before .before .before .before .before .before .put-const-front .ensures .1) (rw (c .before .before .before .before .before .before .before .before .before .before .before .before .before .before .before .before .before .before .put-const-front .ensures .0) at (c .before .before .before .before .before .before .before .before .before .before .before .before .expr-to-ts-type .ensures)) (c .before .before .before .before .before .before .failed .given .1) (c .before .before .before .back .ensures) (c .before .before .keep2 .ensures)
 
 pub export-default-expr-spec : {M : Type 1} → statement M
 export-default-expr-spec =
@@ -103,7 +100,6 @@ export-default-expr-spec =
     keep-requires
     same-length
     returns
-    add-counter
     put-const-front-requires
     sub-expr-to-ts-type
     readonly-requires

@@ -7,7 +7,7 @@ use Rattle.items.proofs.defaults.put_const_front.Tie as tie
 use Rattle.items.proofs.defaults.put_const_front.Reads as reads
 use Rattle.items.proofs.defaults.put_const_front.Lts as lts
 use Rattle.items.proofs.defaults.put_fresh.Reads as put-fresh-reads
-use Rattle.items.proofs.defaults.put_unique_ident.Reads as put-unique-ident-reads
+use Rattle.items.proofs.defaults.put_new_ident.Reads as put-new-ident-reads
 
 put-fresh-requires : tie.Need-put-fresh-requires
 put-fresh-requires c κs = search needs
@@ -18,14 +18,14 @@ put-fresh-requires-2 c κs = search needs
 put-fresh-requires-3 : tie.Need-put-fresh-requires-3
 put-fresh-requires-3 c κs = search needs
 
-put-unique-ident-requires : tie.Need-put-unique-ident-requires
-put-unique-ident-requires c κs = search needs
+put-new-ident-requires : tie.Need-put-new-ident-requires
+put-new-ident-requires c κs = search needs
 
 same-length : tie.Need-same-length
 same-length c = search needs
 
 returns : tie.Need-returns
-returns c = const-put (c .before .before .before .before .before .before .before .before .before .before .before .before .before .before .before .before .before .args .counter) (omega (arith, c .before .before .before .before .before .before .before .before .before .before .before .before .before .before .before .before .before .good)) (c .before .before .before .before .before .before .before .before .before .before .before .before .before .before .put-fresh .ensures) (c .before .before .before .before .before .before .before .before .before .before .put-fresh2 .ensures) (c .before .before .before .before .before .before .put-fresh3 .ensures) (c .before .before .put-unique-ident .ensures)
+returns c = (c .before .before .put-new-ident .ensures .0, const-put _ (omega (arith, c .before .before .before .before .before .before .before .before .before .before .before .before .before .before .before .before .before .good)) (c .before .before .before .before .before .before .before .before .before .before .before .before .before .before .put-fresh .ensures) (c .before .before .before .before .before .before .before .before .before .before .put-fresh2 .ensures) (c .before .before .before .before .before .before .put-fresh3 .ensures) (c .before .before .put-new-ident .ensures .1))
 
 pub put-const-front-spec : {M : Type 1} → statement M
 put-const-front-spec =
@@ -34,6 +34,6 @@ put-const-front-spec =
     put-fresh-requires
     put-fresh-requires-2
     put-fresh-requires-3
-    put-unique-ident-requires
+    put-new-ident-requires
     same-length
     returns)

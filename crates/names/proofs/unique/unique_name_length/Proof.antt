@@ -12,7 +12,7 @@ add-result : tie.Need-add-result
 add-result c = omega arith
 
 returns : tie.Need-returns
-returns c = omega (arith, length-unique (c .before .args .counter))
+returns c = omega (arith, length-unique (c .before .args .id-counter))
 
 pub unique-name-length-spec : {M : Type 1} → statement M
 unique-name-length-spec = tie.close (tie.spec decimal-length-requires add-result returns)
