@@ -161,6 +161,13 @@ array-spread-out =
     (var 3 (name "a" local-array) absent)
     (var 3 (name "b" (node "Ro" (one (node "Tu" (one (node "Tm" (two absent (node "Rt" (one (node "Tf" (one (id 2 "a")))))))))))) absent))
 
+-- `namespace N { const a: Array; } const b = [...a];`, the spread at 43 to 47: nothing is known of an a at module level
+abbrev inner-array : ℕ → Rec
+inner-array f = flags f (node "Ns" (two (leaf "Op" (text "N")) (node "Nb" (one (var 2 (name "a" local-array) absent)))))
+
+abbrev inner-spread : Rec
+inner-spread = module-of (two (inner-array 0) (var 2 (name "b" absent) (node "Ar" (one (at 43 47 (node "Sp" (one (id 2 "a"))))))))
+
 -- `export default 1; namespace N { declare const a: any; export default 1; } export default 1;`
 abbrev default-one : Rec
 default-one = node "Xe" (one (leaf "Nu" (rest 8)))
@@ -218,6 +225,7 @@ samples =
     makes minus-zero (module-of (one (var 3 (name "a" (node "Tl" (one (leaf "Bi" (0 ∷ text "0"))))) absent))) [] ∷
     makes object-spread (module-of (one (var 3 (name "a" (node "Li" nil)) absent))) (diag "d4" 12 17 ∷ []) ∷
     makes array-spread array-spread-out [] ∷
+    makes inner-spread (module-of (two (inner-array 1) (var 3 (name "b" (keyword "any")) absent))) (diag "d4" 43 47 ∷ diag "d2" 0 0 ∷ []) ∷
     makes namespaces namespaces-out [] ∷
     accepted const-property const-property-out 224 0 [] ∷
     []
