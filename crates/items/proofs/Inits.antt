@@ -18,7 +18,9 @@ use Rattle.definition.specs.Enums.{Init, iBin, iOver, iOptChain, iValid, iTpl, 
 use Rattle.definition.specs.Transform.{allTextsFit}
 use Rattle.definition.proofs.Children.{tree-is, children, first-one, others, readAll-more, readAll-none}
 use Rattle.definition.proofs.Kids.{is-mark, not-mark, mark-is, kids-are, at-least}
+use Rattle.records.specs.Whole.{Whole}
 use Rattle.records.specs.Wrote.{top}
+use Rattle.swc_helpers.proofs.Made.{is-whole}
 use Rattle.typing.specs.declared.State.{State}
 use Rattle.typing.proofs.Fits.{all-join, all-one}
 use Rattle.typing.proofs.Loops.{rest, rest-more, rest-none, join-nil, join-assoc, encodes-join, encodes-one}
@@ -218,6 +220,9 @@ module _ (left : ℕ) (s : List ℕ) (at : ℕ) (a : AcceptedAt left s at) where
 
   pub type-kids : markAt s at ≡ mark "Tl" → {p : ℕ} → p ≡ bodyAt s at → One left s at p (endAt (left - 1) s p)
   type-kids m e = kids-one left s at a (tl-one left s at a m) e refl
+
+  pub type-whole : markAt s at ≡ mark "Tl" → Whole (left - 1) s (bodyAt s at)
+  type-whole m = is-whole (left - 1) s (bodyAt s at) (type-kids m refl .first)
 
   pub type-is : markAt s at ≡ mark "Tl" → {p : ℕ} → p ≡ bodyAt s at → {n : ℕ} → n ≡ markAt s p → eqb n (mark "Nu") ≡ validEnumTsType (treeAt left s at)
   type-is m {p} e f =

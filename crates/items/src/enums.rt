@@ -10,6 +10,7 @@ ghost use Rattle.items.specs.Steps.{recordsAt};
 use parts::keep;
 use parts::keep_all;
 use parts::put_front;
+use reader::child_at;
 use records::body_at;
 use records::count_at;
 use records::mark_at;
@@ -32,7 +33,7 @@ use records::read_head;
 use records::record_end;
 use typing::State;
 
-// `valid_enum_ts_type`: `TsLit::Number`.
+// `valid_enum_ts_type`: `TsLit::Number`. The literal is "handed back as the part of the tree it fills".
 fn valid_enum_ts_type(tree: &[u8], at: usize, left: usize) -> bool
     requires { ⌜ AcceptedAt left (now tree) at ⌝ }
     ensures { λ r. ⌜ r ≡ validEnumTsType (treeAt left (now (tree .entry)) at) ⌝ }
@@ -40,7 +41,8 @@ fn valid_enum_ts_type(tree: &[u8], at: usize, left: usize) -> bool
     if mark_at(tree, at) != TL {
         return false;
     }
-    mark_at(tree, body_at(tree, at)) == NU
+    let literal = child_at(tree, at, left - 1);
+    mark_at(literal, 0) == NU
 }
 
 // `valid_enum_init_expr`, arm by arm.

@@ -26,6 +26,7 @@ use parts::keep;
 use parts::keep_all;
 use parts::put_front;
 use prescan::Scope;
+use reader::next_at;
 use records::DEEPEST;
 use records::body_at;
 use records::mark_at;
@@ -114,7 +115,7 @@ pub fn transform_module_items(
     let mut item = at;
     let mut count = 0;
     while 0 < k {
-        let end = record_end(tree, item, left);
+        let end = next_at(tree, item, left);
         let here = item_scope(scope, left, item, end);
         let made = transform_module_item(tree, item, left, here, list, top, out, diagnostics, next);
         next = made.s;
