@@ -8,6 +8,12 @@ use lib.ListN.{length, getD, take, drop, length-append, List·getD-eq-default}
 use lib.Seq.{getD-take, getD-drop}
 use mathlib.Core.Logic.{⊎-elim}
 use Rattle.definition.specs.Tree.{
+  flagBytes,
+  flagsPlace,
+  startPlace,
+  endPlace,
+  lengthPlace,
+  countPlace,
   Head,
   Rec,
   Recs,
@@ -42,7 +48,7 @@ use Rattle.definition.specs.Tree.{
 }
 use Rattle.definition.specs.Grammar.{Part, after, root}
 use Rattle.definition.specs.Check.{Checked, Checked.fine, checkAll, checkAt, checkTree, inside, deepest}
-use Rattle.definition.proofs.Places.{At, at-none, at-join, at-part, part-at, part-length, at-whole, at-le2, at-le4, byte-at, u16-small, u32-small, below-or-not}
+use Rattle.definition.proofs.Places.{At, at-none, at-join, at-part, part-at, part-length, at-whole, at-le2, at-le4, byte-at, u16-small, length-small, count-small, u32-small, below-or-not}
 use Rattle.definition.proofs.Round.{length-headBytes}
 use Rattle.definition.proofs.Accepted.{Open, accepted, accepted-left, check-lies, check-ends, first-accepted, accepted-tree, AcceptedTree}
 
@@ -58,34 +64,34 @@ module _ (s : List ℕ) (bytes : Bytes s) (at : ℕ) (room : at + headSize ≤ l
   text-length = part-length s (at + headSize) (lengthAt s at) fits
 
   -- the fields one after the other, each where the one before ends
-  at-count : At s (at + 13) (le2 (countAt s at))
-  at-count = at-le2 s (at + 13) (omega arith) bytes
+  at-count : At s (at + countPlace) (le2 (countAt s at))
+  at-count = at-le2 s (at + countPlace) (omega arith) bytes
 
-  at-length : At s (at + 11) (le2 (lengthAt s at) ++ le2 (countAt s at))
+  at-length : At s (at + lengthPlace) (le2 (lengthAt s at) ++ le2 (countAt s at))
   at-length =
-      let e : at + 11 + 2 ≡ at + 13 = omega arith in
-      at-join s (at + 11) (le2 (lengthAt s at)) (le2 (countAt s at)) (at-le2 s (at + 11) (omega arith) bytes) (rw e at-count)
+      let e : at + lengthPlace + 2 ≡ at + countPlace = omega arith in
+      at-join s (at + lengthPlace) (le2 (lengthAt s at)) (le2 (countAt s at)) (at-le2 s (at + lengthPlace) (omega arith) bytes) (rw e at-count)
 
-  at-end : At s (at + 7) (le4 (lastAt s at) ++ (le2 (lengthAt s at) ++ le2 (countAt s at)))
+  at-end : At s (at + endPlace) (le4 (lastAt s at) ++ (le2 (lengthAt s at) ++ le2 (countAt s at)))
   at-end =
-      let e : at + 7 + 4 ≡ at + 11 = omega arith in
-      at-join s (at + 7) (le4 (lastAt s at)) (le2 (lengthAt s at) ++ le2 (countAt s at)) (at-le4 s (at + 7) (omega arith) bytes) (rw e at-length)
+      let e : at + endPlace + 4 ≡ at + lengthPlace = omega arith in
+      at-join s (at + endPlace) (le4 (lastAt s at)) (le2 (lengthAt s at) ++ le2 (countAt s at)) (at-le4 s (at + endPlace) (omega arith) bytes) (rw e at-length)
 
-  at-start : At s (at + 3) (le4 (startAt s at) ++ (le4 (lastAt s at) ++ (le2 (lengthAt s at) ++ le2 (countAt s at))))
+  at-start : At s (at + startPlace) (le4 (startAt s at) ++ (le4 (lastAt s at) ++ (le2 (lengthAt s at) ++ le2 (countAt s at))))
   at-start =
-      let e : at + 3 + 4 ≡ at + 7 = omega arith in
-      at-join s (at + 3) (le4 (startAt s at)) (le4 (lastAt s at) ++ (le2 (lengthAt s at) ++ le2 (countAt s at))) (at-le4 s (at + 3) (omega arith) bytes) (rw e at-end)
+      let e : at + startPlace + 4 ≡ at + endPlace = omega arith in
+      at-join s (at + startPlace) (le4 (startAt s at)) (le4 (lastAt s at) ++ (le2 (lengthAt s at) ++ le2 (countAt s at))) (at-le4 s (at + startPlace) (omega arith) bytes) (rw e at-end)
 
-  at-flags : At s (at + 2) (flagsAt s at % 256 ∷ (le4 (startAt s at) ++ (le4 (lastAt s at) ++ (le2 (lengthAt s at) ++ le2 (countAt s at)))))
+  at-flags : At s (at + flagsPlace) (flagBytes (flagsAt s at) ++ (le4 (startAt s at) ++ (le4 (lastAt s at) ++ (le2 (lengthAt s at) ++ le2 (countAt s at)))))
   at-flags =
-      let e : at + 2 + 1 ≡ at + 3 = omega arith in
-      at-join s (at + 2) (flagsAt s at % 256 ∷ []) (le4 (startAt s at) ++ (le4 (lastAt s at) ++ (le2 (lengthAt s at) ++ le2 (countAt s at)))) (byte-at s (at + 2) (omega arith) bytes) (rw e at-start)
+      let e : at + flagsPlace + 1 ≡ at + startPlace = omega arith in
+      at-join s (at + flagsPlace) (flagBytes (flagsAt s at)) (le4 (startAt s at) ++ (le4 (lastAt s at) ++ (le2 (lengthAt s at) ++ le2 (countAt s at)))) (byte-at s (at + flagsPlace) (omega arith) bytes) (rw e at-start)
 
   at-head : At s at (headBytes (headAt s at) (countAt s at))
   unfolding headBytes headAt
   at-head =
       rw text-length
-      (at-join s at (le2 (markAt s at)) (flagsAt s at % 256 ∷ (le4 (startAt s at) ++ (le4 (lastAt s at) ++ (le2 (lengthAt s at) ++ le2 (countAt s at))))) (at-le2 s at (omega arith) bytes) at-flags)
+      (at-join s at (le2 (markAt s at)) (flagBytes (flagsAt s at) ++ (le4 (startAt s at) ++ (le4 (lastAt s at) ++ (le2 (lengthAt s at) ++ le2 (countAt s at))))) (at-le2 s at (omega arith) bytes) at-flags)
 
   text-bytes : Bytes (textAt s at)
   unfolding Bytes
@@ -98,12 +104,12 @@ module _ (s : List ℕ) (bytes : Bytes s) (at : ℕ) (room : at + headSize ≤ l
   unfolding headAt Bytes
   head-fits = record {
     mark = u16-small s at bytes;
-    flags = bytes (at + 2);
-    start = u32-small s (at + 3) bytes;
-    end = u32-small s (at + 7) bytes;
-    text = rw text-length (u16-small s (at + 11) bytes);
+    flags = bytes (at + flagsPlace);
+    start = u32-small s (at + startPlace) bytes;
+    end = u32-small s (at + endPlace) bytes;
+    text = rw text-length (length-small s at bytes);
     bytes = text-bytes;
-    count = u16-small s (at + 13) bytes;
+    count = count-small s at bytes;
   }
 
 -- ---- a record with its children

@@ -7,7 +7,7 @@ use native.Mathlib.Decide.{decLt}
 use native.Mathlib.Omega.{arith}
 use lib.ListN.{length, getD, take, drop, length-append, length-take, length-drop, List·getD-append, List·getD-eq-default}
 use lib.Seq.{getD-append-add, ext-getD, getD-take, getD-drop}
-use Rattle.definition.specs.Tree.{le2, le4, u16At, u32At, Bytes}
+use Rattle.definition.specs.Tree.{lengthPlace, countPlace, le2, le4, u16At, u32At, lengthAt, countAt, Bytes}
 
 -- xs stands in s at the offset `at`
 pub record At (s : List ℕ) (at : ℕ) (xs : List ℕ) : Type 0 where
@@ -106,6 +106,13 @@ byte-at s at h b = record { fits = omega arith; same = λ i lt. go i lt }
 pub u16-small : (s : List ℕ) (at : ℕ) → Bytes s → u16At s at < 65536
 unfolding Bytes
 u16-small s at b = omega (arith, b at, b (at + 1))
+
+-- a record's text length and child count
+pub length-small : (s : List ℕ) (at : ℕ) → Bytes s → lengthAt s at < 65536
+length-small s at = u16-small s (at + lengthPlace)
+
+pub count-small : (s : List ℕ) (at : ℕ) → Bytes s → countAt s at < 65536
+count-small s at = u16-small s (at + countPlace)
 
 pub u32-small : (s : List ℕ) (at : ℕ) → Bytes s → u32At s at < 4294967296
 unfolding Bytes

@@ -5,6 +5,12 @@ use Prim.Native.Nat.{ℕ, zero, suc, _+_, _≤_, _<_, _%_, max}
 use native.Mathlib.Omega.{arith}
 use lib.ListN.{length, getD, take, drop, length-append}
 use Rattle.definition.specs.Tree.{
+  flagBytes,
+  flagsPlace,
+  startPlace,
+  endPlace,
+  lengthPlace,
+  countPlace,
   Head,
   Rec,
   Recs,
@@ -71,23 +77,23 @@ module _ (s : List ℕ) (at : ℕ) (h : Head) (n : ℕ) (rest : List ℕ) (fits 
 
   flags-is : flagsAt s at ≡ h .flags
   unfolding headBytes
-  flags-is = hd .same 2 (omega arith) ∙ omega (arith, fits .flags)
+  flags-is = hd .same flagsPlace (omega arith) ∙ omega (arith, fits .flags)
 
   start-is : startAt s at ≡ h .start
   unfolding headBytes from-start
-  start-is = le4-at s (at + 3) (h .start) (fits .start) (at-left s (at + 3) (le4 (h .start)) from-end (at-right s at (le2 (h .mark) ++ (h .flags % 256 ∷ [])) from-start hd))
+  start-is = le4-at s (at + startPlace) (h .start) (fits .start) (at-left s (at + startPlace) (le4 (h .start)) from-end (at-right s at (le2 (h .mark) ++ (flagBytes (h .flags))) from-start hd))
 
   end-is : lastAt s at ≡ h .end
   unfolding headBytes from-start
-  end-is = le4-at s (at + 7) (h .end) (fits .end) (at-left s (at + 7) (le4 (h .end)) from-length (at-right s at (le2 (h .mark) ++ (h .flags % 256 ∷ le4 (h .start))) from-end hd))
+  end-is = le4-at s (at + endPlace) (h .end) (fits .end) (at-left s (at + endPlace) (le4 (h .end)) from-length (at-right s at (le2 (h .mark) ++ (flagBytes (h .flags) ++ le4 (h .start))) from-end hd))
 
   length-is : lengthAt s at ≡ length (h .text)
   unfolding headBytes from-start
-  length-is = le2-at s (at + 11) (length (h .text)) (fits .text) (at-left s (at + 11) (le2 (length (h .text))) from-count (at-right s at (le2 (h .mark) ++ (h .flags % 256 ∷ (le4 (h .start) ++ le4 (h .end)))) from-length hd))
+  length-is = le2-at s (at + lengthPlace) (length (h .text)) (fits .text) (at-left s (at + lengthPlace) (le2 (length (h .text))) from-count (at-right s at (le2 (h .mark) ++ (flagBytes (h .flags) ++ (le4 (h .start) ++ le4 (h .end)))) from-length hd))
 
   pub count-is : countAt s at ≡ n
   unfolding headBytes
-  count-is = le2-at s (at + 13) n (fits .count) (at-right s at (le2 (h .mark) ++ (h .flags % 256 ∷ (le4 (h .start) ++ (le4 (h .end) ++ le2 (length (h .text)))))) (le2 n) hd)
+  count-is = le2-at s (at + countPlace) n (fits .count) (at-right s at (le2 (h .mark) ++ (flagBytes (h .flags) ++ (le4 (h .start) ++ (le4 (h .end) ++ le2 (length (h .text)))))) (le2 n) hd)
 
   after-head : At s (at + headSize) (h .text ++ rest)
   after-head = rw length-headBytes at (at-right s at (headBytes h n) (h .text ++ rest) all)

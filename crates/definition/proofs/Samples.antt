@@ -1,10 +1,10 @@
 -- Small modules, on which `call` is evaluated: those of document 01, and one for each slip that must not pass. Assumes nothing.
-use Prim.Native.Nat.{ℕ, zero, suc}
+use Prim.Native.Nat.{ℕ, zero, suc, _-_, _*_}
 use Prim.Native.String.{String}
 use mathlib.Core.Path.{_≡_, refl}
 use mathlib.Core.List.{List, [], _∷_, _++_, map}
 use lib.ListN.{length}
-use Rattle.definition.specs.Tree.{Rec, Recs, rec, nil, cons, le4, headBytes, encode, headAt, readAll, endOfAll, endAt, treeAt}
+use Rattle.definition.specs.Tree.{Rec, Recs, rec, nil, cons, headSize, le4, headBytes, encode, headAt, readAll, endOfAll, endAt, treeAt}
 use Rattle.definition.specs.Grammar.{mark, marks, member, grammar, known, forms, slots, place, allowed, after, least, isProperty}
 use Rattle.definition.specs.Check.{digits, isInteger, hasForm, openBody, openAt, checkAll, checkAt, entriesFine, listFine, checkTree}
 use Rattle.definition.specs.Record.{text, sameText, headOf, kidsOf, fresh, absent, withFlags, one, Diag, diagsBytes, entriesHave, listed, each, flat, second}
@@ -209,11 +209,11 @@ samples =
     refuses (encode (module-of nil)) (rest 9) 99 99 2 0 ∷
     refuses [] [] 99 99 3 0 ∷
     refuses (encode (node "zz" nil)) [] 99 99 4 0 ∷
-    refuses (encode (module-of (one (node "Ed" nil)))) [] 99 99 5 15 ∷
+    refuses (encode (module-of (one (node "Ed" nil)))) [] 99 99 5 headSize ∷
     refuses (encode (at 2 1 (module-of nil))) [] 99 99 6 0 ∷
-    refuses (encode (module-of (one (node "Xe" (one (parens 62)))))) [] 99 99 7 960 ∷
-    refuses (encode (module-of nil) ++ (0 ∷ [])) [] 99 99 8 15 ∷
-    refuses (encode (module-of nil)) [] 14 99 9 0 ∷
+    refuses (encode (module-of (one (node "Xe" (one (parens 62)))))) [] 99 99 7 (64 * headSize) ∷
+    refuses (encode (module-of nil) ++ (0 ∷ [])) [] 99 99 8 headSize ∷
+    refuses (encode (module-of nil)) [] (headSize - 1) 99 9 0 ∷
     refuses (encode const-a-b) [] 113 9 10 0 ∷
     record {
       tree = encode minus-two;

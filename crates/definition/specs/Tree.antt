@@ -38,9 +38,25 @@ unfoldable mutual
 
 -- ---- the bytes of a tree
 
+-- the places of a head's fields in it, one after the other; the mark is at 0
+abbrev pub flagsPlace : ℕ
+flagsPlace = 2
+
+abbrev pub startPlace : ℕ
+startPlace = flagsPlace + 1
+
+abbrev pub endPlace : ℕ
+endPlace = startPlace + 4
+
+abbrev pub lengthPlace : ℕ
+lengthPlace = endPlace + 4
+
+abbrev pub countPlace : ℕ
+countPlace = lengthPlace + 2
+
 -- "15-byte head"
 abbrev pub headSize : ℕ
-headSize = 15
+headSize = countPlace + 2
 
 -- "Little-endian, unsigned": a number in two bytes, and in four
 abbrev pub le2 : ℕ → List ℕ
@@ -49,10 +65,14 @@ le2 n = n % 256 ∷ n / 256 % 256 ∷ []
 abbrev pub le4 : ℕ → List ℕ
 le4 n = n % 256 ∷ n / 256 % 256 ∷ n / 65536 % 256 ∷ n / 16777216 % 256 ∷ []
 
+-- "flags (1 byte)"
+abbrev pub flagBytes : ℕ → List ℕ
+flagBytes n = n % 256 ∷ []
+
 -- "mark (two ASCII letters), flags (1 byte), start and end (4 each; what `range()` gives; 0,0 is `DUMMY_SP`), text length (2), child
 -- count (2)"
 unfoldable pub headBytes : Head → ℕ → List ℕ
-headBytes h n = le2 (h .mark) ++ ((h .flags % 256) ∷ (le4 (h .start) ++ (le4 (h .end) ++ (le2 (length (h .text)) ++ le2 n))))
+headBytes h n = le2 (h .mark) ++ (flagBytes (h .flags) ++ (le4 (h .start) ++ (le4 (h .end) ++ (le2 (length (h .text)) ++ le2 n))))
 
 unfoldable mutual
   pub encode : Rec → List ℕ
@@ -75,19 +95,19 @@ abbrev pub markAt : List ℕ → ℕ → ℕ
 markAt s at = u16At s at
 
 abbrev pub flagsAt : List ℕ → ℕ → ℕ
-flagsAt s at = getD s (at + 2) 0
+flagsAt s at = getD s (at + flagsPlace) 0
 
 abbrev pub startAt : List ℕ → ℕ → ℕ
-startAt s at = u32At s (at + 3)
+startAt s at = u32At s (at + startPlace)
 
 abbrev pub lastAt : List ℕ → ℕ → ℕ
-lastAt s at = u32At s (at + 7)
+lastAt s at = u32At s (at + endPlace)
 
 abbrev pub lengthAt : List ℕ → ℕ → ℕ
-lengthAt s at = u16At s (at + 11)
+lengthAt s at = u16At s (at + lengthPlace)
 
 abbrev pub countAt : List ℕ → ℕ → ℕ
-countAt s at = u16At s (at + 13)
+countAt s at = u16At s (at + countPlace)
 
 abbrev pub textAt : List ℕ → ℕ → List ℕ
 textAt s at = take (lengthAt s at) (drop (at + headSize) s)

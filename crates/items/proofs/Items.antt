@@ -25,7 +25,7 @@ use Rattle.definition.proofs.Children.{tree-is, first-one, others, readAll-more
 use Rattle.definition.proofs.Counting.{exprToTsType-within}
 use Rattle.definition.proofs.CountingItems.{item-within}
 use Rattle.definition.proofs.Kids.{head-is, mark-is, flags-is, at-least, text-length}
-use Rattle.definition.proofs.Places.{u16-small}
+use Rattle.definition.proofs.Places.{count-small as head-count-small}
 use Rattle.records.specs.declared.Head.{Head as Fields}
 use Rattle.records.specs.Fields.{fieldsAt}
 use Rattle.records.specs.Wrote.{top as highest, sat}
@@ -113,7 +113,7 @@ module _ (left : ℕ) (s : List ℕ) (at : ℕ) (a : AcceptedAt left s at) where
 
 -- a count fits
 pub count-small : (s : List ℕ) (at : ℕ) → ((i : ℕ) → mir.Val.Fits w8 (getD s i 0)) → {h : Fields} → h ≡ fieldsAt s at → h .count < 65536
-count-small s at known e = rw e (u16-small s (at + 13) (slice-bytes s known))
+count-small s at known e = rw e (head-count-small s at (slice-bytes s known))
 
 -- what a test tells of the mark at an offset, said of the record
 pub mark-of : (left : ℕ) (tree : List ℕ) (at : ℕ) {m : ℕ} → m ≡ markAt tree at → m ≡ markOf (treeAt left tree at)

@@ -8,7 +8,7 @@ use native.Mathlib.Omega.{arith}
 use lib.ListN.{length, getD, set, take, drop, length-set, take-append-drop}
 use lib.Seq.{sets, sets-eq, length-sets, set-out, getD-set-same, getD-set-other, take-suc, length-take-le, drop-drop, ext-getD}
 use Rattle.definition.specs.Tree
-use Rattle.definition.specs.Tree.{headSize, le2, le4, headBytes, headAt, lengthAt, countAt, bodyAt}
+use Rattle.definition.specs.Tree.{flagsPlace, startPlace, endPlace, lengthPlace, countPlace, headSize, flagBytes, le2, le4, headBytes, headAt, lengthAt, countAt, bodyAt}
 use Rattle.definition.specs.Record.{diagBytes}
 use Rattle.definition.proofs.Places.{part-length}
 use Rattle.records.specs.Fields.{fieldsAt, fieldsOf, fieldBytes, diagSize, diagOf}
@@ -48,22 +48,22 @@ byte-mod : (b : ℕ) → b < 256 → b ≡ b % 256
 byte-mod b h = omega arith
 
 pub head-sets : (o : List ℕ) {o1 o2 o3 o4 o5 o6 : List ℕ} (p : ℕ) (h : Head) → h .flags < 256
-    → o1 ≡ sets o p (le2 (h .mark)) → o2 ≡ set o1 (p + 2) (h .flags) → o3 ≡ sets o2 (p + 3) (le4 (h .start)) → o4 ≡ sets o3 (p + 7) (le4 (h .end))
-    → o5 ≡ sets o4 (p + 11) (le2 (h .text)) → o6 ≡ sets o5 (p + 13) (le2 (h .count)) → o6 ≡ sets o p (fieldBytes h)
+    → o1 ≡ sets o p (le2 (h .mark)) → o2 ≡ set o1 (p + flagsPlace) (h .flags) → o3 ≡ sets o2 (p + startPlace) (le4 (h .start)) → o4 ≡ sets o3 (p + endPlace) (le4 (h .end))
+    → o5 ≡ sets o4 (p + lengthPlace) (le2 (h .text)) → o6 ≡ sets o5 (p + countPlace) (le2 (h .count)) → o6 ≡ sets o p (fieldBytes h)
 unfolding fieldBytes
 head-sets o {o1} {o2} {o3} {o4} {o5} {o6} p h f e1 e2 e3 e4 e5 e6 =
     let x1 : List ℕ = le2 (h .mark) in
-    let x2 : List ℕ = x1 ++ ((h .flags % 256) ∷ []) in
+    let x2 : List ℕ = x1 ++ flagBytes (h .flags) in
     let x3 : List ℕ = x2 ++ le4 (h .start) in
     let x4 : List ℕ = x3 ++ le4 (h .end) in
     let x5 : List ℕ = x4 ++ le2 (h .text) in
     let s1 : o1 ≡ sets o p x1 = e1 in
     let s2 : o2 ≡ sets o p x2 =
-    e2 ∙ ap (λ (b : ℕ). set o1 (p + 2) b) (byte-mod (h .flags) f) ∙ ap (λ (l : List ℕ). set l (p + 2) (h .flags % 256)) s1 ∙ sym (sets-append o p x1 ((h .flags % 256) ∷ [])) in
-    let s3 : o3 ≡ sets o p x3 = e3 ∙ ap (λ (l : List ℕ). sets l (p + 3) (le4 (h .start))) s2 ∙ sym (sets-append o p x2 (le4 (h .start))) in
-    let s4 : o4 ≡ sets o p x4 = e4 ∙ ap (λ (l : List ℕ). sets l (p + 7) (le4 (h .end))) s3 ∙ sym (sets-append o p x3 (le4 (h .end))) in
-    let s5 : o5 ≡ sets o p x5 = e5 ∙ ap (λ (l : List ℕ). sets l (p + 11) (le2 (h .text))) s4 ∙ sym (sets-append o p x4 (le2 (h .text))) in
-    e6 ∙ ap (λ (l : List ℕ). sets l (p + 13) (le2 (h .count))) s5 ∙ sym (sets-append o p x5 (le2 (h .count)))
+    e2 ∙ ap (λ (b : ℕ). set o1 (p + flagsPlace) b) (byte-mod (h .flags) f) ∙ ap (λ (l : List ℕ). set l (p + flagsPlace) (h .flags % 256)) s1 ∙ sym (sets-append o p x1 (flagBytes (h .flags))) in
+    let s3 : o3 ≡ sets o p x3 = e3 ∙ ap (λ (l : List ℕ). sets l (p + startPlace) (le4 (h .start))) s2 ∙ sym (sets-append o p x2 (le4 (h .start))) in
+    let s4 : o4 ≡ sets o p x4 = e4 ∙ ap (λ (l : List ℕ). sets l (p + endPlace) (le4 (h .end))) s3 ∙ sym (sets-append o p x3 (le4 (h .end))) in
+    let s5 : o5 ≡ sets o p x5 = e5 ∙ ap (λ (l : List ℕ). sets l (p + lengthPlace) (le2 (h .text))) s4 ∙ sym (sets-append o p x4 (le2 (h .text))) in
+    e6 ∙ ap (λ (l : List ℕ). sets l (p + countPlace) (le2 (h .count))) s5 ∙ sym (sets-append o p x5 (le2 (h .count)))
 
 -- they are the bytes of the definition's head
 pub head-bytes : (h : Tree.Head) (n : ℕ) → fieldBytes (fieldsOf h n) ≡ headBytes h n

@@ -3,7 +3,7 @@ use Prim.Native.Nat.{ℕ, _%_}
 use mathlib.Core.List.{List, _∷_, _++_}
 use lib.ListN.{length}
 use Rattle.definition.specs.Tree
-use Rattle.definition.specs.Tree.{le2, le4, markAt, flagsAt, startAt, lastAt, lengthAt, countAt}
+use Rattle.definition.specs.Tree.{flagBytes, le2, le4, markAt, flagsAt, startAt, lastAt, lengthAt, countAt}
 use Rattle.definition.specs.Record.{Diag}
 use Rattle.records.specs.declared.Head.{Head}
 
@@ -26,7 +26,7 @@ fieldsOf h n = record { mark = h .mark; flags = h .flags; start = h .start; end 
 -- count (2)"
 unfoldable pub fieldBytes : Head → List ℕ
 fieldBytes h =
-    le2 (h .mark) ++ ((h .flags % 256) ∷ (le4 (h .start) ++ (le4 (h .end) ++ (le2 (h .text) ++ le2 (h .count)))))
+    le2 (h .mark) ++ (flagBytes (h .flags) ++ (le4 (h .start) ++ (le4 (h .end) ++ (le2 (h .text) ++ le2 (h .count)))))
 
 -- "A diagnostic is 10 bytes"
 abbrev pub diagSize : ℕ

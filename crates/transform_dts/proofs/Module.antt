@@ -7,14 +7,14 @@ use native.Mathlib.Omega.{arith}
 use mir.Syntax.{w8}
 use mir.Val
 use lib.ListN.{length, getD, List·getD-eq-default}
-use Rattle.definition.specs.Tree.{headSize, lengthAt, countAt, bodyAt, headAt, endOfAll, endAt, treeAt}
+use Rattle.definition.specs.Tree.{lengthPlace, countPlace, headSize, lengthAt, countAt, bodyAt, headAt, endOfAll, endAt, treeAt}
 use Rattle.definition.specs.Check.{deepest}
 use Rattle.definition.specs.Children.{AcceptedAt}
 use Rattle.definition.specs.Record.{withFlags}
 use Rattle.definition.specs.Transform.{transform, transformBy}
 use Rattle.definition.proofs.Children.{children}
 use Rattle.definition.proofs.Kids.{text-length}
-use Rattle.definition.proofs.Places.{u16-small}
+use Rattle.definition.proofs.Places.{count-small}
 use Rattle.records.specs.declared.Head.{Head as Fields}
 use Rattle.records.specs.Fields.{fieldsAt}
 use Rattle.records.specs.Wrote.{sat}
@@ -38,8 +38,8 @@ pub end-behind : (left : ℕ) (s : List ℕ) (at : ℕ) → length s ≤ at → 
 unfolding endAt endOfAll
 end-behind left s at h =
     let z : (i : ℕ) → length s ≤ i → getD s i 0 ≡ 0 = λ i l. List·getD-eq-default s 0 {n = i} l in
-    let n : countAt s at ≡ 0 = omega (arith, z (at + 13) (omega arith), z (at + 13 + 1) (omega arith)) in
-    let t : lengthAt s at ≡ 0 = omega (arith, z (at + 11) (omega arith), z (at + 11 + 1) (omega arith)) in
+    let n : countAt s at ≡ 0 = omega (arith, z (at + countPlace) (omega arith), z (at + countPlace + 1) (omega arith)) in
+    let t : lengthAt s at ≡ 0 = omega (arith, z (at + lengthPlace) (omega arith), z (at + lengthPlace + 1) (omega arith)) in
     ap (λ (k : ℕ). endOfAll (endAt left s) k (bodyAt s at)) n ∙ omega (arith, t)
 
 -- the scope of no item
@@ -60,7 +60,7 @@ module _ (tree : List ℕ) (a : AcceptedAt deepest tree 0) (known : (i : ℕ) �
           low = omega arith;
           skips = sym (end-behind (deepest - 2) tree (length tree) (omega arith));
         },
-        omega (arith, k, u16-small tree (0 + 13) (slice-bytes tree known)),
+        omega (arith, k, count-small tree 0 (slice-bytes tree known)),
       )
 
   -- ---- what was made

@@ -181,7 +181,7 @@ module _ (tree : List ℕ) (left at : ℕ) {o o1 o2 g g2 : List ℕ} (s : State)
 
 -- ---- a generated name
 
-front-length : (start end : ℕ) (name : List ℕ) → length (bindingFront start end name) ≡ 34 + length name
+front-length : (start end : ℕ) (name : List ℕ) → length (bindingFront start end name) ≡ headSize + headSize + 4 + length name
 unfolding encode encodes headBytes
 front-length start end name = omega (arith, ap length (append-nil name))
 
