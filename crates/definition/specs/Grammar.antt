@@ -1,5 +1,6 @@
--- The grammar of document 01, "Items", "Functions and classes" and "Expressions", as a table: a row for each of the 85 marks, with the form of
--- its text and the slots of its children. Assumes nothing: these are definitions.
+-- The grammar of document 01, "Items", "Functions and classes" and "Expressions", as a table: a row for each mark, with the form of its
+-- text, the slots of its children and, behind it, what the mark stands for. Assumes nothing: these are definitions. The code's tables are
+-- printed from this file: after a change of it run `tools/grammar-tables`.
 use Prim.Native.Nat.{ℕ, suc, _+_, _*_}
 use Prim.Native.Char.{Char, code}
 use Prim.Native.String.{String, [] as ε, _∷_ as _∷ₛ_, _++_ as _⧺_}
@@ -88,91 +89,91 @@ absent-row = record { mark = mark "No"; form = empty; parts = [] }
 
 unfoldable pub grammar : List Row
 grammar =
-    row "Mo" empty (many item ∷ []) ∷
-    row "Op" anything [] ∷
-    absent-row ∷
-    row "Im" empty [] ∷
-    row "St" empty [] ∷
-    row "Ed" empty (one declaration ∷ []) ∷
-    row "Xd" empty (one "Cx Fx In" ∷ []) ∷
-    row "Xe" empty (one expression ∷ []) ∷
-    row "Fd" empty (one "Id" ∷ one "Fu" ∷ []) ∷
-    row "Cd" empty (one "Id" ∷ one "Cl" ∷ []) ∷
-    row "Vd" empty (many "Vr" ∷ []) ∷
-    row "Us" empty [] ∷
-    row "En" empty (one "Id" ∷ many "Em" ∷ []) ∷
-    row "Ns" empty (one "Op" ∷ one (optional "Nb Nd") ∷ []) ∷
-    row "In" empty [] ∷
-    row "Ty" empty [] ∷
-    row "Vr" empty (one pattern ∷ one (optional expression) ∷ []) ∷
-    row "Em" empty (one "Op" ∷ one (optional expression) ∷ []) ∷
-    row "Nb" empty (many item ∷ []) ∷
-    row "Nd" empty (one "Op" ∷ one "Nb Nd" ∷ []) ∷
-    row "Fu" empty (one (optional "Op") ∷ one (optional type) ∷ one (optional "Op") ∷ many "Pa" ∷ []) ∷
-    row "Pa" empty (one pattern ∷ []) ∷
-    row "Pp" empty (property ∷ []) ∷
-    row "Cl" empty (one (optional "Op") ∷ many classMember ∷ []) ∷
-    row "Co" empty (one (optional "Op") ∷ many "Pa Pp" ∷ []) ∷
-    row "Me" empty (one key ∷ one "Fu" ∷ []) ∷
-    row "Cp" empty (one key ∷ one (optional type) ∷ one (optional expression) ∷ []) ∷
-    row "Dm" empty [] ∷
-    row "Ix" empty [] ∷
-    row "Ps" empty (one expression ∷ one (optional type) ∷ []) ∷
-    row "Om" empty [] ∷
-    row "Pb" empty (one (optional type) ∷ []) ∷
-    row "Po" empty (one (optional type) ∷ []) ∷
-    row "Bd" empty (one "Id" ∷ one (optional type) ∷ []) ∷
-    row "Ag" empty (one pattern ∷ one expression ∷ []) ∷
-    row "Rs" empty [] ∷
-    row "Pe" empty (one expression ∷ []) ∷
-    row "Pi" empty [] ∷
-    row "Ki" anything [] ∷
-    row "Kc" empty (one expression ∷ []) ∷
-    row "Ss" anything [] ∷
-    row "Nu" eight [] ∷
-    row "Bi" integer [] ∷
-    row "Bl" empty [] ∷
-    row "Nl" empty [] ∷
-    row "Re" empty [] ∷
-    row "Jt" empty [] ∷
-    row "Id" identifier [] ∷
-    row "Ar" empty (many (expression or "Sp No") ∷ []) ∷
-    row "Ob" empty (many "Kv Sh Pq Sp" ∷ []) ∷
-    row "Fx" empty (one (optional "Id") ∷ one "Fu" ∷ []) ∷
-    row "Cx" empty (one (optional "Id") ∷ one "Cl" ∷ []) ∷
-    row "Aw" empty (one (optional "Op") ∷ one (optional type) ∷ many pattern ∷ []) ∷
-    row "Te" empty (many "Qu" ∷ many expression ∷ []) ∷
-    row "Mi" empty (one expression ∷ []) ∷
-    row "Ca" empty (one expression ∷ many (expression or "Sp") ∷ []) ∷
-    row "Ne" empty (one expression ∷ one (optional "Op") ∷ []) ∷
-    row "Mb" empty (one expression ∷ one "Ki Op" ∷ []) ∷
-    row "Bn" empty (one expression ∷ one expression ∷ []) ∷
-    row "Oc" empty (one "Mb Op" ∷ []) ∷
-    row "Tc" empty (one expression ∷ []) ∷
-    row "Nn" empty (one expression ∷ []) ∷
-    row "Pr" empty (one expression ∷ []) ∷
-    row "As" empty (one expression ∷ one type ∷ []) ∷
-    row "Ts" empty (one expression ∷ one type ∷ []) ∷
-    row "Ta" empty (one expression ∷ one type ∷ []) ∷
-    row "Oe" empty [] ∷
-    row "Sp" empty (one expression ∷ []) ∷
-    row "Kv" empty (one key ∷ one expression ∷ []) ∷
-    row "Sh" empty (one "Id" ∷ []) ∷
-    row "Pq" empty [] ∷
-    row "Qu" cooked [] ∷
-    row "Tm" empty (one (optional "Op") ∷ one type ∷ []) ∷
-    row "Kw" anything [] ∷
-    row "Tl" empty (one "Ss Nu Bi Bl Op" ∷ []) ∷
-    row "Rf" empty (one "Id Op" ∷ one (optional "Op") ∷ []) ∷
-    row "Tf" empty (one "Id Op" ∷ []) ∷
-    row "Li" empty (many "Ps Ix Om" ∷ []) ∷
-    row "Ay" empty [] ∷
-    row "Tu" empty (many "Tm" ∷ []) ∷
-    row "Rt" empty (one type ∷ []) ∷
-    row "Ro" empty (one type ∷ []) ∷
-    row "Ft" empty (one (optional "Op") ∷ one type ∷ many pattern ∷ []) ∷
-    row "Ct" empty [] ∷
-    row "Ot" empty [] ∷
+    row "Mo" empty (many item ∷ []) ∷  -- a module
+    row "Op" anything [] ∷  -- an opaque part: source text
+    absent-row ∷  -- absent
+    row "Im" empty [] ∷  -- an import, a re-export or an export assignment
+    row "St" empty [] ∷  -- any other statement
+    row "Ed" empty (one declaration ∷ []) ∷  -- an exported declaration
+    row "Xd" empty (one "Cx Fx In" ∷ []) ∷  -- a default export of a class, a function or an interface
+    row "Xe" empty (one expression ∷ []) ∷  -- a default export of an expression
+    row "Fd" empty (one "Id" ∷ one "Fu" ∷ []) ∷  -- a function declaration
+    row "Cd" empty (one "Id" ∷ one "Cl" ∷ []) ∷  -- a class declaration
+    row "Vd" empty (many "Vr" ∷ []) ∷  -- a variable declaration
+    row "Us" empty [] ∷  -- a using declaration
+    row "En" empty (one "Id" ∷ many "Em" ∷ []) ∷  -- an enum
+    row "Ns" empty (one "Op" ∷ one (optional "Nb Nd") ∷ []) ∷  -- a namespace: its name, and its body
+    row "In" empty [] ∷  -- an interface
+    row "Ty" empty [] ∷  -- a type alias
+    row "Vr" empty (one pattern ∷ one (optional expression) ∷ []) ∷  -- a variable: its pattern, and its init
+    row "Em" empty (one "Op" ∷ one (optional expression) ∷ []) ∷  -- an enum's member: its name, and its init
+    row "Nb" empty (many item ∷ []) ∷  -- a namespace's body, as items
+    row "Nd" empty (one "Op" ∷ one "Nb Nd" ∷ []) ∷  -- a namespace's body, as a namespace inside: its name, and its body
+    row "Fu" empty (one (optional "Op") ∷ one (optional type) ∷ one (optional "Op") ∷ many "Pa" ∷ []) ∷  -- what a function holds: type parameters, return type, body, parameters
+    row "Pa" empty (one pattern ∷ []) ∷  -- a parameter
+    row "Pp" empty (property ∷ []) ∷  -- a constructor's parameter that is a property
+    row "Cl" empty (one (optional "Op") ∷ many classMember ∷ []) ∷  -- what a class holds: type parameters, members
+    row "Co" empty (one (optional "Op") ∷ many "Pa Pp" ∷ []) ∷  -- a constructor: body, parameters
+    row "Me" empty (one key ∷ one "Fu" ∷ []) ∷  -- a method, a getter or a setter
+    row "Cp" empty (one key ∷ one (optional type) ∷ one (optional expression) ∷ []) ∷  -- a class property
+    row "Dm" empty [] ∷  -- a private or empty member, a static block or an auto accessor
+    row "Ix" empty [] ∷  -- an index signature
+    row "Ps" empty (one expression ∷ one (optional type) ∷ []) ∷  -- a property of an object type
+    row "Om" empty [] ∷  -- any other member of an object type
+    row "Pb" empty (one (optional type) ∷ []) ∷  -- an array pattern
+    row "Po" empty (one (optional type) ∷ []) ∷  -- an object pattern
+    row "Bd" empty (one "Id" ∷ one (optional type) ∷ []) ∷  -- a name as a pattern
+    row "Ag" empty (one pattern ∷ one expression ∷ []) ∷  -- a pattern with a default
+    row "Rs" empty [] ∷  -- a rest pattern
+    row "Pe" empty (one expression ∷ []) ∷  -- an expression as a pattern
+    row "Pi" empty [] ∷  -- an invalid pattern
+    row "Ki" anything [] ∷  -- a name as a key
+    row "Kc" empty (one expression ∷ []) ∷  -- a computed key
+    row "Ss" anything [] ∷  -- a string
+    row "Nu" eight [] ∷  -- a number
+    row "Bi" integer [] ∷  -- a big integer
+    row "Bl" empty [] ∷  -- a boolean
+    row "Nl" empty [] ∷  -- null
+    row "Re" empty [] ∷  -- a regex
+    row "Jt" empty [] ∷  -- JSX text
+    row "Id" identifier [] ∷  -- an identifier
+    row "Ar" empty (many (expression or "Sp No") ∷ []) ∷  -- an array
+    row "Ob" empty (many "Kv Sh Pq Sp" ∷ []) ∷  -- an object
+    row "Fx" empty (one (optional "Id") ∷ one "Fu" ∷ []) ∷  -- a function expression
+    row "Cx" empty (one (optional "Id") ∷ one "Cl" ∷ []) ∷  -- a class expression
+    row "Aw" empty (one (optional "Op") ∷ one (optional type) ∷ many pattern ∷ []) ∷  -- an arrow function: type parameters, return type, parameters
+    row "Te" empty (many "Qu" ∷ many expression ∷ []) ∷  -- a template
+    row "Mi" empty (one expression ∷ []) ∷  -- a unary minus
+    row "Ca" empty (one expression ∷ many (expression or "Sp") ∷ []) ∷  -- a call
+    row "Ne" empty (one expression ∷ one (optional "Op") ∷ []) ∷  -- an object made by new
+    row "Mb" empty (one expression ∷ one "Ki Op" ∷ []) ∷  -- a member of an object
+    row "Bn" empty (one expression ∷ one expression ∷ []) ∷  -- a binary expression
+    row "Oc" empty (one "Mb Op" ∷ []) ∷  -- an optional chain
+    row "Tc" empty (one expression ∷ []) ∷  -- an expression as const
+    row "Nn" empty (one expression ∷ []) ∷  -- a non-null assertion
+    row "Pr" empty (one expression ∷ []) ∷  -- an expression in parentheses
+    row "As" empty (one expression ∷ one type ∷ []) ∷  -- an expression as a type
+    row "Ts" empty (one expression ∷ one type ∷ []) ∷  -- an expression that satisfies a type
+    row "Ta" empty (one expression ∷ one type ∷ []) ∷  -- an angle-bracket assertion
+    row "Oe" empty [] ∷  -- any other expression
+    row "Sp" empty (one expression ∷ []) ∷  -- a spread
+    row "Kv" empty (one key ∷ one expression ∷ []) ∷  -- a key and its value
+    row "Sh" empty (one "Id" ∷ []) ∷  -- a shorthand property
+    row "Pq" empty [] ∷  -- any other property
+    row "Qu" cooked [] ∷  -- a text between the expressions of a template
+    row "Tm" empty (one (optional "Op") ∷ one type ∷ []) ∷  -- a member of a tuple type
+    row "Kw" anything [] ∷  -- a keyword type
+    row "Tl" empty (one "Ss Nu Bi Bl Op" ∷ []) ∷  -- a literal type
+    row "Rf" empty (one "Id Op" ∷ one (optional "Op") ∷ []) ∷  -- a type reference
+    row "Tf" empty (one "Id Op" ∷ []) ∷  -- a typeof type
+    row "Li" empty (many "Ps Ix Om" ∷ []) ∷  -- an object type
+    row "Ay" empty [] ∷  -- an array type
+    row "Tu" empty (many "Tm" ∷ []) ∷  -- a tuple type
+    row "Rt" empty (one type ∷ []) ∷  -- a rest type
+    row "Ro" empty (one type ∷ []) ∷  -- a readonly type
+    row "Ft" empty (one (optional "Op") ∷ one type ∷ many pattern ∷ []) ∷  -- a function type: type parameters, return type, parameters
+    row "Ct" empty [] ∷  -- a constructor type
+    row "Ot" empty [] ∷  -- any other type
     []
 
 -- the slot of a tree's root: "root must be Mo"

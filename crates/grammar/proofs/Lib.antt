@@ -1,3 +1,4 @@
+mod Printed
 mod Lookups
 mod Places
 mod Forms

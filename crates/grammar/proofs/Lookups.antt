@@ -11,33 +11,21 @@ use borrow.Author.Tests.{lt-ltb, le-ltb, le-leb, lt-leb}
 use lib.Dec.{T, eqb, leb, ltb}
 use lib.ListN.{length, getD, List·getD-map, List·getD-eq-default}
 use Rattle.definition.specs.Grammar.{known, forms, slots, least, marks, member}
-use Rattle.grammar.specs.Slots.{setsTable, setAt, partsTable, partsFrom, decode, formAt}
+use Rattle.grammar.specs.Printed.{setsTable, partsTable}
+use Rattle.grammar.specs.Slots.{setAt, partsFrom, decode, formAt}
+use Rattle.grammar.proofs.Printed.{rows, sets, formsTable, startsTable, lowsTable, highsTable, othersTable}
 
 -- ---- by mark: the code's FORMS and STARTS; its LEASTS is `map least slots`
 
-unfoldable pub formsTable : List ℕ
-formsTable =
-    0 ∷ 1 ∷ 0 ∷ 0 ∷ 0 ∷ 0 ∷ 0 ∷ 0 ∷ 0 ∷ 0 ∷ 0 ∷ 0 ∷ 0 ∷ 0 ∷ 0 ∷ 0 ∷ 0 ∷ 0 ∷ 0 ∷ 0 ∷ 0 ∷ 0 ∷ 0 ∷ 0 ∷ 0 ∷ 0 ∷ 0 ∷ 0 ∷ 0 ∷ 0 ∷
-    0 ∷ 0 ∷ 0 ∷ 0 ∷ 0 ∷ 0 ∷ 0 ∷ 0 ∷ 1 ∷ 0 ∷ 1 ∷ 2 ∷ 3 ∷ 0 ∷ 0 ∷ 0 ∷ 0 ∷ 4 ∷ 0 ∷ 0 ∷ 0 ∷ 0 ∷ 0 ∷ 0 ∷ 0 ∷ 0 ∷ 0 ∷ 0 ∷ 0 ∷ 0 ∷
-    0 ∷ 0 ∷ 0 ∷ 0 ∷ 0 ∷ 0 ∷ 0 ∷ 0 ∷ 0 ∷ 0 ∷ 0 ∷ 5 ∷ 0 ∷ 1 ∷ 0 ∷ 0 ∷ 0 ∷ 0 ∷ 0 ∷ 0 ∷ 0 ∷ 0 ∷ 0 ∷ 0 ∷ 0 ∷
-    []
-
-unfoldable pub startsTable : List ℕ
-startsTable =
-    143 ∷ 5 ∷ 0 ∷ 5 ∷ 5 ∷ 122 ∷ 125 ∷ 23 ∷ 54 ∷ 58 ∷ 152 ∷ 5 ∷ 66 ∷ 90 ∷ 5 ∷ 5 ∷ 110 ∷ 82 ∷ 143 ∷ 86 ∷ 1 ∷ 140 ∷ 161 ∷ 102 ∷ 98 ∷ 50 ∷ 7 ∷ 5 ∷ 5 ∷ 38 ∷
-    5 ∷ 39 ∷ 39 ∷ 62 ∷ 106 ∷ 5 ∷ 23 ∷ 5 ∷ 5 ∷ 23 ∷ 5 ∷ 5 ∷ 5 ∷ 5 ∷ 5 ∷ 5 ∷ 5 ∷ 5 ∷ 146 ∷ 149 ∷ 70 ∷ 74 ∷ 17 ∷ 118 ∷ 23 ∷ 42 ∷ 30 ∷ 26 ∷ 22 ∷ 134 ∷
-    23 ∷ 23 ∷ 23 ∷ 34 ∷ 34 ∷ 34 ∷ 5 ∷ 23 ∷ 46 ∷ 128 ∷ 5 ∷ 5 ∷ 94 ∷ 5 ∷ 137 ∷ 78 ∷ 131 ∷ 155 ∷ 5 ∷ 158 ∷ 35 ∷ 35 ∷ 12 ∷ 5 ∷ 5 ∷
-    []
-
-pub known-long : length known ≡ 85
+pub known-long : length known ≡ rows
 unfolding known
 known-long = refl
 
-forms-long : length forms ≡ 85
+forms-long : length forms ≡ rows
 unfolding forms
 forms-long = refl
 
-slots-long : length slots ≡ 85
+slots-long : length slots ≡ rows
 unfolding slots
 slots-long = refl
 
@@ -68,7 +56,7 @@ module _ (c : ℕ) where
   pub least-is : getD (map least slots) c 0 ≡ least (getD slots c [])
   least-is = rw (← least-none) (List·getD-map least slots c [])
 
-  module _ (h : 85 ≤ c) where
+  module _ (h : rows ≤ c) where
     pub no-form : formAt 0 ≡ getD forms c (formAt 0)
     no-form = sym (List·getD-eq-default forms _ (omega (arith, forms-long)))
 
@@ -85,24 +73,6 @@ module _ (c : ℕ) where
     no-mark = List·getD-eq-default known 0 (omega (arith, known-long))
 
 -- ---- by set: the code's LOWS, HIGHS and OTHERS
-
-unfoldable pub lowsTable : List ℕ
-lowsTable =
-    0 ∷ 3 ∷ 8 ∷ 50 ∷ 40 ∷ 40 ∷ 40 ∷ 40 ∷ 67 ∷ 38 ∷ 47 ∷ 2 ∷ 1 ∷ 1 ∷ 1 ∷ 40 ∷ 1 ∷ 1 ∷ 20 ∷ 23 ∷ 16 ∷ 17 ∷ 18 ∷ 18 ∷ 21 ∷ 21 ∷ 24 ∷ 28 ∷ 31 ∷ 33 ∷
-    71 ∷ 72 ∷ 73 ∷ 73 ∷ 33 ∷
-    []
-
-unfoldable pub highsTable : List ℕ
-highsTable =
-    1 ∷ 16 ∷ 16 ∷ 52 ∷ 67 ∷ 67 ∷ 68 ∷ 68 ∷ 71 ∷ 43 ∷ 48 ∷ 3 ∷ 2 ∷ 2 ∷ 2 ∷ 44 ∷ 2 ∷ 3 ∷ 21 ∷ 24 ∷ 17 ∷ 18 ∷ 20 ∷ 20 ∷ 22 ∷ 23 ∷ 29 ∷ 31 ∷ 38 ∷ 38 ∷
-    72 ∷ 73 ∷ 85 ∷ 85 ∷ 35 ∷
-    []
-
-unfoldable pub othersTable : List ℕ
-othersTable =
-    255 ∷ 255 ∷ 255 ∷ 14 ∷ 255 ∷ 2 ∷ 255 ∷ 2 ∷ 255 ∷ 255 ∷ 255 ∷ 47 ∷ 47 ∷ 38 ∷ 57 ∷ 1 ∷ 255 ∷ 255 ∷ 255 ∷ 255 ∷ 255 ∷ 255 ∷ 255 ∷ 2 ∷ 255 ∷ 255 ∷ 255 ∷
-    255 ∷ 255 ∷ 255 ∷ 255 ∷ 255 ∷ 255 ∷ 2 ∷ 255 ∷
-    []
 
 -- whether c is in the run of the set k, or its one mark more
 abbrev run : ℕ → ℕ → Bool
@@ -146,7 +116,7 @@ all-right : T (every right "" 0 setsTable)
 unfolding right in-run setsTable known member marks lowsTable highsTable othersTable
 all-right = tt
 
-sets-long : length setsTable ≡ 35
+sets-long : length setsTable ≡ sets
 unfolding setsTable
 sets-long = refl
 
@@ -155,20 +125,20 @@ unfolding member marks
 nothing-in-none m = refl
 
 module _ (k c : ℕ) where
-  pub no-set : 35 ≤ k → false ≡ member (getD known c 0) (marks (setAt k))
+  pub no-set : sets ≤ k → false ≡ member (getD known c 0) (marks (setAt k))
   no-set h = rw (List·getD-eq-default setsTable "" {n = k} (omega (arith, sets-long))) (nothing-in-none _)
 
-  module _ (h : k < 35) where
+  module _ (h : k < sets) where
     set-right : T (every (in-run k (setAt k)) 0 0 known) × T (Bool·beq false (member 0 (marks (setAt k))))
     unfolding right
     set-right =
         both (every (in-run k (setAt k)) 0 0 known) (Bool·beq false (member 0 (marks (setAt k))))
         (at-each right "" setsTable all-right k (omega (arith, sets-long)))
 
-    pub not-in-set : 85 ≤ c → false ≡ member (getD known c 0) (marks (setAt k))
+    pub not-in-set : rows ≤ c → false ≡ member (getD known c 0) (marks (setAt k))
     not-in-set l = rw (no-mark c l) (agree _ _ (set-right .1))
 
-    module _ (l : c < 85) where
+    module _ (l : c < rows) where
       set-is : run k c ≡ member (getD known c 0) (marks (setAt k))
       unfolding in-run
       set-is = agree _ _ (at-each (in-run k (setAt k)) 0 known (set-right .0) c (omega (arith, known-long)))

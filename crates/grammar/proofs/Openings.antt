@@ -14,6 +14,7 @@ use Rattle.definition.specs.Check.{hasForm, formOf, slotsOf, inside, Opening, O
 use Rattle.records.specs.Fields.{fieldsAt}
 use Rattle.records.specs.declared.Head.{Head}
 use Rattle.grammar.specs.Slots.{partsFrom, formAt}
+use Rattle.grammar.proofs.Printed.{rows}
 use Rattle.grammar.proofs.Lookups.{known-long}
 
 -- the mark at a place that was found is the mark that was looked for
@@ -27,7 +28,7 @@ place-at (x ∷ xs) m h = go (eqb x m) refl h (place-at xs m)
     go true e l f = eqb-true x m e
     go false e l f = f (le-of-suc-le-suc l)
 
-pub mark-back : (code m : ℕ) → code ≡ place known m → code < 85 → getD known code 0 ≡ m
+pub mark-back : (code m : ℕ) → code ≡ place known m → code < rows → getD known code 0 ≡ m
 mark-back code m e h = ap (λ (k : ℕ). getD known k 0) e ∙ place-at known m (omega (arith, known-long))
 
 pub cut-head : (s : List ℕ) (at : ℕ) (ps : List Part) → length s - at < headSize → stopped 3 ≡ openAt s at ps
@@ -45,12 +46,12 @@ module _ (s : List ℕ) (at : ℕ) (ps : List Part) (h : Head) (code : ℕ) (is 
     number-is : place known (markAt s at) ≡ code
     number-is = ap (place known) (sym mark-is) ∙ sym num
 
-    pub unknown-mark : 85 ≤ code → stopped 4 ≡ openAt s at ps
+    pub unknown-mark : rows ≤ code → stopped 4 ≡ openAt s at ps
     unfolding openAt
     unknown-mark b =
         rw (le-ltb (length s - at) headSize a, le-leb (length known) (place known (markAt s at)) (omega (arith, number-is, known-long)))
 
-    module _ (b : code < 85) where
+    module _ (b : code < rows) where
       known-mark : place known (markAt s at) < length known
       known-mark = omega (arith, number-is, known-long)
 

@@ -10,27 +10,29 @@ use borrow.Author.Tests.{eq-eqb, ne-eqb, lt-ltb, le-ltb}
 use lib.ListN.{length, getD, drop-of-length-le, List·getD-eq-default}
 use lib.Seq.{drop-cons}
 use Rattle.definition.specs.Grammar.{Part.one, Part.many, Part.property, allowed, after, member, marks, isProperty, root, undestructured}
-use Rattle.grammar.specs.Slots.{setsTable, setAt, partsTable, partsFrom, decode, decodeOne}
+use Rattle.grammar.specs.Printed.{setsTable, partsTable}
+use Rattle.grammar.specs.Slots.{setAt, partsFrom, decode, decodeOne}
+use Rattle.grammar.proofs.Printed.{places, propertySet, undestructuredAt, rootAt}
 
-pub parts-long : length partsTable ≡ 166
+pub parts-long : length partsTable ≡ places
 unfolding partsTable
 parts-long = refl
 
 -- the places that the code names: PROPERTY_SET, UNDESTRUCTURED and ROOT
-property-set : setAt 34 ≡ "Bd Ag"
-unfolding setsTable
-property-set = refl
+property-set : (m : ℕ) → allowed (property ∷ []) m ≡ member m (marks (setAt propertySet))
+unfolding allowed setsTable
+property-set m = refl
 
-pub undestructured-is : partsFrom 114 ≡ undestructured
+pub undestructured-is : partsFrom undestructuredAt ≡ undestructured
 unfolding partsFrom decode partsTable setsTable
 undestructured-is = refl
 
-pub root-is : partsFrom 164 ≡ root
+pub root-is : partsFrom rootAt ≡ root
 unfolding partsFrom decode partsTable setsTable
 root-is = refl
 
 -- past the table there are no slots
-module _ (k : ℕ) (h : 166 ≤ k) where
+module _ (k : ℕ) (h : places ≤ k) where
   parts-none : partsFrom k ≡ []
   unfolding partsFrom decode
   parts-none = rw (drop-of-length-le partsTable {i = k} (omega (arith, parts-long)))
@@ -44,7 +46,7 @@ module _ (k : ℕ) (h : 166 ≤ k) where
   after-none m = rw parts-none
 
 -- at the place k, where the entry p stands
-module _ (k p m : ℕ) (h : k < 166) (q : p ≡ getD partsTable k 0) where
+module _ (k p m : ℕ) (h : k < places) (q : p ≡ getD partsTable k 0) where
   parts-first : partsFrom k ≡ decodeOne p (partsFrom (k + 1))
   unfolding partsFrom decode
   parts-first = rw (q, add-one k, drop-cons partsTable k 0 (omega (arith, parts-long)))
@@ -82,9 +84,9 @@ module _ (k p m : ℕ) (h : k < 166) (q : p ≡ getD partsTable k 0) where
         parts-property : partsFrom k ≡ property ∷ partsFrom (k + 1)
         parts-property = parts-first ∙ rw (ne-eqb p 0 n, le-ltb p 65 l, le-ltb p 128 u)
 
-        pub allowed-property : allowed (partsFrom k) m ≡ member m (marks (setAt 34))
+        pub allowed-property : allowed (partsFrom k) m ≡ member m (marks (setAt propertySet))
         unfolding allowed
-        allowed-property = rw (parts-property, property-set)
+        allowed-property = rw parts-property (property-set m)
 
         pub after-property : after (partsFrom k) m ≡ partsFrom (k + 1)
         unfolding after
@@ -117,17 +119,17 @@ module _ (k p m : ℕ) (h : k < 166) (q : p ≡ getD partsTable k 0) where
 module _ (k p : ℕ) (q : p ≡ getD partsTable k 0) where
   pub property-yes : 128 ≤ p → isProperty (partsFrom k) ≡ true
   unfolding isProperty
-  property-yes u = go (decLt k 166)
+  property-yes u = go (decLt k places)
     where
-      go : Dec (k < 166) → isProperty (partsFrom k) ≡ true
+      go : Dec (k < places) → isProperty (partsFrom k) ≡ true
       go (yes h) = rw (parts-property k p 0 h q (λ (e : p ≡ 0). omega arith) (omega arith) u)
       go (no n) = absurd (omega (arith, n, q, List·getD-eq-default partsTable 0 {n = k} (omega (arith, parts-long))))
 
   pub property-no : p < 128 → isProperty (partsFrom k) ≡ false
   unfolding isProperty
-  property-no u = go (decLt k 166) (ℕ-discrete p 0) (decLt p 65)
+  property-no u = go (decLt k places) (ℕ-discrete p 0) (decLt p 65)
     where
-      go : Dec (k < 166) → Dec (p ≡ 0) → Dec (p < 65) → isProperty (partsFrom k) ≡ false
+      go : Dec (k < places) → Dec (p ≡ 0) → Dec (p < 65) → isProperty (partsFrom k) ≡ false
       go (no n) d f = rw (parts-none k (omega arith))
       go (yes h) (yes e) f = rw (parts-end k p 0 h q e)
       go (yes h) (no n) (yes l) = rw (parts-one k p 0 h q n l)

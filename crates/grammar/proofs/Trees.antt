@@ -7,6 +7,7 @@ use borrow.Author.Tests.{lt-ltb, le-ltb}
 use lib.ListN.{length}
 use Rattle.definition.specs.Check.{Checked, Checked.fine, Checked.refused, longestTree, deepest, checkAt, listFine, whole, checkTree}
 use Rattle.grammar.specs.Slots.{partsFrom}
+use Rattle.grammar.proofs.Printed.{rootAt}
 use Rattle.grammar.proofs.Places.{root-is}
 
 module _ (tree list : List ℕ) where
@@ -20,7 +21,7 @@ module _ (tree list : List ℕ) where
     list-bad e = rw (le-ltb longestTree (length tree) h, e)
 
     -- r is what the check of the root found
-    module _ (e : listFine list ≡ true) (r : Checked) (q : checkAt deepest tree 0 (partsFrom 164) ≡ r) where
+    module _ (e : listFine list ≡ true) (r : Checked) (q : checkAt deepest tree 0 (partsFrom rootAt) ≡ r) where
       found : whole r (length tree) ≡ checkTree tree list
       unfolding checkTree
       found = rw (le-ltb longestTree (length tree) h, e, ← q, root-is)

@@ -1,176 +1,183 @@
-// The 85 marks of document 01 as the numbers that a head holds: "mark (two ASCII letters)", little-endian. In the order of the grammar's rows.
+// The marks of document 01 as the numbers that a head holds: "mark (two ASCII letters)", little-endian. In the order of the grammar's rows.
 ghost use mathlib.Core.Path.{_≡_};
 ghost use Rattle.definition.specs.Grammar.{known, place};
 
-pub const MO: u16 = 0x6f4d; // "Mo"
+// printed by tools/grammar-tables: marks
 
-pub const OP: u16 = 0x704f; // "Op"
+pub const MO: u16 = 0x6f4d; // "Mo": a module
 
-pub const NO: u16 = 0x6f4e; // "No"
+pub const OP: u16 = 0x704f; // "Op": an opaque part: source text
 
-pub const IM: u16 = 0x6d49; // "Im"
+pub const NO: u16 = 0x6f4e; // "No": absent
 
-pub const ST: u16 = 0x7453; // "St"
+pub const IM: u16 = 0x6d49; // "Im": an import, a re-export or an export assignment
 
-pub const ED: u16 = 0x6445; // "Ed"
+pub const ST: u16 = 0x7453; // "St": any other statement
 
-pub const XD: u16 = 0x6458; // "Xd"
+pub const ED: u16 = 0x6445; // "Ed": an exported declaration
 
-pub const XE: u16 = 0x6558; // "Xe"
+pub const XD: u16 = 0x6458; // "Xd": a default export of a class, a function or an interface
 
-pub const FD: u16 = 0x6446; // "Fd"
+pub const XE: u16 = 0x6558; // "Xe": a default export of an expression
 
-pub const CD: u16 = 0x6443; // "Cd"
+pub const FD: u16 = 0x6446; // "Fd": a function declaration
 
-pub const VD: u16 = 0x6456; // "Vd"
+pub const CD: u16 = 0x6443; // "Cd": a class declaration
 
-pub const US: u16 = 0x7355; // "Us"
+pub const VD: u16 = 0x6456; // "Vd": a variable declaration
 
-pub const EN: u16 = 0x6e45; // "En"
+pub const US: u16 = 0x7355; // "Us": a using declaration
 
-pub const NS: u16 = 0x734e; // "Ns"
+pub const EN: u16 = 0x6e45; // "En": an enum
 
-pub const IN: u16 = 0x6e49; // "In"
+pub const NS: u16 = 0x734e; // "Ns": a namespace: its name, and its body
 
-pub const TY: u16 = 0x7954; // "Ty"
+pub const IN: u16 = 0x6e49; // "In": an interface
 
-pub const VR: u16 = 0x7256; // "Vr"
+pub const TY: u16 = 0x7954; // "Ty": a type alias
 
-pub const EM: u16 = 0x6d45; // "Em"
+pub const VR: u16 = 0x7256; // "Vr": a variable: its pattern, and its init
 
-pub const NB: u16 = 0x624e; // "Nb"
+pub const EM: u16 = 0x6d45; // "Em": an enum's member: its name, and its init
 
-pub const ND: u16 = 0x644e; // "Nd"
+pub const NB: u16 = 0x624e; // "Nb": a namespace's body, as items
 
-pub const FU: u16 = 0x7546; // "Fu"
+pub const ND: u16 = 0x644e; // "Nd": a namespace's body, as a namespace inside: its name, and its body
 
-pub const PA: u16 = 0x6150; // "Pa"
+pub const FU: u16 = 0x7546; // "Fu": what a function holds: type parameters, return type, body, parameters
 
-pub const PP: u16 = 0x7050; // "Pp"
+pub const PA: u16 = 0x6150; // "Pa": a parameter
 
-pub const CL: u16 = 0x6c43; // "Cl"
+pub const PP: u16 = 0x7050; // "Pp": a constructor's parameter that is a property
 
-pub const CO: u16 = 0x6f43; // "Co"
+pub const CL: u16 = 0x6c43; // "Cl": what a class holds: type parameters, members
 
-pub const ME: u16 = 0x654d; // "Me"
+pub const CO: u16 = 0x6f43; // "Co": a constructor: body, parameters
 
-pub const CP: u16 = 0x7043; // "Cp"
+pub const ME: u16 = 0x654d; // "Me": a method, a getter or a setter
 
-pub const DM: u16 = 0x6d44; // "Dm"
+pub const CP: u16 = 0x7043; // "Cp": a class property
 
-pub const IX: u16 = 0x7849; // "Ix"
+pub const DM: u16 = 0x6d44; // "Dm": a private or empty member, a static block or an auto accessor
 
-pub const PS: u16 = 0x7350; // "Ps"
+pub const IX: u16 = 0x7849; // "Ix": an index signature
 
-pub const OM: u16 = 0x6d4f; // "Om"
+pub const PS: u16 = 0x7350; // "Ps": a property of an object type
 
-pub const PB: u16 = 0x6250; // "Pb"
+pub const OM: u16 = 0x6d4f; // "Om": any other member of an object type
 
-pub const PO: u16 = 0x6f50; // "Po"
+pub const PB: u16 = 0x6250; // "Pb": an array pattern
 
-pub const BD: u16 = 0x6442; // "Bd"
+pub const PO: u16 = 0x6f50; // "Po": an object pattern
 
-pub const AG: u16 = 0x6741; // "Ag"
+pub const BD: u16 = 0x6442; // "Bd": a name as a pattern
 
-pub const RS: u16 = 0x7352; // "Rs"
+pub const AG: u16 = 0x6741; // "Ag": a pattern with a default
 
-pub const PE: u16 = 0x6550; // "Pe"
+pub const RS: u16 = 0x7352; // "Rs": a rest pattern
 
-pub const PI: u16 = 0x6950; // "Pi"
+pub const PE: u16 = 0x6550; // "Pe": an expression as a pattern
 
-pub const KI: u16 = 0x694b; // "Ki"
+pub const PI: u16 = 0x6950; // "Pi": an invalid pattern
 
-pub const KC: u16 = 0x634b; // "Kc"
+pub const KI: u16 = 0x694b; // "Ki": a name as a key
 
-pub const SS: u16 = 0x7353; // "Ss"
+pub const KC: u16 = 0x634b; // "Kc": a computed key
 
-pub const NU: u16 = 0x754e; // "Nu"
+pub const SS: u16 = 0x7353; // "Ss": a string
 
-pub const BI: u16 = 0x6942; // "Bi"
+pub const NU: u16 = 0x754e; // "Nu": a number
 
-pub const BL: u16 = 0x6c42; // "Bl"
+pub const BI: u16 = 0x6942; // "Bi": a big integer
 
-pub const NL: u16 = 0x6c4e; // "Nl"
+pub const BL: u16 = 0x6c42; // "Bl": a boolean
 
-pub const RE: u16 = 0x6552; // "Re"
+pub const NL: u16 = 0x6c4e; // "Nl": null
 
-pub const JT: u16 = 0x744a; // "Jt"
+pub const RE: u16 = 0x6552; // "Re": a regex
 
-pub const ID: u16 = 0x6449; // "Id"
+pub const JT: u16 = 0x744a; // "Jt": JSX text
 
-pub const AR: u16 = 0x7241; // "Ar"
+pub const ID: u16 = 0x6449; // "Id": an identifier
 
-pub const OB: u16 = 0x624f; // "Ob"
+pub const AR: u16 = 0x7241; // "Ar": an array
 
-pub const FX: u16 = 0x7846; // "Fx"
+pub const OB: u16 = 0x624f; // "Ob": an object
 
-pub const CX: u16 = 0x7843; // "Cx"
+pub const FX: u16 = 0x7846; // "Fx": a function expression
 
-pub const AW: u16 = 0x7741; // "Aw"
+pub const CX: u16 = 0x7843; // "Cx": a class expression
 
-pub const TE: u16 = 0x6554; // "Te"
+pub const AW: u16 = 0x7741; // "Aw": an arrow function: type parameters, return type, parameters
 
-pub const MI: u16 = 0x694d; // "Mi"
+pub const TE: u16 = 0x6554; // "Te": a template
 
-pub const CA: u16 = 0x6143; // "Ca"
+pub const MI: u16 = 0x694d; // "Mi": a unary minus
 
-pub const NE: u16 = 0x654e; // "Ne"
+pub const CA: u16 = 0x6143; // "Ca": a call
 
-pub const MB: u16 = 0x624d; // "Mb"
+pub const NE: u16 = 0x654e; // "Ne": an object made by new
 
-pub const BN: u16 = 0x6e42; // "Bn"
+pub const MB: u16 = 0x624d; // "Mb": a member of an object
 
-pub const OC: u16 = 0x634f; // "Oc"
+pub const BN: u16 = 0x6e42; // "Bn": a binary expression
 
-pub const TC: u16 = 0x6354; // "Tc"
+pub const OC: u16 = 0x634f; // "Oc": an optional chain
 
-pub const NN: u16 = 0x6e4e; // "Nn"
+pub const TC: u16 = 0x6354; // "Tc": an expression as const
 
-pub const PR: u16 = 0x7250; // "Pr"
+pub const NN: u16 = 0x6e4e; // "Nn": a non-null assertion
 
-pub const AS: u16 = 0x7341; // "As"
+pub const PR: u16 = 0x7250; // "Pr": an expression in parentheses
 
-pub const TS: u16 = 0x7354; // "Ts"
+pub const AS: u16 = 0x7341; // "As": an expression as a type
 
-pub const TA: u16 = 0x6154; // "Ta"
+pub const TS: u16 = 0x7354; // "Ts": an expression that satisfies a type
 
-pub const OE: u16 = 0x654f; // "Oe"
+pub const TA: u16 = 0x6154; // "Ta": an angle-bracket assertion
 
-pub const SP: u16 = 0x7053; // "Sp"
+pub const OE: u16 = 0x654f; // "Oe": any other expression
 
-pub const KV: u16 = 0x764b; // "Kv"
+pub const SP: u16 = 0x7053; // "Sp": a spread
 
-pub const SH: u16 = 0x6853; // "Sh"
+pub const KV: u16 = 0x764b; // "Kv": a key and its value
 
-pub const PQ: u16 = 0x7150; // "Pq"
+pub const SH: u16 = 0x6853; // "Sh": a shorthand property
 
-pub const QU: u16 = 0x7551; // "Qu"
+pub const PQ: u16 = 0x7150; // "Pq": any other property
 
-pub const TM: u16 = 0x6d54; // "Tm"
+pub const QU: u16 = 0x7551; // "Qu": a text between the expressions of a template
 
-pub const KW: u16 = 0x774b; // "Kw"
+pub const TM: u16 = 0x6d54; // "Tm": a member of a tuple type
 
-pub const TL: u16 = 0x6c54; // "Tl"
+pub const KW: u16 = 0x774b; // "Kw": a keyword type
 
-pub const RF: u16 = 0x6652; // "Rf"
+pub const TL: u16 = 0x6c54; // "Tl": a literal type
 
-pub const TF: u16 = 0x6654; // "Tf"
+pub const RF: u16 = 0x6652; // "Rf": a type reference
 
-pub const LI: u16 = 0x694c; // "Li"
+pub const TF: u16 = 0x6654; // "Tf": a typeof type
 
-pub const AY: u16 = 0x7941; // "Ay"
+pub const LI: u16 = 0x694c; // "Li": an object type
 
-pub const TU: u16 = 0x7554; // "Tu"
+pub const AY: u16 = 0x7941; // "Ay": an array type
 
-pub const RT: u16 = 0x7452; // "Rt"
+pub const TU: u16 = 0x7554; // "Tu": a tuple type
 
-pub const RO: u16 = 0x6f52; // "Ro"
+pub const RT: u16 = 0x7452; // "Rt": a rest type
 
-pub const FT: u16 = 0x7446; // "Ft"
+pub const RO: u16 = 0x6f52; // "Ro": a readonly type
 
-pub const CT: u16 = 0x7443; // "Ct"
+pub const FT: u16 = 0x7446; // "Ft": a function type: type parameters, return type, parameters
 
-pub const OT: u16 = 0x744f; // "Ot"
+pub const CT: u16 = 0x7443; // "Ct": a constructor type
+
+pub const OT: u16 = 0x744f; // "Ot": any other type
+
+// How many marks of records there are.
+pub const KNOWN: usize = 85;
+
+// end of what is printed
 
 // "`d1` to `d5`", the marks of diagnostics: "the cases of `FastCheckDtsDiagnostic`, in order".
 pub const D1: u16 = 0x3164; // UnableToInferType
@@ -183,14 +190,12 @@ pub const D4: u16 = 0x3464; // UnableToInferTypeFromSpread
 
 pub const D5: u16 = 0x3564; // UnsupportedUsing
 
-// How many marks of records there are.
-pub const KNOWN: usize = 85;
-
 // The row of the grammar that a mark has, and KNOWN where it is "unknown mark".
 pub fn mark_number(mark: u16) -> usize
     ensures { λ r. ⌜ r ≡ place known mark ⌝ }
 {
     match mark {
+        // printed by tools/grammar-tables: numbers
         MO => 0,
         OP => 1,
         NO => 2,
@@ -276,6 +281,7 @@ pub fn mark_number(mark: u16) -> usize
         FT => 82,
         CT => 83,
         OT => 84,
+        // end of what is printed
         _ => KNOWN,
     }
 }

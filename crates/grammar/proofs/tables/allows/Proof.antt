@@ -6,6 +6,7 @@ use lib.ListN.{getD}
 use borrow.Author.Needs.{needs}
 use Rattle.definition.specs.Grammar.{known, allowed}
 use Rattle.grammar.specs.Slots.{partsFrom}
+use Rattle.grammar.proofs.Printed.{places}
 use Rattle.grammar.proofs.Places.{allowed-end, allowed-one, allowed-property, allowed-in, allowed-out, allowed-none}
 use Rattle.grammar.proofs.tables.allows.Statement.{statement}
 use Rattle.grammar.proofs.tables.allows.Tie as tie
@@ -14,7 +15,7 @@ abbrev Inv-loop : tie.InvT-loop
 Inv-loop k code i₀ i = allowed (partsFrom k) (getD known code 0) ≡ allowed (partsFrom i) (getD known code 0)
 
 abbrev μ-loop : tie.MeasureT-loop
-μ-loop k code i₀ i = 166 - i
+μ-loop k code i₀ i = places - i
 
 loop-holds : tie.Need-loop-holds Inv-loop μ-loop
 loop-holds c = refl

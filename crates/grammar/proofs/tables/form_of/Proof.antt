@@ -1,6 +1,7 @@
 -- `grammar::tables::form_of` meets its contract: its table is the grammar's column of forms. Assumes nothing.
 use borrow.Author.Needs.{needs}
-use Rattle.grammar.proofs.Lookups.{formsTable, form-is, no-form}
+use Rattle.grammar.proofs.Printed.{formsTable}
+use Rattle.grammar.proofs.Lookups.{form-is, no-form}
 use Rattle.grammar.proofs.tables.form_of.Statement.{statement}
 use Rattle.grammar.proofs.tables.form_of.Tie as tie
 

@@ -3,7 +3,8 @@ use mathlib.Core.Path.{ap, _∙_}
 use native.Mathlib.Omega.{arith}
 use lib.Dec.{eqb}
 use borrow.Author.Needs.{needs}
-use Rattle.grammar.proofs.Lookups.{lowsTable, highsTable, othersTable, no-set, not-in-set, below-run, above-run, within-run}
+use Rattle.grammar.proofs.Printed.{lowsTable, highsTable, othersTable}
+use Rattle.grammar.proofs.Lookups.{no-set, not-in-set, below-run, above-run, within-run}
 use Rattle.grammar.proofs.tables.in_set.Statement.{statement}
 use Rattle.grammar.proofs.tables.in_set.Tie as tie
 

@@ -5,6 +5,7 @@ use lib.ListN.{getD}
 use borrow.Author.Needs.{needs}
 use Rattle.definition.specs.Grammar.{known, after}
 use Rattle.grammar.specs.Slots.{partsFrom}
+use Rattle.grammar.proofs.Printed.{places}
 use Rattle.grammar.proofs.Places.{after-end, after-one, after-property, after-in, after-out, after-none}
 use Rattle.grammar.proofs.tables.next_slot.Statement.{statement}
 use Rattle.grammar.proofs.tables.next_slot.Tie as tie
@@ -13,7 +14,7 @@ abbrev Inv-loop : tie.InvT-loop
 Inv-loop k code i₀ i = after (partsFrom k) (getD known code 0) ≡ after (partsFrom i) (getD known code 0)
 
 abbrev μ-loop : tie.MeasureT-loop
-μ-loop k code i₀ i = 166 - i
+μ-loop k code i₀ i = places - i
 
 loop-holds : tie.Need-loop-holds Inv-loop μ-loop
 loop-holds c = refl

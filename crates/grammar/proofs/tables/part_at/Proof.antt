@@ -3,7 +3,7 @@ use mathlib.Core.Path.{sym}
 use native.Mathlib.Omega.{arith}
 use lib.ListN.{List·getD-eq-default}
 use borrow.Author.Needs.{needs}
-use Rattle.grammar.specs.Slots.{partsTable}
+use Rattle.grammar.specs.Printed.{partsTable}
 use Rattle.grammar.proofs.Places.{parts-long}
 use Rattle.grammar.proofs.tables.part_at.Statement.{statement}
 use Rattle.grammar.proofs.tables.part_at.Tie as tie

@@ -2,7 +2,8 @@
 use mathlib.Core.Path.{ap, _∙_}
 use borrow.Author.Needs.{needs}
 use Rattle.grammar.specs.Slots.{partsFrom}
-use Rattle.grammar.proofs.Lookups.{startsTable, start-is, no-start}
+use Rattle.grammar.proofs.Printed.{startsTable}
+use Rattle.grammar.proofs.Lookups.{start-is, no-start}
 use Rattle.grammar.proofs.tables.start_of.Statement.{statement}
 use Rattle.grammar.proofs.tables.start_of.Tie as tie
 

@@ -11,6 +11,7 @@ unfolding grammar known place
 mark-number-spec =
     tie.close
     (tie.spec
+    -- printed by tools/grammar-tables: numbers
     (λ c. place-is known (c .match .keys1))
     (λ c. place-is known (c .match .keys2))
     (λ c. place-is known (c .match .keys3))
@@ -96,4 +97,5 @@ mark-number-spec =
     (λ c. place-is known (c .match .keys83))
     (λ c. place-is known (c .match .keys84))
     (λ c. place-is known (c .match .keys85))
+    -- end of what is printed
     (λ c. sym (place-none Unit known (c .before .args .mark) (c .match .rest))))
