@@ -5,7 +5,7 @@ use mathlib.Core.Option.{Option}
 use Prim.Native.Nat.{ℕ, _-_}
 use lib.Dec.{eqb}
 use Rattle.definition.specs.Tree.{Rec, Recs, headBytes, encode, endAt, readAll, treeAt}
-use Rattle.definition.specs.Record.{headOf, kidsOf, markOf, fresh, ident, withFlags, kid, Out, wrap, each, atKid, second}
+use Rattle.definition.specs.Record.{headOf, kidsOf, markOf, dummySp, fresh, ident, withFlags, kid, Out, wrap, each, atKid, second}
 use Rattle.definition.specs.Classes.{handleFunction, class}
 use Rattle.definition.specs.Check.{deepest}
 use Rattle.definition.specs.Names.{genUniqueName}
@@ -59,7 +59,7 @@ defaultExprOf tree scope r n = exportDefaultExpr [] (scope .unresolved) (typingO
 -- a declared const before its type
 abbrev pub constFront : ℕ → List ℕ
 constFront i =
-    headBytes (fresh "Vd" 3 []) 1 ++ (headBytes (fresh "Vr" 0 []) 2 ++ (headBytes (fresh "Bd" 0 []) 2 ++ encode (ident (genUniqueName i))))
+    headBytes (fresh "Vd" 3 []) 1 ++ (headBytes (fresh "Vr" 0 []) 2 ++ (headBytes (fresh "Bd" 0 []) 2 ++ encode (ident dummySp (genUniqueName i))))
 
 -- ---- items
 

@@ -11,7 +11,7 @@ use lib.Seq.{sets, length-sets}
 use Rattle.definition.specs.Tree.{Head, Rec, rec, nil, cons, le4, headBytes, encode, encodes, treeAt}
 use Rattle.definition.specs.Grammar.{mark}
 use Rattle.definition.specs.Children.{AcceptedAt}
-use Rattle.definition.specs.Record.{one, fresh, absent, ident}
+use Rattle.definition.specs.Record.{dummySp, one, fresh, absent, ident}
 use Rattle.definition.specs.Helpers.{tsKeywordType, tsReadonly, tsTupleElement}
 use Rattle.definition.specs.Typing.{tsRestType}
 use Rattle.records.specs.Fields.{fieldBytes}
@@ -67,23 +67,23 @@ module _ (h : Head) where
   encode-two r s e = rw (e, append-nil)
 
 -- an Id that is made afresh, of which the length of the text is known
-pub ident-is : (name : List ℕ) → fieldBytes (freshFields (mark "Id") (4 + length name) 0) ++ (le4 0 ++ name) ≡ encode (ident name)
+pub ident-is : (name : List ℕ) → fieldBytes (freshFields (mark "Id") (4 + length name) 0) ++ (le4 0 ++ name) ≡ encode (ident dummySp name)
 unfolding fieldBytes headBytes
 ident-is name = ap (λ (n : ℕ). fieldBytes (freshFields (mark "Id") n 0) ++ (le4 0 ++ name)) (omega arith) ∙ encode-leaf (fresh "Id" 0 (le4 0 ++ name))
 
 -- a record that wraps a type is its front and the type
-pub readonly-is : (t : Rec) → encode (tsReadonly t) ≡ tsReadonlyFront ++ encode t
+pub readonly-is : (t : Rec) → encode (tsReadonly dummySp t) ≡ tsReadonlyFront ++ encode t
 readonly-is t = sym (encode-one _ t refl)
 
-pub tuple-element-is : (t : Rec) → encode (tsTupleElement t) ≡ tsTupleElementFront ++ encode t
+pub tuple-element-is : (t : Rec) → encode (tsTupleElement dummySp t) ≡ tsTupleElementFront ++ encode t
 tuple-element-is t = sym (append-assoc (headBytes (fresh "Tm" 0 []) 2) (encode absent) (encode t) ∙ encode-two _ _ t refl)
 
-pub rest-type-is : (t : Rec) → encode (tsRestType t) ≡ tsRestTypeFront ++ encode t
+pub rest-type-is : (t : Rec) → encode (tsRestType dummySp t) ≡ tsRestTypeFront ++ encode t
 rest-type-is t = sym (encode-one _ t refl)
 
 -- ---- keywords
 
-pub keyword-put : {a b : List ℕ} {p : ℕ} {kind k : TsKeywordTypeKind} {q : ℕ} → kind ≡ k → Put a b p (encode (tsKeywordType (keyword k))) q → Put a b p (encode (tsKeywordType (keyword kind))) q
+pub keyword-put : {a b : List ℕ} {p : ℕ} {kind k : TsKeywordTypeKind} {q : ℕ} → kind ≡ k → Put a b p (encode (tsKeywordType dummySp (keyword k))) q → Put a b p (encode (tsKeywordType dummySp (keyword kind))) q
 keyword-put e w = rw e w
 
 -- ---- records of the tree

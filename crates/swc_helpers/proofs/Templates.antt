@@ -11,7 +11,7 @@ use borrow.Author.Tests.{ne-eqb}
 use Rattle.definition.specs.Tree.{Rec, Recs, rec, nil, markAt, countAt, textAt, bodyAt, readAll, endAt, treeAt, encode}
 use Rattle.definition.specs.Grammar.{mark}
 use Rattle.definition.specs.Children.{AcceptedAt, AllAccepted, childAt}
-use Rattle.definition.specs.Record.{headOf, kidsOf, textOf, is, has1, kid, fresh}
+use Rattle.definition.specs.Record.{headOf, kidsOf, textOf, is, dummySp, has1, kid, fresh}
 use Rattle.definition.specs.Helpers.{noExprs, firstCooked, tplToTsType, tsLitType, tsKeywordType}
 use Rattle.definition.proofs.Children.{children, child-0, first-one, others, readAll-more, readAll-none}
 use Rattle.definition.proofs.Kids.{mark-is, flags-is, text-is, kids-are, kid-none}
@@ -93,19 +93,19 @@ module _ (left : ℕ) (s : List ℕ) (at : ℕ) (a : AcceptedAt left s at) where
 -- ---- its type
 
 module _ (ks : Recs) where
-  pub with-exprs : noExprs ks ≡ false → tsKeywordType "string" ≡ tplToTsType ks true
+  pub with-exprs : noExprs ks ≡ false → tsKeywordType dummySp "string" ≡ tplToTsType ks true
   unfolding tplToTsType
   with-exprs e = rw e
 
-  pub not-found : (at : ℕ) → Nothing ≡ foundIf (firstCooked ks) at → tsKeywordType "string" ≡ tplToTsType ks true
+  pub not-found : (at : ℕ) → Nothing ≡ foundIf (firstCooked ks) at → tsKeywordType dummySp "string" ≡ tplToTsType ks true
   unfolding tplToTsType
   not-found at f = go (noExprs ks) (firstCooked ks) (is-nothing (firstCooked ks) at f)
     where
-      go : (b c : Bool) → c ≡ false → tsKeywordType "string" ≡ cond (b && c) (tsLitType (rec (fresh "Ss" 0 (textOf (kid 0 ks))) nil)) (tsKeywordType "string")
+      go : (b c : Bool) → c ≡ false → tsKeywordType dummySp "string" ≡ cond (b && c) (tsLitType dummySp (rec (fresh "Ss" 0 (textOf (kid 0 ks))) nil)) (tsKeywordType dummySp "string")
       go true c e = rw e
       go false c e = refl
 
-  quasi-type : noExprs ks ≡ true → firstCooked ks ≡ true → tsLitType (rec (fresh "Ss" 0 (textOf (kid 0 ks))) nil) ≡ tplToTsType ks true
+  quasi-type : noExprs ks ≡ true → firstCooked ks ≡ true → tsLitType dummySp (rec (fresh "Ss" 0 (textOf (kid 0 ks))) nil) ≡ tplToTsType ks true
   unfolding tplToTsType
   quasi-type e f = rw (e, f)
 
@@ -130,15 +130,15 @@ module _ (left : ℕ) (s : List ℕ) (at : ℕ) (a : AcceptedAt left s at) (x : 
   found-accepted = first-accepted left s at a x first-at there
 
   pub found-type : noExprs (kidsOf (treeAt left s at)) ≡ true → (t : List ℕ) → t ≡ textAt s x
-      → tsLitType (rec (fresh "Ss" 0 t) nil) ≡ tplToTsType (kidsOf (treeAt left s at)) true
+      → tsLitType dummySp (rec (fresh "Ss" 0 t) nil) ≡ tplToTsType (kidsOf (treeAt left s at)) true
   found-type e t q =
-      ap (λ (t : List ℕ). tsLitType (rec (fresh "Ss" 0 t) nil)) (q ∙ (sym (text-is (left - 1) s x) ∙ sym (ap textOf (first-is left s at a x first-at there))))
+      ap (λ (t : List ℕ). tsLitType dummySp (rec (fresh "Ss" 0 t) nil)) (q ∙ (sym (text-is (left - 1) s x) ∙ sym (ap textOf (first-is left s at a x first-at there))))
       ∙ quasi-type (kidsOf (treeAt left s at)) e is-cooked
 
 -- what is written for a template of a kind
 pub tpl-put : {a b : List ℕ} {p : ℕ} (ks : Recs) {kind k : DeclMutabilityKind} {t : Rec} {q : ℕ} → kind ≡ k → t ≡ tplToTsType ks (isConst k) → Put a b p (encode t) q → Put a b p (encode (tplToTsType ks (isConst kind))) q
 tpl-put ks e f w = rw (e, ← f) w
 
-pub mutable-is : (ks : Recs) → tsKeywordType "string" ≡ tplToTsType ks false
+pub mutable-is : (ks : Recs) → tsKeywordType dummySp "string" ≡ tplToTsType ks false
 unfolding tplToTsType
 mutable-is ks = refl
