@@ -302,8 +302,8 @@ pub enum MaybeType {
     Untyped,
 }
 
-// A keyword as the answer of `maybe_lit_to_ts_type`.
-fn some_keyword(range: Range, kind: TsKeywordTypeKind, out: &mut [u8], p: usize) -> MaybeType
+// `Some(ts_keyword_type(..))`.
+pub fn some_keyword(range: Range, kind: TsKeywordTypeKind, out: &mut [u8], p: usize) -> MaybeType
     ensures { λ r. ⌜ PutMaybe (now (out .entry)) (now (out .exit)) p (some (tsKeywordType (span range) (keyword kind))) r ⌝ }
 {
     MaybeType::Typed(ts_keyword_type(range, kind, out, p))

@@ -6,6 +6,7 @@ use native.Mathlib.Omega.{arith}
 use borrow.Author.Tests.{not-true, not-false}
 use Rattle.definition.specs.Helpers.{tsReadonly}
 use Rattle.typing.proofs.Steps.{did-as, did-at, is-some, is-none, step-put, wrap-some, wrap-none}
+use Rattle.definition.specs.Record.{dummySp}
 use Rattle.typing.proofs.Arrays.{readonly-front}
 use Rattle.typing.proofs.ExprArms.{array-plain, array-readonly}
 use Rattle.typing.proofs.array_type.Reads as array-type
