@@ -10,7 +10,7 @@ use mir.Syntax.{w8}
 use mir.Val
 use lib.ListN.{length, getD}
 use borrow.Author.Tests.{ne-eqb}
-use Rattle.definition.specs.Tree.{Head, Rec, Recs, rec, nil, cons, le4, headBytes, encode, encodes, markAt, countAt, bodyAt, headAt, endAt, treeAt}
+use Rattle.definition.specs.Tree.{Head, Rec, Recs, rec, nil, cons, headBytes, encode, encodes, markAt, countAt, bodyAt, headAt, endAt, treeAt}
 use Rattle.definition.specs.Grammar.{mark, grammar, known, slots, place, least}
 use Rattle.definition.specs.Children.{AcceptedAt, childAt}
 use Rattle.definition.specs.Record.{headOf, kidsOf, markOf, is, dummySp, listed, fresh, absent, ident, withFlags, kid, setKid, one, Diag, Out, pure, ifM, onValue, wrap, single, atKid, second}
@@ -21,11 +21,10 @@ use Rattle.definition.specs.Transform.{textsFit, allTextsFit}
 use Rattle.definition.proofs.Children.{child-1}
 use Rattle.definition.proofs.Kids.{head-is, mark-is, flags-is, is-mark, not-mark, at-least}
 use Rattle.records.specs.declared.Head.{Head as Fields}
-use Rattle.records.specs.Fields.{fieldsAt, fieldBytes}
+use Rattle.records.specs.Fields.{fieldsAt}
 use Rattle.records.specs.Wrote.{top, Put}
-use Rattle.records.proofs.Stores.{head-bytes}
 use Rattle.names.proofs.Decimals.{length-unique, at-most-twenty}
-use Rattle.swc_helpers.proofs.Made.{put-put, put-as, encode-one, encode-two}
+use Rattle.swc_helpers.proofs.Made.{encode-one, encode-two}
 use Rattle.prescan.specs.declared.Scope.{Scope}
 use Rattle.typing.specs.declared.State.{State}
 use Rattle.typing.specs.declared.Mode.{Mode}
@@ -37,14 +36,14 @@ use Rattle.typing.specs.Below.{Gives}
 use Rattle.typing.proofs.Fits.{name-fits, all-one}
 use Rattle.typing.proofs.Loops.{rest, encodes-one}
 use Rattle.typing.proofs.Steps.{step-put, step-puts, step-then, step-as, step-back, IsSome, IsNone, is-some, is-none}
-use Rattle.typing.proofs.Written.{puts-fitting, puts-as, unique-is}
+use Rattle.typing.proofs.Written.{puts-fitting, puts-as}
 use Rattle.parts.specs.Makes.{frontBytes, Keeps, KeepsAll, Makes}
 use Rattle.parts.proofs.Kept.{head-short, front-as}
 use Rattle.parts.proofs.Kids.{One, kids-one}
 use Rattle.parts.proofs.Makes.{makes-as, makes-keeps, gives-one, gives-none}
 use Rattle.parts.proofs.Ready.{ready-at}
 use Rattle.classes.specs.Typings.{typingOf}
-use Rattle.items.specs.Steps.{freshFields, constFront, readonlyMode, withClass, defaultFn, defaultDeclOf, defaultExprOf}
+use Rattle.items.specs.Steps.{constFront, readonlyMode, withClass, defaultFn, defaultDeclOf, defaultExprOf}
 use Rattle.items.proofs.Begun.{keeps-first, makes-first, each-silent}
 
 -- ---- records as the only ones
@@ -82,25 +81,7 @@ mark-at-body s at e m = ap (markAt s) (sym e) ∙ m
 pub second-there : (left : ℕ) (s : List ℕ) (at : ℕ) {p q : ℕ} → p ≡ bodyAt s at → q ≡ endAt (left - 1) s p → q ≡ childAt left s at 1
 second-there left s at e f = f ∙ (ap (endAt (left - 1) s) e ∙ sym (child-1 left s at))
 
--- ---- a generated name, and a const before its type
-
-pub front-put : {o o1 o2 : List ℕ} {p q r : ℕ} (k counter : ℕ) → length o < 2 ^ 64 → k ≡ length (genUniqueName counter) → Put o o1 p (fieldBytes (freshFields (mark "Id") 0 (4 + k) 0)) q → Put o1 o2 q (le4 0) r
-    → Put o o2 p (fieldBytes (freshFields (mark "Id") 0 (4 + length (genUniqueName counter)) 0) ++ le4 0) r
-front-put k counter l e a b = put-put l (rw e at a) b
-
-pub unique-put : {o o1 o2 : List ℕ} {p q r : ℕ} (counter : ℕ) → length o < 2 ^ 64 → Put o o1 p (fieldBytes (freshFields (mark "Id") 0 (4 + length (genUniqueName counter)) 0) ++ le4 0) q
-    → Put o1 o2 q (genUniqueName counter) r → Put o o2 p (encode (ident dummySp (genUniqueName counter))) r
-unique-put counter l a b =
-    let k : ℕ = length (genUniqueName counter) in
-    put-as (put-put l a b)
-    (append-assoc (fieldBytes (freshFields (mark "Id") 0 (4 + k) 0)) (le4 0) (genUniqueName counter) ∙ unique-is 0 0 k (genUniqueName counter) refl)
-
-pub const-put : {o o1 o2 o3 o4 : List ℕ} {p q r t u : ℕ} (counter : ℕ) → length o < 2 ^ 64 → Put o o1 p (fieldBytes (freshFields (mark "Vd") 3 0 1)) q → Put o1 o2 q (fieldBytes (freshFields (mark "Vr") 0 0 2)) r
-    → Put o2 o3 r (fieldBytes (freshFields (mark "Bd") 0 0 2)) t → Put o3 o4 t (encode (ident dummySp (genUniqueName counter))) u → Put o o4 p (constFront counter) u
-const-put counter l a b c d =
-    put-as
-    (put-put l (put-put l (put-put l (put-as a (head-bytes (fresh "Vd" 3 []) 1)) (put-as b (head-bytes (fresh "Vr" 0 []) 2))) (put-as c (head-bytes (fresh "Bd" 0 []) 2))) d)
-    (simp append-assoc)
+-- ---- a generated name
 
 unique-fits : (counter : ℕ) → counter < 2 ^ 64 → textsFit (ident dummySp (genUniqueName counter)) ≡ true
 unique-fits counter h = name-fits (fresh "Id" 0 []) (genUniqueName counter) (omega (arith, length-unique counter, at-most-twenty counter h))

@@ -11,7 +11,6 @@ use Rattle.definition.specs.Check.{deepest}
 use Rattle.definition.specs.Names.{genUniqueName}
 use Rattle.definition.specs.Enums.{enumMember}
 use Rattle.definition.specs.Items.{declKind, defaultKind, declaratorPattern, declarator, withoutBody, declToTypeDecl, transformModuleStmt, exportDefaultDecl, exportDefaultExpr, transformModuleItems, transformModuleItem, exported, nsParts, transformTsNsBody}
-use Rattle.records.specs.declared.Head.{Head as Fields}
 use Rattle.prescan.specs.declared.Scope.{Scope}
 use Rattle.typing.specs.declared.Mode.{Mode}
 use Rattle.classes.specs.Typings.{typingOf}
@@ -47,10 +46,6 @@ withMembers flags r n = wrap (withFlags (headOf r) flags) (each (λ i. enumMembe
 -- an Xd with a function
 abbrev pub defaultFn : Rec → ℕ → Out Rec
 defaultFn r n = wrap (headOf r) (atKid 0 (second withoutBody) (kidsOf r) n)
-
--- the fields of a fresh head
-abbrev pub freshFields : ℕ → ℕ → ℕ → ℕ → Fields
-freshFields m f text count = record { mark = m; flags = f; start = 0; end = 0; text = text; count = count }
 
 -- an Xe; the list plays no part
 abbrev pub defaultExprOf : List ℕ → Scope → Rec → ℕ → Out Recs
