@@ -340,7 +340,12 @@ pub fn maybe_lit_to_ts_type(
             Literal::Bool(_) => some_keyword(DUMMY_SP, TsKeywordTypeKind::TsBooleanKeyword, out, p),
             Literal::Null => some_keyword(DUMMY_SP, TsKeywordTypeKind::TsNullKeyword, out, p),
             Literal::Num(_) => some_keyword(DUMMY_SP, TsKeywordTypeKind::TsNumberKeyword, out, p),
-            Literal::BigInt(_) => some_keyword(DUMMY_SP, TsKeywordTypeKind::TsBigIntKeyword, out, p),
+            Literal::BigInt(_) => some_keyword(
+                DUMMY_SP,
+                TsKeywordTypeKind::TsBigIntKeyword,
+                out,
+                p,
+            ),
             Literal::Regex => MaybeType::Typed(regex_type(DUMMY_SP, out, p)),
             Literal::JsxText => MaybeType::Untyped,
         },

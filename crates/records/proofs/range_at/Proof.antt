@@ -1,24 +1,20 @@
+-- `range_at` meets its contract. Assumes nothing.
 use borrow.Author.Needs.{needs}
 use Rattle.records.proofs.range_at.Statement.{statement}
 use Rattle.records.proofs.range_at.Tie as tie
 
--- src/lib.rt:149:30
 add-u32-at : tie.Need-add-u32-at
 add-u32-at c = search needs
 
--- src/lib.rt:149:9
 u32-at-requires : tie.Need-u32-at-requires
 u32-at-requires c κs = search needs
 
--- src/lib.rt:150:28
 add-u32-at-2 : tie.Need-add-u32-at-2
 add-u32-at-2 c = search needs
 
--- src/lib.rt:150:9
 u32-at-requires-2 : tie.Need-u32-at-requires-2
 u32-at-requires-2 c κs = search needs
 
--- src/lib.rt:145:1
 returns : tie.Need-returns
 returns c = cc (c .before .u32-at .ensures .0, c .u32-at2 .ensures .0)
 

@@ -1,30 +1,25 @@
+-- `unique::make_unique_ident` meets its contract. Assumes nothing.
 use native.Mathlib.Omega.{arith}
 use Rattle.records.proofs.Puts.{ident-put}
 use borrow.Author.Needs.{needs}
 use Rattle.names.proofs.unique.make_unique_ident.Statement.{statement}
 use Rattle.names.proofs.unique.make_unique_ident.Tie as tie
 
--- src/unique.rt:105:55
 add-unique-name-length : tie.Need-add-unique-name-length
 add-unique-name-length c = search needs
 
--- src/unique.rt:105:36
 unique-name-length-requires : tie.Need-unique-name-length-requires
 unique-name-length-requires c κs = search needs
 
--- src/unique.rt:105:9
 put-ident-front-requires : tie.Need-put-ident-front-requires
 put-ident-front-requires c κs = search needs
 
--- src/unique.rt:106:5
 make-unique-name-requires : tie.Need-make-unique-name-requires
 make-unique-name-requires c κs = search needs
 
--- src/unique.rt:98:1
 same-length : tie.Need-same-length
 same-length c = search needs
 
--- src/unique.rt:98:1
 returns : tie.Need-returns
 returns c = (c .before .before .make-unique-name .ensures .0, ident-put (c .before .before .before .before .before .before .before .before .before .before .args .range) _ (c .before .before .before .before .before .before .before .before .unique-name-length .ensures .0) (omega arith) (c .before .before .before .before .before .before .put-ident-front .ensures) (c .before .before .make-unique-name .ensures .1))
 

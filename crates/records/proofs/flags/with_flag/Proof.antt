@@ -1,22 +1,19 @@
+-- `flags::with_flag` meets its contract. Assumes nothing.
 use mathlib.Core.Path.{sym, _∙_}
 use native.Mathlib.Omega.{arith}
 use Rattle.records.proofs.SetFlags.{is-set, is-clear, flag-above}
 use Rattle.records.proofs.flags.with_flag.Statement.{statement}
 use Rattle.records.proofs.flags.with_flag.Tie as tie
 
--- src/flags.rt:67:8
 has-flag-requires : tie.Need-has-flag-requires
 has-flag-requires c κs = flag-above _ (c .pre)
 
--- src/flags.rt:68:9
 returns : tie.Need-returns
 returns c = is-set _ _ (c .before .before .pre) (sym (c .before .has-flag .ensures) ∙ c .if1 .taken) .same
 
--- src/flags.rt:70:5
 add-result : tie.Need-add-result
 add-result c = (let e = is-clear _ _ (c .before .before .pre) (sym (c .before .has-flag .ensures) ∙ c .if1 .left) .fits (omega arith) in omega arith)
 
--- src/flags.rt:63:1
 returns-2 : tie.Need-returns-2
 returns-2 c = is-clear _ _ (c .before .before .pre) (sym (c .before .has-flag .ensures) ∙ c .if1 .left) .with
 

@@ -1,22 +1,19 @@
+-- `flags::without_flag` meets its contract. Assumes nothing.
 use mathlib.Core.Path.{sym, _∙_}
 use native.Mathlib.Omega.{arith}
 use Rattle.records.proofs.SetFlags.{is-set, is-clear, flag-above}
 use Rattle.records.proofs.flags.without_flag.Statement.{statement}
 use Rattle.records.proofs.flags.without_flag.Tie as tie
 
--- src/flags.rt:56:8
 has-flag-requires : tie.Need-has-flag-requires
 has-flag-requires c κs = flag-above _ (c .pre)
 
--- src/flags.rt:57:16
 sub-result : tie.Need-sub-result
 sub-result c = omega (arith, is-set _ _ (c .before .before .pre) (sym (c .before .has-flag .ensures) ∙ c .if1 .taken) .below)
 
--- src/flags.rt:57:9
 returns : tie.Need-returns
 returns c = is-set _ _ (c .before .before .pre) (sym (c .before .has-flag .ensures) ∙ c .if1 .taken) .without
 
--- src/flags.rt:52:1
 returns-2 : tie.Need-returns-2
 returns-2 c = is-clear _ _ (c .before .before .pre) (sym (c .before .has-flag .ensures) ∙ c .if1 .left) .same
 

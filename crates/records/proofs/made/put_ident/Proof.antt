@@ -1,3 +1,4 @@
+-- `made::put_ident` meets its contract. Assumes nothing.
 use mathlib.Core.Path.{refl}
 use native.Mathlib.Omega.{arith}
 use Rattle.records.proofs.Puts.{ident-put}
@@ -5,19 +6,15 @@ use borrow.Author.Needs.{needs}
 use Rattle.records.proofs.made.put_ident.Statement.{statement}
 use Rattle.records.proofs.made.put_ident.Tie as tie
 
--- src/made.rt:89:9
 put-ident-front-requires : tie.Need-put-ident-front-requires
 put-ident-front-requires c κs = search needs
 
--- src/made.rt:90:5
 put-text-requires : tie.Need-put-text-requires
 put-text-requires c κs = search needs
 
--- src/made.rt:86:1
 same-length : tie.Need-same-length
 same-length c = search needs
 
--- src/made.rt:86:1
 returns : tie.Need-returns
 returns c = ident-put (c .before .before .before .before .before .before .before .before .before .before .args .range) _ refl (omega arith) (c .before .before .before .before .before .before .put-ident-front .ensures) (c .before .before .put-text .ensures)
 

@@ -1,30 +1,25 @@
+-- `made::put_ident_front` meets its contract. Assumes nothing.
 use native.Mathlib.Omega.{arith}
 use Rattle.records.proofs.Puts.{put-put}
 use borrow.Author.Needs.{needs}
 use Rattle.records.proofs.made.put_ident_front.Statement.{statement}
 use Rattle.records.proofs.made.put_ident_front.Tie as tie
 
--- src/made.rt:81:36
 add-put-made : tie.Need-add-put-made
 add-put-made c = search needs
 
--- src/made.rt:81:9
 put-made-requires : tie.Need-put-made-requires
 put-made-requires c κs = search needs
 
--- src/made.rt:82:22
 slice-aggregate-put-text : tie.Need-slice-aggregate-put-text
 slice-aggregate-put-text c = search needs
 
--- src/made.rt:82:5
 put-text-requires : tie.Need-put-text-requires
 put-text-requires c κs = search needs
 
--- src/made.rt:75:1
 same-length : tie.Need-same-length
 same-length c = search needs
 
--- src/made.rt:75:1
 returns : tie.Need-returns
 returns c = put-put (omega arith) (c .before .before .before .before .before .before .before .put-made .ensures) (c .before .before .put-text .ensures)
 

@@ -1,18 +1,16 @@
+-- `made::put_made_front` meets its contract. Assumes nothing.
 use Rattle.definition.specs.Tree.{headBytes}
 use Rattle.records.specs.Fields.{fieldBytes}
 use borrow.Author.Needs.{needs}
 use Rattle.records.proofs.made.put_made_front.Statement.{statement}
 use Rattle.records.proofs.made.put_made_front.Tie as tie
 
--- src/made.rt:56:5
 put-made-requires : tie.Need-put-made-requires
 put-made-requires c κs = search needs
 
--- src/made.rt:46:1
 same-length : tie.Need-same-length
 same-length c = search needs
 
--- src/made.rt:46:1
 returns : tie.Need-returns
 unfolding fieldBytes headBytes
 returns c = c .before .before .put-made .ensures

@@ -1,3 +1,4 @@
+-- `made::put_made_leaf` meets its contract. Assumes nothing.
 use native.Mathlib.Omega.{arith}
 use Rattle.definition.specs.Tree.{headBytes}
 use Rattle.records.specs.Fields.{fieldBytes}
@@ -6,19 +7,15 @@ use borrow.Author.Needs.{needs}
 use Rattle.records.proofs.made.put_made_leaf.Statement.{statement}
 use Rattle.records.proofs.made.put_made_leaf.Tie as tie
 
--- src/made.rt:63:9
 put-made-requires : tie.Need-put-made-requires
 put-made-requires c κs = search needs
 
--- src/made.rt:64:5
 put-text-requires : tie.Need-put-text-requires
 put-text-requires c κs = search needs
 
--- src/made.rt:60:1
 same-length : tie.Need-same-length
 same-length c = search needs
 
--- src/made.rt:60:1
 returns : tie.Need-returns
 unfolding fieldBytes headBytes
 returns c = put-as (put-put (omega arith) (c .before .before .before .before .before .before .put-made .ensures) (c .before .before .put-text .ensures)) (encode-leaf _)
