@@ -22,8 +22,14 @@ use parts::put_any;
 use parts::put_front;
 use parts::put_gone;
 use prescan::Scope;
-use records::Head;
+use records::DUMMY_SP;
 use records::body_at;
+use records::flags::DECLARE;
+use records::flags::DEFINITE;
+use records::flags::SETTER;
+use records::flags::has_flag;
+use records::flags::without_flag;
+use records::made::put_made_front;
 use records::mark_at;
 use records::marks::CO;
 use records::marks::CP;
@@ -57,17 +63,9 @@ fn put_prop_name(
     match names::valid_prop_name(tree, at, left, unresolved) {
         Key::Stands(key, levels) => Typed::Some(keep(tree, key, levels, out, s)),
         Key::Computed(expr, levels) => {
-            let head = read_head(tree, expr);
-            let computed = Head {
-                mark: KC,
-                flags: 0,
-                start: head.start,
-                end: head.end,
-                text: 0,
-                count: 1,
-            };
+            let range = records::range_at(tree, expr);
             let mut front = s;
-            front.p = records::put_head(out, s.p, computed);
+            front.p = put_made_front(KC, 0, range, 1, out, s.p);
             Typed::Some(keep(tree, expr, levels, out, front))
         }
         Key::Nothing => Typed::None(s),
@@ -189,7 +187,7 @@ fn method(
     let Typed::Some(named) = put_prop_name(tree, key, left - 1, scope.unresolved, out, front) else {
         return Counted { s, count: 0 };
     };
-    let setter = head.flags % 2 == 1;
+    let setter = has_flag(head.flags, SETTER);
     let made = handle_function(
         tree,
         function,
@@ -231,7 +229,7 @@ fn prop_type(
     let mode = typing::mutable(scope);
     match typing::expr_to_ts_type(tree, value, left, mode, out, diagnostics, s) {
         Typed::Some(made) => made,
-        Typed::None(failed) => put_any(out, failed),
+        Typed::None(failed) => put_any(DUMMY_SP, out, failed),
     }
 }
 
@@ -257,7 +255,8 @@ fn class_prop(
     let type_ann = record_end(tree, key, left - 1);
     let value = record_end(tree, type_ann, left - 1);
     let rest = record_end(tree, value, left - 1);
-    let flags = head.flags / 4 * 4;
+    let undeclared = without_flag(head.flags, DECLARE);
+    let flags = without_flag(undeclared, DEFINITE);
     let front = put_front(tree, at, left, flags, head.count, out, s);
     let Typed::Some(named) = put_prop_name(tree, key, left - 1, scope.unresolved, out, front) else {
         return Counted { s, count: 0 };

@@ -17,7 +17,10 @@ use parts::put_any;
 use parts::put_flagged;
 use parts::put_front;
 use prescan::Scope;
+use records::DUMMY_SP;
 use records::body_at;
+use records::flags::OPTIONAL;
+use records::flags::with_flag;
 use records::mark_at;
 use records::marks::AG;
 use records::marks::BD;
@@ -76,7 +79,7 @@ fn handle_func_param_ident(
     let rest = record_end(tree, type_ann, left - 1);
     let front = put_front(tree, at, left, head.flags, head.count, out, s);
     let named = keep(tree, ident, left - 1, out, front);
-    let typed = put_any(out, named);
+    let typed = put_any(DUMMY_SP, out, named);
     let next = keep_all(tree, rest, head.count - 2, left - 1, out, typed);
     typing::mark_diagnostic(tree, at, D2, diagnostics, next)
 }
@@ -158,7 +161,7 @@ fn optional_box(
     let head = read_head(tree, at);
     let type_ann = body_at(tree, at);
     let rest = record_end(tree, type_ann, left - 1);
-    let flags = head.flags / 2 * 2 + 1;
+    let flags = with_flag(head.flags, OPTIONAL);
     let front = put_front(tree, at, left, flags, head.count, out, s);
     let typed = type_or_infer(tree, type_ann, right, left, scope, out, diagnostics, front);
     keep_all(tree, rest, head.count - 1, left - 1, out, typed)

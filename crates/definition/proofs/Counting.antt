@@ -10,7 +10,7 @@ use lib.Dec.{eqb}
 use lib.ListN.{length, length-append}
 use Rattle.definition.specs.Tree.{Head, Rec, Recs, rec, nil, cons, headSize, encode, encodes}
 use Rattle.definition.specs.Grammar.{mark}
-use Rattle.definition.specs.Record.{headOf, markOf, is, kid, given, Diag, diag, Out, pure, ifM}
+use Rattle.definition.specs.Record.{headOf, markOf, is, dummySp, kid, given, Diag, diag, Out, pure, ifM}
 use Rattle.definition.specs.Helpers.{anyTypeAnn, objectFreezeCallArg}
 use Rattle.definition.specs.Prescan.{PrescannedModuleIds}
 use Rattle.definition.specs.Typing.{
@@ -152,7 +152,7 @@ pub within-orAny : {n m : ℕ} (o : Out (Option Rec)) (ds : List Diag) → Withi
 within-orAny {n} {m} o ds w = go (o .0) (o .1) (o .2) w
   where
     go : (x : Option Rec) (l : List Diag) (c : ℕ) → Within n m (x, l, c) → Within n (m + length ds) (orAny (x, l, c) ds)
-    go none l c w = within-more anyTypeAnn (none, l, c) ds w
+    go none l c w = within-more (anyTypeAnn dummySp) (none, l, c) ds w
     go (some t) l c w = within-wider (m + length ds) (within-value (some t, l, c) w) (omega arith)
 
 -- one more element
@@ -164,11 +164,11 @@ elementBy-within : (k : Element) (h : Head) (typed spread : ℕ → Out (Option 
     ((n : ℕ) → Within n m (typed n)) → ((n : ℕ) → Within n m (spread n)) → ((n : ℕ) → Within n l (rest n)) →
     Within n (suc m + l) (elementBy k h typed spread rest n)
 unfolding elementBy
-elementBy-within eHole h typed spread rest n m l p q s = within-element anyTypeAnn (pure anyTypeAnn n) (rest n) (within-pure anyTypeAnn n (suc m)) (s n)
+elementBy-within eHole h typed spread rest n m l p q s = within-element (anyTypeAnn dummySp) (pure (anyTypeAnn dummySp) n) (rest n) (within-pure (anyTypeAnn dummySp) n (suc m)) (s n)
 elementBy-within eSpread h typed spread rest n m l p q s = go (spread n .0) (spread n .1) (spread n .2) (q n)
   where
     go : (x : Option Rec) (ds : List Diag) (c : ℕ) → Within n m (x, ds, c) →
-        Within n (suc m + l) (given x (none, ds ++ (diag "d4" h ∷ []), c) (λ t. element (tsRestType t) ds (rest c)))
+        Within n (suc m + l) (given x (none, ds ++ (diag "d4" h ∷ []), c) (λ t. element (tsRestType dummySp t) ds (rest c)))
     go none ds c w = within-wider (suc m + l) (within-more none (none, ds, c) (diag "d4" h ∷ []) w) (omega arith)
     go (some t) ds c w = within-element _ (t, ds, c) (rest c) (within-wider (suc m) (within-value (some t, ds, c) w) (omega arith)) (s c)
 elementBy-within eExpr h typed spread rest n m l p q s =

@@ -9,7 +9,7 @@ use lib.Dec.{leb}
 use lib.ListN.{length}
 use Rattle.definition.specs.Tree.{Head, Rec, Recs, rec, nil, cons, Bytes, headSize, encode, treeAt}
 use Rattle.definition.specs.Check.{Checked, Checked.fine, Checked.refused as rejected, checkTree, deepest}
-use Rattle.definition.specs.Record.{headOf, kidsOf, markOf, is, isNo, kid, Diag, diag, diagsBytes, listed, Out, Typing, pure, each, flat, atKid, second}
+use Rattle.definition.specs.Record.{headOf, kidsOf, markOf, is, isNo, dummySp, kid, Diag, diag, diagsBytes, listed, Out, Typing, pure, each, flat, atKid, second}
 use Rattle.definition.specs.Helpers.{anyTypeAnn}
 use Rattle.definition.specs.Names.{validPropName}
 use Rattle.definition.specs.Prescan.{prescanModuleIds}
@@ -150,7 +150,7 @@ Modest ty = (e : Rec) (c r : Bool) (n : ℕ) → Within n (below e) (ty e c r n)
 handleFuncParamIdent-within : (p : Rec) (n m : ℕ) → Within n (suc m) (handleFuncParamIdent p n)
 unfolding handleFuncParamIdent
 handleFuncParamIdent-within p n m =
-    within-value (typeOr _ (kid 1 (kidsOf p)) n) (typeOr-within _ (kid 1 (kidsOf p)) n (suc m) (marked anyTypeAnn (diag "d2" (headOf p)) n m))
+    within-value (typeOr _ (kid 1 (kidsOf p)) n) (typeOr-within _ (kid 1 (kidsOf p)) n (suc m) (marked (anyTypeAnn dummySp) (diag "d2" (headOf p)) n m))
 
 module _ (ty : Typing) (modest : Modest ty) where
   infer-within : (e : Rec) (n : ℕ) → Within n (suc (below e)) (inferExprFallbackAny ty e n)
@@ -265,7 +265,7 @@ exportOf-within {n} {m} h ops o w = go (o .0) (o .1) (o .2) w
 module _ (ty : Typing) (modest : Modest ty) where
   declaratorType-within : (h : Head) (init : Rec) (n : ℕ) → Within n (suc (below init)) (declaratorType ty h init n)
   declaratorType-within h init n =
-      within-if (isNo init) _ _ n _ (marked anyTypeAnn (diag "d2" h) n (below init))
+      within-if (isNo init) _ _ n _ (marked (anyTypeAnn dummySp) (diag "d2" h) n (below init))
       (within-wider _ (within-orAny (ty init false true n) (diag "d2" h ∷ []) (modest init false true n)) (omega arith))
 
   declaratorPattern-within : (h : Head) (init p : Rec) (n : ℕ) → Within n (suc (below init)) (declaratorPattern ty h init p n)

@@ -13,7 +13,7 @@ use lib.ListN.{length, length-drop}
 use borrow.Author.Tests.{ltb-true}
 use Rattle.definition.specs.Tree.{Head, Rec, Recs, rec, nil, cons, count, le4, Bytes}
 use Rattle.definition.specs.Grammar.{mark}
-use Rattle.definition.specs.Record.{text, headOf, kidsOf, isNo, symbolOf, fresh, ranged, absent, ident, identAt, withFlags, flag1, flagged, kid, setKid, one, join, given, gone, Diag, Out, pure, ifM, onValue, wrap, each, flat, atKid, second}
+use Rattle.definition.specs.Record.{text, headOf, kidsOf, isNo, symbolOf, dummySp, fresh, ranged, absent, ident, identAt, withFlags, flag1, flagged, kid, setKid, one, join, given, gone, Diag, Out, pure, ifM, onValue, wrap, each, flat, atKid, second}
 use Rattle.definition.specs.Helpers.{tsKeywordType, anyTypeAnn}
 use Rattle.definition.specs.Names.{genUniqueName}
 use Rattle.definition.specs.Typing.{orAny}
@@ -168,16 +168,16 @@ module _ (x : ℕ) where
   absent-fits = (fresh-sound "No" refl 0 (omega arith) [] (omega arith) bytes-none 0 (omega arith), tt)
 
   -- a keyword: `keyword-fits "any" refl`
-  pub keyword-fits : (s : String) → (ltb (length (text s)) 65536 && allBytes (text s)) ≡ true → Fit x (tsKeywordType s)
+  pub keyword-fits : (s : String) → (ltb (length (text s)) 65536 && allBytes (text s)) ≡ true → Fit x (tsKeywordType dummySp s)
   keyword-fits s e = go (ltb (length (text s)) 65536) refl e
     where
-      go : (b : Bool) → ltb (length (text s)) 65536 ≡ b → (b && allBytes (text s)) ≡ true → Fit x (tsKeywordType s)
+      go : (b : Bool) → ltb (length (text s)) 65536 ≡ b → (b && allBytes (text s)) ≡ true → Fit x (tsKeywordType dummySp s)
       go true q h =
           let l = ltb-true (length (text s)) 65536 q in
           (fresh-sound "Kw" refl 0 (omega arith) (text s) (omega (arith, l)) (written (text s) h) 0 (omega arith), tt)
       go false q h = absurd (let z : _≡_ {A = ℕ} 0 1 = cc in omega arith)
 
-  pub any-fits : Fit x anyTypeAnn
+  pub any-fits : Fit x (anyTypeAnn dummySp)
   any-fits = keyword-fits "any" refl
 
   -- one child, two, in a record without text
@@ -202,7 +202,7 @@ module _ (x : ℕ) where
   named-fits h m g n l =
       (ranged-sound "Id" refl h m g (le4 0 ++ genUniqueName n) (omega (arith, name-length n)) (name-bytes n) 0 (omega arith), tt)
 
-  pub ident-fits : (n : ℕ) → n + 10 < 65536 → Fit x (ident (genUniqueName n))
+  pub ident-fits : (n : ℕ) → n + 10 < 65536 → Fit x (ident dummySp (genUniqueName n))
   ident-fits n l = (fresh-sound "Id" refl 0 (omega arith) (le4 0 ++ genUniqueName n) (omega (arith, name-length n)) (name-bytes n) 0 (omega arith), tt)
 
   -- ---- children
@@ -262,7 +262,7 @@ module _ (x : ℕ) where
   pub orAny-makes : {n w : ℕ} (o : Out (Option Rec)) (ds : List Diag) → Makes (Given (Fit x)) n w o → Makes (Fit x) n w (orAny o ds)
   orAny-makes {n} {w} o ds m = go (o .0) (m .value)
     where
-      go : (t : Option Rec) → Given (Fit x) t → Makes (Fit x) n w (given t (anyTypeAnn, o .1 ++ ds, o .2) (λ t. (t, o .1, o .2)))
+      go : (t : Option Rec) → Given (Fit x) t → Makes (Fit x) n w (given t (anyTypeAnn dummySp, o .1 ++ ds, o .2) (λ t. (t, o .1, o .2)))
       go none p = record { value = any-fits; counter = m .counter }
       go (some t) p = record { value = p; counter = m .counter }
 

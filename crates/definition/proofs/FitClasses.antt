@@ -3,10 +3,10 @@ use mathlib.Core.Path.{refl}
 use mathlib.Core.List.{List, [], _∷_}
 use mathlib.Core.Bool.{Bool, true, false, not, _&&_, _||_}
 use mathlib.Core.Option.{Option, none, some}
-use Prim.Native.Nat.{ℕ, zero, suc, _*_, _/_, _≤_, _<_}
+use Prim.Native.Nat.{ℕ, zero, suc, _≤_, _<_}
 use native.Mathlib.Omega.{arith}
 use Rattle.definition.specs.Tree.{Head, Rec, Recs, rec, nil, cons, count}
-use Rattle.definition.specs.Record.{headOf, kidsOf, markOf, is, isNo, withFlags, flagged, has1, kid, setKid, one, ends, gone, diag, listed, Out, Typing, pure, wrap, each, atKid}
+use Rattle.definition.specs.Record.{headOf, kidsOf, markOf, is, isNo, dummySp, withFlags, flagged, has1, kid, setKid, one, ends, gone, diag, listed, Out, Typing, pure, wrap, each, atKid}
 use Rattle.definition.specs.Helpers.{anyTypeAnn}
 use Rattle.definition.specs.Names.{isWellKnownSymbolExpr, KeyExpr, xLit, xTpl, xThrough, xIdent, xMember, xOther, keyExprKind, computed, propNameBy, propNameFromExpr, propNameFromFirst, propNameFromOnly, validPropName}
 use Rattle.definition.specs.Typing.{orAny}
@@ -30,6 +30,7 @@ use Rattle.definition.specs.Classes.{
   constructor,
   method,
   propType,
+  propFlags,
   classProp,
   Member,
   mConstructor,
@@ -98,7 +99,7 @@ module _ (x : ℕ) where
       (atKid-makes x 1 (typeOr F) ks n _ (g .1) (typeOr-makes F (kid 1 ks) n _ (kid-fits x 1 ks (g .1)) (record { value = any-fits x; counter = omega arith })))
     where
       F : ℕ → Out Rec
-      F n = (anyTypeAnn, diag "d2" h ∷ [], n)
+      F n = (anyTypeAnn dummySp, diag "d2" h ∷ [], n)
 
 module _ (x : ℕ) (ty : Typing) (fit : TypesFit x ty) where
   infer-makes : (e : Rec) (n : ℕ) → Fit x e → Keys x e → Room n (names e) → Makes (Fit x) n (names e) (inferExprFallbackAny ty e n)
@@ -200,8 +201,8 @@ module _ (x : ℕ) (ty : Typing) (fit : TypesFit x ty) where
       let s : names value ≤ allNames ks = kid-names 2 ks in
       let v : Fit x value = kid-fits x 2 ks (g .1) in
       let f : h .flags < 256 = g .0 .flags in
-      onValue-makes (λ (ks : Recs). one (rec (withFlags h (h .flags / 4 * 4)) (setKid 0 key (setKid 2 (gone value) ks))))
-      (λ ks m. remade (withFlags h (h .flags / 4 * 4)) _ (setKid 0 key (setKid 2 (gone value) ks)) (reflag x h (h .flags / 4 * 4) _ (omega arith) (g .0))
+      onValue-makes (λ (ks : Recs). one (rec (withFlags h (propFlags (h .flags))) (setKid 0 key (setKid 2 (gone value) ks))))
+      (λ ks m. remade (withFlags h (propFlags (h .flags))) _ (setKid 0 key (setKid 2 (gone value) ks)) (reflag x h (propFlags (h .flags)) _ (omega arith) (g .0))
       (setKid-fits x 0 key (setKid 2 (gone value) ks) _ k (setKid-fits x 2 (gone value) ks _ (gone-fits x value v) m)))
       (atKid-makes x 1 (propType ty value) ks n _ (g .1) (more (propType-makes value (kid 1 ks) n v (kid-keys x 2 ks (q .1)) (kid-fits x 1 ks (g .1)) (omega arith)) (omega arith)))
 

@@ -11,7 +11,7 @@ use Rattle.definition.specs.Tree.{Head, Rec, Recs, rec, nil, cons, count
 use Rattle.definition.specs.Grammar.{mark}
 use Rattle.definition.specs.Check.{longestTree}
 use Rattle.definition.specs.Counting.{records, allRecords}
-use Rattle.definition.specs.Record.{markOf, is, isNo, fresh, absent, ident, kid, setKid, one, given, gone, diag, listed, flag1, Out, Typing, pure, onValue, single, wrap, each, atKid, second}
+use Rattle.definition.specs.Record.{markOf, is, isNo, dummySp, fresh, absent, ident, kid, setKid, one, given, gone, diag, listed, flag1, Out, Typing, pure, onValue, single, wrap, each, atKid, second}
 use Rattle.definition.specs.Helpers.{anyTypeAnn}
 use Rattle.definition.specs.Names.{genUniqueName}
 use Rattle.definition.specs.Typing.{orAny}
@@ -72,7 +72,7 @@ module _ (x : ℕ) where
 
   const-fits : (i : ℕ) (t : Rec) → i + 10 < 65536 → Fit x t → Fit x (constOf i t)
   const-fits i t l g =
-      let name : Rec = ident (genUniqueName i) in
+      let name : Rec = ident dummySp (genUniqueName i) in
       let p : Rec = rec (fresh "Bd" 0 []) (cons name (one t)) in
       let v : Fit x (rec (fresh "Vr" 0 []) (cons p (one absent))) =
       over-two x "Vr" refl 0 (omega arith) p absent (over-two x "Bd" refl 0 (omega arith) name t (ident-fits x i l) g) (absent-fits x) in
@@ -86,9 +86,9 @@ module _ (x : ℕ) where
   typed-fits h nil i (some t) g l f e = absurd (let p : _≡_ {A = Option Rec} (some t) none = e refl in let z : _≡_ {A = ℕ} 0 1 = cc in omega arith)
   typed-fits h (cons (rec h′ ks′) rs) i (some t) g l f e =
       let ks : Recs = cons (rec h′ ks′) rs in
-      let made : Recs = setKid 0 (ident (genUniqueName i)) ks in
+      let made : Recs = setKid 0 (ident dummySp (genUniqueName i)) ks in
       let named : Fit x (rec h made) =
-      rehead x h (count ks) made (g .0) (setKid-fits x 0 (ident (genUniqueName i)) ks (count ks) (ident-fits x i l) (all-few x ks (g .1))) in
+      rehead x h (count ks) made (g .0) (setKid-fits x 0 (ident dummySp (genUniqueName i)) ks (count ks) (ident-fits x i l) (all-few x ks (g .1))) in
       ((const-fits i t l f, (named, tt)), omega arith)
 
   -- ---- lists of one
@@ -116,7 +116,7 @@ module _ (x : ℕ) (ty : Typing) (fit : TypesFit x ty) (nothing : (a b : Bool) (
 
   declaratorType-makes : (h : Head) (init : Rec) (n : ℕ) → Fit x init → Keys x init → Room n (names init) → Makes (Fit x) n (names init) (declaratorType ty h init n)
   declaratorType-makes h init n g q l =
-      ifM-makes (isNo init) (λ n. (anyTypeAnn, diag "d2" h ∷ [], n)) (λ n. orAny (ty init false true n) (diag "d2" h ∷ []))
+      ifM-makes (isNo init) (λ n. (anyTypeAnn dummySp, diag "d2" h ∷ [], n)) (λ n. orAny (ty init false true n) (diag "d2" h ∷ []))
       (record { value = any-fits x; counter = omega arith }) (orAny-makes x (ty init false true n) (diag "d2" h ∷ []) (fit init false true n g q l))
 
   declaratorPattern-makes : (h : Head) (init p : Rec) (n : ℕ) → Fit x init → Keys x init → Fit x p → Room n (names init) →

@@ -11,7 +11,7 @@ use lib.ListN.{length}
 use borrow.Author.Tests.{eqb-true}
 use Rattle.definition.specs.Tree.{Head, Rec, Recs, rec, nil, cons, count, le4, Bytes}
 use Rattle.definition.specs.Grammar.{mark}
-use Rattle.definition.specs.Record.{text, headOf, kidsOf, markOf, textOf, is, isNo, symbolOf, fresh, ranged, absent, ident, identAt, flagged, kid, one, given, Diag, diag, Out}
+use Rattle.definition.specs.Record.{text, headOf, kidsOf, markOf, textOf, is, isNo, symbolOf, dummySp, fresh, ranged, absent, ident, identAt, flagged, kid, one, given, Diag, diag, Out}
 use Rattle.definition.specs.Helpers.{tsKeywordType, anyTypeAnn, referenceTo, tsLitType, regexType, tsTupleElement, noExprs, firstCooked, tplToTsType, Lit, lStr, lBool, lNull, lNum, lBigInt, lRegex, lJsxText, maybeLitToTsType}
 use Rattle.definition.specs.Names.{genUniqueName}
 use Rattle.definition.specs.Typing.{Frozen, fTypeLit, fArray, fSame, fOther, frozenKind, plainMembers, readonlyMembers, readonlyOfBy, readonlyOf, turned, turnedInteger, respelled, minusBy, tupleOf, element, orAny, tsRestType, Element, eHole, eSpread, eExpr, eOp, elementBy, Key, kIdent, kStr, kNum, kComputed, keyKind, keyExpr, keyFlag, propertySignature, keyValue, shorthand, Param, qKeep, qAssign, qExpr, qOther, paramKind, bindingIdent, defaultParam, paramBy, fnType}
@@ -44,15 +44,15 @@ assign-weight m e = rw (eqb-true m (mark "Ag") (go (eqb m (mark "Bd") || (eqb m 
 module _ (x : ℕ) where
   -- ---- small types
 
-  literal-fits : (r : Rec) → Fit x r → Fit x (tsLitType r)
+  literal-fits : (r : Rec) → Fit x r → Fit x (tsLitType dummySp r)
   literal-fits r g = over-one x "Tl" refl r g
 
-  pub reference-fits : (i : Rec) → Fit x i → Fit x (referenceTo i)
+  pub reference-fits : (i : Rec) → Fit x i → Fit x (referenceTo dummySp i)
   reference-fits i g = over-two x "Rf" refl 0 (omega arith) i absent g (absent-fits x)
 
-  regex-fits : Fit x regexType
+  regex-fits : Fit x (regexType dummySp)
   regex-fits =
-      reference-fits (ident (text "RegExp"))
+      reference-fits (ident dummySp (text "RegExp"))
       (fresh-sound x "Id" refl 0 (omega arith) (le4 0 ++ text "RegExp") (omega arith) (written (le4 0 ++ text "RegExp") refl) 0 (omega arith), tt)
 
   pub lit-fits : (l : Lit) (r : Rec) (c : Bool) → Fit x r → Given (Fit x) (maybeLitToTsType l r c)
@@ -110,7 +110,7 @@ module _ (x : ℕ) where
       quasi : Sound x (headOf (kid 0 ks)) (count (kidsOf (kid 0 ks)))
       quasi = head-sound x (kid 0 ks) (kid-fits x 0 ks g)
 
-      go : (b : Bool) → Fit x (cond b (tsLitType (rec (fresh "Ss" 0 (textOf (kid 0 ks))) nil)) (tsKeywordType "string"))
+      go : (b : Bool) → Fit x (cond b (tsLitType dummySp (rec (fresh "Ss" 0 (textOf (kid 0 ks))) nil)) (tsKeywordType dummySp "string"))
       go true =
           literal-fits (rec (fresh "Ss" 0 (textOf (kid 0 ks))) nil)
           (fresh-sound x "Ss" refl 0 (omega arith) (textOf (kid 0 ks)) (quasi .text) (quasi .bytes) 0 (omega arith), tt)
@@ -161,7 +161,7 @@ module _ (x : ℕ) where
       Makes (Given (Few x (suc m))) n w (element t ds o)
   element-makes t ds m n w o g k = record { value = go (o .0) (k .value); counter = k .counter }
     where
-      go : (p : Option Recs) → Given (Few x m) p → Given (Few x (suc m)) (given p none (λ ts. some (cons (tsTupleElement t) ts)))
+      go : (p : Option Recs) → Given (Few x m) p → Given (Few x (suc m)) (given p none (λ ts. some (cons (tsTupleElement dummySp t) ts)))
       go none h = tt
       go (some ts) h = ((over-two x "Tm" refl 0 (omega arith) absent t (absent-fits x) g, h .0), omega (arith, h .1))
 
@@ -171,19 +171,19 @@ module _ (x : ℕ) where
       ((n : ℕ) → Room n v → Makes (Given (Few x m)) n v (rest n)) → Room n (w + v) → Makes (Given (Few x (suc m))) n (w + v) (elementBy k h typed spread rest n)
   unfolding elementBy
   elementBy-makes eHole h typed spread rest m n w v p q s l =
-      more (element-makes anyTypeAnn [] m n v (rest n) (any-fits x) (s n (omega arith))) (omega arith)
+      more (element-makes (anyTypeAnn dummySp) [] m n v (rest n) (any-fits x) (s n (omega arith))) (omega arith)
   elementBy-makes eSpread h typed spread rest m n w v p q s l = go (spread n) q
     where
       go : (o : Out (Option Rec)) → Makes (Given (Fit x)) n w o →
-          Makes (Given (Few x (suc m))) n (w + v) (given (o .0) (none, o .1 ++ (diag "d4" h ∷ []), o .2) (λ t. element (tsRestType t) (o .1) (rest (o .2))))
+          Makes (Given (Few x (suc m))) n (w + v) (given (o .0) (none, o .1 ++ (diag "d4" h ∷ []), o .2) (λ t. element (tsRestType dummySp t) (o .1) (rest (o .2))))
       go o q = case (o .0) (q .value)
         where
           case : (t : Option Rec) → Given (Fit x) t →
-              Makes (Given (Few x (suc m))) n (w + v) (given t (none, o .1 ++ (diag "d4" h ∷ []), o .2) (λ t. element (tsRestType t) (o .1) (rest (o .2))))
+              Makes (Given (Few x (suc m))) n (w + v) (given t (none, o .1 ++ (diag "d4" h ∷ []), o .2) (λ t. element (tsRestType dummySp t) (o .1) (rest (o .2))))
           case none g = record { value = tt; counter = omega (arith, q .counter) }
           case (some t) g =
               let r = s (o .2) (omega (arith, q .counter)) in
-              let e = element-makes (tsRestType t) (o .1) m (o .2) v (rest (o .2)) (over-one x "Rt" refl t g) r in
+              let e = element-makes (tsRestType dummySp t) (o .1) m (o .2) v (rest (o .2)) (over-one x "Rt" refl t g) r in
               record { value = e .value; counter = omega (arith, q .counter, e .counter) }
   elementBy-makes eExpr h typed spread rest m n w v p q s l =
       let a = orAny-makes x (typed n) (diag "d1" h ∷ []) p in
@@ -292,6 +292,6 @@ module _ (x : ℕ) where
   fnType-fits h ks ps g k =
       (ranged-sound x "Ft" refl h (count ks) (g .0) [] (omega arith) (written [] refl) (suc (suc (count ps))) (omega (arith, k .1, g .0 .count)), (kid-fits x 0 ks (g .1), (type-fits (isNo (kid 1 ks)), k .0)))
     where
-      type-fits : (b : Bool) → Fit x (given (cond b none (some (kid 1 ks))) anyTypeAnn (λ t. t))
+      type-fits : (b : Bool) → Fit x (given (cond b none (some (kid 1 ks))) (anyTypeAnn dummySp) (λ t. t))
       type-fits true = any-fits x
       type-fits false = kid-fits x 1 ks (g .1)

@@ -9,7 +9,7 @@ use lib.Dec.{eqb}
 use borrow.Author.Tests.{eqb-true}
 use Rattle.definition.specs.Tree.{Head, Rec, Recs, rec, nil, cons, count}
 use Rattle.definition.specs.Grammar.{mark}
-use Rattle.definition.specs.Record.{text, sameText, headOf, markOf, textOf, is, isNo, contextOf, symbolOf, ranged, kid, join, given, present, Out, pure}
+use Rattle.definition.specs.Record.{text, sameText, headOf, markOf, textOf, is, isNo, contextOf, symbolOf, dummySp, ranged, kid, join, given, present, Out, pure}
 use Rattle.definition.specs.Helpers.{tsKeywordType, referenceTo, tsTypeQuery, objectFreezeCallArg, litKind}
 use Rattle.definition.specs.Prescan.{PrescannedModuleIds}
 use Rattle.definition.specs.Typing.{readonlyOf, tupleOf, elementKind, Spread, sIdent, sArray, sOther, spreadKind, Prop, pKeyValue, pShorthand, pSpread, pOther, pOp, propKind, paramKind, fnType, Expr, xArray, xObject, xLit, xConst, xSatisfies, xAs, xFn, xArrow, xTpl, xIdent, xUnary, xCall, xNew, xOther, exprKind, Below, globalType, identToTsType, newType, spreadBy, propBy, frozen, exprBy, exprToTsType, typeFirst, typeSecond, elements, spreadType, spreadFirst, props, prop, fnSecond, fnFirst, functionType, fnParams, fnParam, paramFirst, arrowParams, patToTsFnParam}
@@ -33,25 +33,25 @@ module _ (x : ℕ) (ids : PrescannedModuleIds) (ctx : ℕ) where
   global-fits : (name : List ℕ) (c : Bool) → Given (Fit x) (globalType ids ctx name c)
   unfolding globalType
   global-fits name c =
-      given-cond x (sameText name (text "undefined") && c) (some (tsKeywordType "undefined")) _ (keyword-fits x "undefined" refl)
-      (given-cond x (sameText name (text "NaN") || sameText name (text "Infinity")) (some (tsKeywordType "number")) none (keyword-fits x "number" refl) tt)
+      given-cond x (sameText name (text "undefined") && c) (some (tsKeywordType dummySp "undefined")) _ (keyword-fits x "undefined" refl)
+      (given-cond x (sameText name (text "NaN") || sameText name (text "Infinity")) (some (tsKeywordType dummySp "number")) none (keyword-fits x "number" refl) tt)
 
   ident-fits : (i : Rec) (c : Bool) → Fit x i → Given (Fit x) (identToTsType ids ctx i c)
   unfolding identToTsType
   ident-fits i c g =
       given-cond x (eqb (contextOf i) ctx) _ _ (global-fits (symbolOf i) c)
-      (given-cond x (ids .typeofSafe (textOf i)) (some (tsTypeQuery i)) none (over-one x "Tf" refl i g) tt)
+      (given-cond x (ids .typeofSafe (textOf i)) (some (tsTypeQuery dummySp i)) none (over-one x "Tf" refl i g) tt)
 
   new-fits : (ks : Recs) → FitAll x ks → Given (Fit x) (newType ids ctx ks)
   unfolding newType
   new-fits ks g =
-      given-cond x (is "Id" (kid 0 ks) && (isNo (kid 1 ks) && ids .nonGenericClasses (textOf (kid 0 ks)))) (some (referenceTo (kid 0 ks))) none
+      given-cond x (is "Id" (kid 0 ks) && (isNo (kid 1 ks) && ids .nonGenericClasses (textOf (kid 0 ks)))) (some (referenceTo dummySp (kid 0 ks))) none
       (reference-fits x (kid 0 ks) (kid-fits x 0 ks g)) tt
 
   spreadBy-makes : (k : Spread) (i : Rec) (typed : ℕ → Out (Option Rec)) (n w : ℕ) → Fit x i → Makes (Given (Fit x)) n w (typed n) →
       Makes (Given (Fit x)) n w (spreadBy ids ctx k i typed n)
   unfolding spreadBy
-  spreadBy-makes sIdent i typed n w g m = pure-makes (given-cond x (ids .arrayTyped (textOf i)) (some (tsTypeQuery i)) none (over-one x "Tf" refl i g) tt)
+  spreadBy-makes sIdent i typed n w g m = pure-makes (given-cond x (ids .arrayTyped (textOf i)) (some (tsTypeQuery dummySp i)) none (over-one x "Tf" refl i g) tt)
   spreadBy-makes sArray i typed n w g m = m
   spreadBy-makes sOther i typed n w g m = pure-makes tt
 

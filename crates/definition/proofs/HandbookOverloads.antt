@@ -4,14 +4,14 @@ use mathlib.Core.Path.{_≡_, refl}
 use mathlib.Core.List.{List, []}
 use mathlib.Core.Bool.{Bool, true, false, not, _&&_, _||_}
 use mathlib.Core.Option.{some}
-use Prim.Native.Nat.{ℕ, _*_, _/_}
+use Prim.Native.Nat.{ℕ}
 use native.Mathlib.Omega.{arith}
 use lib.Dec.{eqb}
 use borrow.Author.Tests.{eqb-true}
 use Rattle.definition.specs.Tree.{Head, Rec, Recs, rec, nil, cons, count}
 use Rattle.definition.specs.Grammar.{mark, marks, member as oneOf}
 use Rattle.definition.specs.Record.{headOf, kidsOf, markOf, is, among, isNo, withFlags, has1, kid, setKid, one, gone, listed, Typing, each, flat}
-use Rattle.definition.specs.Classes.{handleFunction, constructorPart, constructor, method, propType, classProp, memberKind, memberBy, member}
+use Rattle.definition.specs.Classes.{handleFunction, constructorPart, constructor, method, propType, propFlags, classProp, memberKind, memberBy, member}
 use Rattle.definition.specs.Names.{validPropName}
 use Rattle.definition.specs.Items.{
   iDecl,
@@ -162,7 +162,7 @@ module _ (list : List ℕ) (ctx : ℕ) (ty : Typing) where
           eqb (h .mark) (mark "Cp") ≡ true → Stays
       property-stays key w p q s =
           let ps : Recs = setKid 2 (gone (kid 2 ks)) (setKid 1 (propType ty (kid 2 ks) (kid 1 ks) n .0) ks) in
-          (rec (withFlags h (h .flags / 4 * 4)) (setKid 0 key ps), rw (p, q, s, w), refl)
+          (rec (withFlags h (propFlags (h .flags))) (setKid 0 key ps), rw (p, q, s, w), refl)
 
       go : (a b c d : Bool) → eqb (h .mark) (mark "Co") ≡ a → eqb (h .mark) (mark "Me") ≡ b → eqb (h .mark) (mark "Cp") ≡ c → eqb (h .mark) (mark "Ix") ≡ d → Stays
       go true b c d p q s t = (rec h (each (constructorPart ty) 0 ks n .0), rw (p, l), refl)

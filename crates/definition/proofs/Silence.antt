@@ -9,7 +9,7 @@ use lib.Dec.{eqb}
 use borrow.Author.Tests.{eqb-true}
 use Rattle.definition.specs.Tree.{Head, Rec, Recs, rec, nil, cons}
 use Rattle.definition.specs.Grammar.{mark, marks, member}
-use Rattle.definition.specs.Record.{headOf, kidsOf, markOf, is, ranged, kid, join, given, Diag, diag, Out}
+use Rattle.definition.specs.Record.{headOf, kidsOf, markOf, is, dummySp, ranged, kid, join, given, Diag, diag, Out}
 use Rattle.definition.specs.Helpers.{objectFreezeCallArg}
 use Rattle.definition.specs.Prescan.{PrescannedModuleIds}
 use Rattle.definition.specs.Typing.{
@@ -178,10 +178,10 @@ module _ (ids : PrescannedModuleIds) (ctx : ℕ) where
 
   -- an element, what a Sp spreads, and the elements after
   spread-first : (h : Head) (o : Out (Option Rec)) (rest : ℕ → Out (Option Recs)) →
-      Piece (o .1) (given (o .0) (none, o .1 ++ (diag "d4" h ∷ []), o .2) (λ t. element (tsRestType t) (o .1) (rest (o .2))) .1)
+      Piece (o .1) (given (o .0) (none, o .1 ++ (diag "d4" h ∷ []), o .2) (λ t. element (tsRestType dummySp t) (o .1) (rest (o .2))) .1)
   spread-first h o rest = go (o .0) (o .1) (o .2)
     where
-      go : (x : Option Rec) (l : List Diag) (m : ℕ) → Piece l (given x (none, l ++ (diag "d4" h ∷ []), m) (λ t. element (tsRestType t) l (rest m)) .1)
+      go : (x : Option Rec) (l : List Diag) (m : ℕ) → Piece l (given x (none, l ++ (diag "d4" h ∷ []), m) (λ t. element (tsRestType dummySp t) l (rest m)) .1)
       go none l m = piece-left _ (piece-whole l)
       go (some t) l m = piece-left _ (piece-whole l)
 

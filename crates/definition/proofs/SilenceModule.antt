@@ -11,7 +11,7 @@ use borrow.Author.Tests.{eqb-true, ne-eqb}
 use mathlib.Core.Logic.{_⊎_, inl, inr, ⊎-elim}
 use Rattle.definition.specs.Tree.{Head, Rec, Recs, rec, nil, cons}
 use Rattle.definition.specs.Grammar.{mark, marks, member}
-use Rattle.definition.specs.Record.{headOf, kidsOf, markOf, among, isNo, Diag, diag, listed, Out, Typing, each, flat, second, text, fresh, ident, absent, one}
+use Rattle.definition.specs.Record.{headOf, kidsOf, markOf, among, isNo, dummySp, Diag, diag, listed, Out, Typing, each, flat, second, text, fresh, ident, absent, one}
 use Rattle.definition.specs.Prescan.{prescanModuleIds}
 use Rattle.definition.specs.Typing.{elementKind, exprToTsType}
 use Rattle.definition.specs.Classes.{
@@ -337,20 +337,20 @@ no-silence-in-module list ctx h items m i oh ks o w =
 
 -- an example: `const a = [{ ...b }] as const;`, with the spread at 12 to 16, tells of it
 abbrev example-spread : Rec
-example-spread = rec (record { mark = mark "Sp"; flags = 0; start = 12; end = 16; text = [] }) (one (ident (text "b")))
+example-spread = rec (record { mark = mark "Sp"; flags = 0; start = 12; end = 16; text = [] }) (one (ident dummySp (text "b")))
 
 abbrev example-value : Rec
 example-value = rec (fresh "Tc" 0 []) (one (rec (fresh "Ar" 0 []) (one (rec (fresh "Ob" 0 []) (one example-spread)))))
 
 abbrev example-items : Recs
 example-items =
-    one (rec (fresh "Vd" 2 []) (one (rec (fresh "Vr" 0 []) (cons (rec (fresh "Bd" 0 []) (cons (ident (text "a")) (one absent))) (one example-value)))))
+    one (rec (fresh "Vd" 2 []) (one (rec (fresh "Vr" 0 []) (cons (rec (fresh "Bd" 0 []) (cons (ident dummySp (text "a")) (one absent))) (one example-value)))))
 
 example : (list : List ℕ) (ctx : ℕ) (h : Head) → Given (transform list ctx (rec h example-items) .1) (diag "d4" (headOf example-spread))
 unfolding elementKind
 example list ctx h =
     no-silence-in-module list ctx h example-items here
-    (InItem.declaration (λ e. absurd (omega arith)) (InDecl.variable (fresh "Vr" 0 []) (fresh "Bd" 0 []) (ident (text "a")) absent nil nil refl here refl refl refl refl))
+    (InItem.declaration (λ e. absurd (omega arith)) (InDecl.variable (fresh "Vr" 0 []) (fresh "Bd" 0 []) (ident dummySp (text "a")) absent nil nil refl here refl refl refl refl))
     (fresh "Ob" 0 []) (one example-spread) refl
     (Meets.const refl (Meets.element (rec (fresh "Ob" 0 []) (one example-spread)) refl now refl Meets.itself))
     .spreads example-spread here refl

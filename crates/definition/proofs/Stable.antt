@@ -6,7 +6,7 @@ use mathlib.Core.Bool.{Bool, true, false, _||_}
 use mathlib.Core.Option.{Option, none, some}
 use Prim.Native.Nat.{ℕ, zero, suc}
 use Rattle.definition.specs.Tree.{Rec, Recs, rec, nil, cons}
-use Rattle.definition.specs.Record.{headOf, kidsOf, markOf, is, isNo, flagged, kid, setKid, join, gone, Diag, diag, Out, Typing, each, flat, atKid, second}
+use Rattle.definition.specs.Record.{headOf, kidsOf, markOf, is, isNo, dummySp, flagged, kid, setKid, join, gone, Diag, diag, Out, Typing, each, flat, atKid, second}
 use Rattle.definition.specs.Helpers.{anyTypeAnn}
 use Rattle.definition.specs.Typing.{orAny}
 use Rattle.definition.specs.Classes.{typeOr, handleFuncParamIdent, Pattern, pIdent, pAssign, pBox, pOther, patternKind, inferExprFallbackAny, handleFuncParamAssign, handlePatternBy, handlePattern, handleFuncParam, functionPart, handleFunction, constructorPart}
@@ -84,7 +84,7 @@ unfolding handleFuncParamIdent
 ident-stable p n n′ = ap (rec (headOf p)) (atKid-stable (typeOr F) (typeOr F) (typeOr-stable F F (λ n. refl)) 1 (kidsOf p) n n′)
   where
     F : ℕ → Out Rec
-    F n = (anyTypeAnn, diag "d2" (headOf p) ∷ [], n)
+    F n = (anyTypeAnn dummySp, diag "d2" (headOf p) ∷ [], n)
 
 -- the child at place 1 keeps its value where the one at place 0 was changed too
 fix-kid-10 : (u v : Rec) (ks : Recs) (w : Rec → Rec) → w v ≡ v →
@@ -115,7 +115,7 @@ module _ (ty₁ ty₂ : Typing) (there : Typed ty₁) where
       F = inferExprFallbackAny ty₁ r
 
       G : ℕ → Out Rec
-      G n = (anyTypeAnn, diag "d2" (headOf l) ∷ [], n)
+      G n = (anyTypeAnn dummySp, diag "d2" (headOf l) ∷ [], n)
 
       v : Rec
       v = typeOr F (kid 1 (kidsOf l)) n .0

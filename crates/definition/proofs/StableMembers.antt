@@ -3,7 +3,7 @@ use mathlib.Core.Path.{_≡_, refl, ap, ap₂, subst}
 use mathlib.Core.List.{List}
 use mathlib.Core.Bool.{Bool, true, false, cond, not, _&&_}
 use mathlib.Core.Option.{Option, none, some}
-use Prim.Native.Nat.{ℕ, _*_, _/_}
+use Prim.Native.Nat.{ℕ}
 use native.Mathlib.Omega.{arith}
 use lib.Dec.{eqb}
 use borrow.Author.Tests.{eqb-true}
@@ -11,7 +11,7 @@ use Rattle.definition.specs.Tree.{Head, Rec, Recs, rec, nil, cons}
 use Rattle.definition.specs.Grammar.{mark}
 use Rattle.definition.specs.Record.{headOf, kidsOf, markOf, is, isNo, withFlags, has1, kid, setKid, one, ends, gone, listed, Out, Typing, pure, ifM, flat}
 use Rattle.definition.specs.Names.{isWellKnownSymbolExpr, KeyExpr, xLit, xTpl, xThrough, xIdent, xMember, xOther, keyExprKind, computed, propNameBy, propNameFromExpr, propNameFromFirst, propNameFromOnly, validPropName}
-use Rattle.definition.specs.Classes.{handleFunction, constructorPart, constructor, method, propType, classProp, Member, mConstructor, mMethod, mProp, mDropped, mKept, memberKind, memberBy, member, classBodyToType, class}
+use Rattle.definition.specs.Classes.{handleFunction, constructorPart, constructor, method, propType, propFlags, classProp, Member, mConstructor, mMethod, mProp, mDropped, mKept, memberKind, memberBy, member, classBodyToType, class}
 use Rattle.definition.proofs.Stable.{Stable, Typed, each-stable, flat-stable, gone-gone, function-stable, constructorPart-stable}
 
 -- ---- keys
@@ -88,8 +88,8 @@ key-fix r ctx k p = go (is "Kc" r) refl
 
 -- ---- members
 
-quarter : (f : ℕ) → f / 4 * 4 / 4 * 4 ≡ f / 4 * 4
-quarter f = omega arith
+prop-flags-twice : (f : ℕ) → propFlags (propFlags f) ≡ propFlags f
+prop-flags-twice f = omega arith
 
 module _ (ty₁ ty₂ : Typing) (there : Typed ty₁) where
   -- the children of a method whose key is k
@@ -154,7 +154,7 @@ module _ (ty₁ ty₂ : Typing) (there : Typed ty₁) where
     prop-fix r none e q n n′ = refl
     prop-fix r (some k) e q n n′ =
         rw (e, prop-key k (kidsOf r) n ctx q)
-        (ap₂ (λ (x : Recs) (f : ℕ). one (rec (withFlags (headOf r) f) x)) (prop-kids k (kidsOf r) n n′) (quarter (headOf r .flags)))
+        (ap₂ (λ (x : Recs) (f : ℕ). one (rec (withFlags (headOf r) f) x)) (prop-kids k (kidsOf r) n n′) (prop-flags-twice (headOf r .flags)))
 
     member-fix : (r : Rec) (n n′ : ℕ) → MembersFix (member list ctx ty₁ r n .0) n′
     unfolding memberBy flat

@@ -7,7 +7,7 @@ use Prim.Native.Nat.{ℕ}
 use lib.Dec.{eqb}
 use Rattle.definition.specs.Tree.{Head, Rec, Recs, rec, nil, cons}
 use Rattle.definition.specs.Grammar.{mark, marks, member}
-use Rattle.definition.specs.Record.{text, sameText, headOf, kidsOf, markOf, textOf, is, isNo, contextOf, symbolOf, fresh, absent, kid, given, present, pure, ifM}
+use Rattle.definition.specs.Record.{text, sameText, headOf, kidsOf, markOf, textOf, is, isNo, contextOf, symbolOf, dummySp, fresh, absent, kid, given, present, pure, ifM}
 use Rattle.definition.specs.Helpers.{tsKeywordType, tsLitType, noExprs, firstCooked, tplToTsType, objectFreezeCallArg, Lit, lStr, lBool, lNull, lNum, lBigInt, lRegex, lJsxText, litKind, maybeLitToTsType}
 use Rattle.definition.specs.Prescan.{PrescannedModuleIds}
 use Rattle.definition.specs.Typing.{Frozen, fTypeLit, fArray, fSame, fOther, frozenKind, plainMembers, readonlyMembers, readonlyOfBy, readonlyOf, minusBy, tupleOf, Expr, xArray, xObject, xLit, xConst, xSatisfies, xAs, xFn, xArrow, xTpl, xIdent, xUnary, xCall, xNew, xOther, exprKind, Below, globalType, identToTsType, newType, frozen, exprBy, exprToTsType, typeFirst, typeSecond, fnSecond, fnFirst, functionType}
@@ -56,7 +56,7 @@ unfolding tplToTsType
 template-there ks false = refl
 template-there ks true = go (noExprs ks && firstCooked ks)
   where
-    go : (b : Bool) → isNo (cond b (tsLitType (rec (fresh "Ss" 0 (textOf (kid 0 ks))) nil)) (tsKeywordType "string")) ≡ false
+    go : (b : Bool) → isNo (cond b (tsLitType dummySp (rec (fresh "Ss" 0 (textOf (kid 0 ks))) nil)) (tsKeywordType dummySp "string")) ≡ false
     go true = refl
     go false = refl
 
@@ -87,8 +87,8 @@ module _ (ids : PrescannedModuleIds) (ctx : ℕ) where
   global-there : (name : List ℕ) (c : Bool) → There (globalType ids ctx name c)
   unfolding globalType
   global-there name c =
-      there-cond (sameText name (text "undefined") && c) (some (tsKeywordType "undefined")) _ refl
-      (there-cond (sameText name (text "NaN") || sameText name (text "Infinity")) (some (tsKeywordType "number")) none refl tt)
+      there-cond (sameText name (text "undefined") && c) (some (tsKeywordType dummySp "undefined")) _ refl
+      (there-cond (sameText name (text "NaN") || sameText name (text "Infinity")) (some (tsKeywordType dummySp "number")) none refl tt)
 
   ident-there : (i : Rec) (c : Bool) → There (identToTsType ids ctx i c)
   unfolding identToTsType

@@ -11,7 +11,7 @@ use borrow.Author.Tests.{eqb-true, eq-eqb}
 use Rattle.definition.specs.Tree.{Head, Rec, Recs, rec, nil, cons, u32At}
 use Rattle.definition.specs.Grammar.{mark}
 use Rattle.definition.specs.Check.{entrySize}
-use Rattle.definition.specs.Record.{headOf, kidsOf, markOf, is, isNo, absent, ident, withFlags, flag1, kid, setKid, one, join, gone, diag, entriesHave, listed, Out, Typing, pure, ifM, single, wrap, each, atKid, second}
+use Rattle.definition.specs.Record.{headOf, kidsOf, markOf, is, isNo, dummySp, absent, ident, withFlags, flag1, kid, setKid, one, join, gone, diag, entriesHave, listed, Out, Typing, pure, ifM, single, wrap, each, atKid, second}
 use Rattle.definition.specs.Helpers.{anyTypeAnn}
 use Rattle.definition.specs.Names.{genUniqueName}
 use Rattle.definition.specs.Typing.{orAny}
@@ -152,7 +152,7 @@ module _ (ty₁ ty₂ : Typing) (there : Typed ty₁) where
   declaratorType-there : (h : Head) (init : Rec) (n : ℕ) → isNo (declaratorType ty₁ h init n .0) ≡ false
   declaratorType-there h init n = go (isNo init)
     where
-      go : (b : Bool) → isNo (ifM b (λ n. (anyTypeAnn, diag "d2" h ∷ [], n)) (λ n. orAny (ty₁ init false true n) (diag "d2" h ∷ [])) n .0) ≡ false
+      go : (b : Bool) → isNo (ifM b (λ n. (anyTypeAnn dummySp, diag "d2" h ∷ [], n)) (λ n. orAny (ty₁ init false true n) (diag "d2" h ∷ [])) n .0) ≡ false
       go true = refl
       go false = orAny-there (ty₁ init false true n) (diag "d2" h ∷ []) (there init false true n)
 
@@ -347,7 +347,7 @@ module _ (ty₁ ty₂ : Typing) (there : Typed ty₁) where
     unfolding defaultTyped
     typed-fix h ks i none n′ e t xs = one-fix (rec h ks) true n′ (id-fix h ks true n′ e (xs .0 .0 (xe-mark (h .mark) e)))
     typed-fix h ks i (some y) n′ e t xs =
-        let made : Recs = setKid 0 (ident (genUniqueName i)) ks in
+        let made : Recs = setKid 0 (ident dummySp (genUniqueName i)) ks in
         join-fix (one (constOf i y)) (one (rec h made)) true n′ (one-fix (constOf i y) true n′ (const-fix i y n′ (t y refl)))
         (λ n. one-fix (rec h made) true n (id-fix h made true n e (xs .1 .0 .0 (xe-mark (h .mark) e))))
 

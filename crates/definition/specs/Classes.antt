@@ -1,16 +1,20 @@
 -- Parameters and class members: `handle_func_param` and its parts, `infer_expr_fallback_any`, `class_body_to_type`.
 -- Assumes nothing: these are definitions. The typing of expressions is a parameter.
-use Prim.Native.Nat.{ℕ, zero, suc, _*_, _/_}
+use Prim.Native.Nat.{ℕ, zero, suc}
 use mathlib.Core.List.{List, [], _∷_}
 use mathlib.Core.Bool.{Bool, false, cond, _||_}
 use mathlib.Core.Option.{Option, none, some}
 use lib.Dec.{eqb}
 use Rattle.definition.specs.Tree.{Rec, Recs, rec, nil, cons}
 use Rattle.definition.specs.Grammar.{mark}
-use Rattle.definition.specs.Record.{headOf, kidsOf, markOf, is, isNo, withFlags, flagged, has1, kid, setKid, one, gone, diag, listed, Out, Typing, pure, ifM, onValue, wrap, single, each, flat, atKid}
+use Rattle.definition.specs.Record.{headOf, kidsOf, markOf, is, isNo, dummySp, withFlags, withoutFlag, flagged, has1, kid, setKid, one, gone, diag, listed, Out, Typing, pure, ifM, onValue, wrap, single, each, flat, atKid}
 use Rattle.definition.specs.Helpers.{anyTypeAnn}
 use Rattle.definition.specs.Names.{validPropName}
 use Rattle.definition.specs.Typing.{orAny}
+
+-- the flags of a Cp without its named ones, 1 and 2: "Value, declare, definite go"
+abbrev pub propFlags : ℕ → ℕ
+propFlags f = withoutFlag 2 (withoutFlag 1 f)
 
 -- ---- parameters
 
@@ -20,7 +24,7 @@ typeOr f t n = ifM (isNo t) f (pure t) n
 
 -- `handle_func_param_ident`: "A Bd parameter without type: any, d2 at it"
 unfoldable pub handleFuncParamIdent : Rec → ℕ → Out Rec
-handleFuncParamIdent p n = wrap (headOf p) (atKid 1 (typeOr (λ n. (anyTypeAnn, diag "d2" (headOf p) ∷ [], n))) (kidsOf p) n)
+handleFuncParamIdent p n = wrap (headOf p) (atKid 1 (typeOr (λ n. (anyTypeAnn dummySp, diag "d2" (headOf p) ∷ [], n))) (kidsOf p) n)
 
 -- patterns, as far as parameters tell them apart
 pub data Pattern : Type 0 where
@@ -97,7 +101,7 @@ module _ (ty : Typing) where
   classProp r (some key) n =
       let value : Rec = kid 2 (kidsOf r) in
       onValue
-      (λ (ks : Recs). one (rec (withFlags (headOf r) (headOf r .flags / 4 * 4)) (setKid 0 key (setKid 2 (gone value) ks))))
+      (λ (ks : Recs). one (rec (withFlags (headOf r) (propFlags (headOf r .flags))) (setKid 0 key (setKid 2 (gone value) ks))))
       (atKid 1 (propType value) (kidsOf r) n)
 
 -- ---- `class_body_to_type`

@@ -7,43 +7,45 @@ use mathlib.Core.Option.{Option, none, some}
 use lib.Dec.{eqb}
 use Rattle.definition.specs.Tree.{Rec, Recs, rec, nil, cons}
 use Rattle.definition.specs.Grammar.{mark}
-use Rattle.definition.specs.Record.{text, sameText, headOf, kidsOf, textOf, is, contextOf, symbolOf, fresh, absent, ident, has1, kid, one, ends}
+use Rattle.definition.specs.Record.{text, sameText, headOf, kidsOf, textOf, is, contextOf, symbolOf, Range, dummySp, made, fresh, absent, ident, has1, kid, one, ends}
+
+-- ---- small types; each is made with a range, which is its first argument
 
 -- `ts_keyword_type`: "`Kw` the keyword"
-abbrev pub tsKeywordType : String → Rec
-tsKeywordType s = rec (fresh "Kw" 0 (text s)) nil
+abbrev pub tsKeywordType : Range → String → Rec
+tsKeywordType at s = rec (made "Kw" 0 at (text s)) nil
 
 -- `any_type_ann`
-abbrev pub anyTypeAnn : Rec
-anyTypeAnn = tsKeywordType "any"
+abbrev pub anyTypeAnn : Range → Rec
+anyTypeAnn at = tsKeywordType at "any"
 
 -- `ts_readonly`: "`Ro` (readonly) type"
-abbrev pub tsReadonly : Rec → Rec
-tsReadonly t = rec (fresh "Ro" 0 []) (one t)
+abbrev pub tsReadonly : Range → Rec → Rec
+tsReadonly at t = rec (made "Ro" 0 at []) (one t)
 
 -- a reference to what an Id names: "`Rf` (reference) Id|Op Op?"
-abbrev pub referenceTo : Rec → Rec
-referenceTo i = rec (fresh "Rf" 0 []) (cons i (one absent))
+abbrev pub referenceTo : Range → Rec → Rec
+referenceTo at i = rec (made "Rf" 0 at []) (cons i (one absent))
 
--- `type_ref`
-abbrev pub typeRef : List ℕ → Rec
-typeRef name = referenceTo (ident name)
+-- `type_ref`; the Id in it is at `DUMMY_SP`
+abbrev pub typeRef : Range → List ℕ → Rec
+typeRef at name = referenceTo at (ident dummySp name)
 
 -- `ts_lit_type`: "`Tl` (literal)"
-abbrev pub tsLitType : Rec → Rec
-tsLitType l = rec (fresh "Tl" 0 []) (one l)
+abbrev pub tsLitType : Range → Rec → Rec
+tsLitType at l = rec (made "Tl" 0 at []) (one l)
 
 -- `regex_type`
-abbrev pub regexType : Rec
-regexType = typeRef (text "RegExp")
+abbrev pub regexType : Range → Rec
+regexType at = typeRef at (text "RegExp")
 
 -- `ts_tuple_element`: "`Tm` Op? type"
-abbrev pub tsTupleElement : Rec → Rec
-tsTupleElement t = rec (fresh "Tm" 0 []) (cons absent (one t))
+abbrev pub tsTupleElement : Range → Rec → Rec
+tsTupleElement at t = rec (made "Tm" 0 at []) (cons absent (one t))
 
 -- `TsTypeQuery` of an Id: "`Tf` (typeof)"
-abbrev pub tsTypeQuery : Rec → Rec
-tsTypeQuery i = rec (fresh "Tf" 0 []) (one i)
+abbrev pub tsTypeQuery : Range → Rec → Rec
+tsTypeQuery at i = rec (made "Tf" 0 at []) (one i)
 
 -- ---- `object_freeze_call_arg`
 
@@ -74,8 +76,8 @@ firstCooked ks = is "Qu" (kid 0 ks) && has1 (headOf (kid 0 ks))
 
 unfoldable pub tplToTsType : Recs → Bool → Rec
 tplToTsType ks true =
-    cond (noExprs ks && firstCooked ks) (tsLitType (rec (fresh "Ss" 0 (textOf (kid 0 ks))) nil)) (tsKeywordType "string")
-tplToTsType ks false = tsKeywordType "string"
+    cond (noExprs ks && firstCooked ks) (tsLitType dummySp (rec (fresh "Ss" 0 (textOf (kid 0 ks))) nil)) (tsKeywordType dummySp "string")
+tplToTsType ks false = tsKeywordType dummySp "string"
 
 -- ---- `maybe_lit_to_ts_type`
 
@@ -94,17 +96,17 @@ litKind m =
 
 -- the type of a literal: `DeclMutabilityKind::Const` where the last argument is true, `Mutable` where it is false
 unfoldable pub maybeLitToTsType : Lit → Rec → Bool → Option Rec
-maybeLitToTsType lStr r true = some (tsLitType r)
-maybeLitToTsType lBool r true = some (tsLitType r)
-maybeLitToTsType lNull r true = some (tsKeywordType "null")
-maybeLitToTsType lNum r true = some (tsLitType r)
-maybeLitToTsType lBigInt r true = some (tsLitType r)
-maybeLitToTsType lRegex r true = some regexType
+maybeLitToTsType lStr r true = some (tsLitType dummySp r)
+maybeLitToTsType lBool r true = some (tsLitType dummySp r)
+maybeLitToTsType lNull r true = some (tsKeywordType dummySp "null")
+maybeLitToTsType lNum r true = some (tsLitType dummySp r)
+maybeLitToTsType lBigInt r true = some (tsLitType dummySp r)
+maybeLitToTsType lRegex r true = some (regexType dummySp)
 maybeLitToTsType lJsxText r true = none
-maybeLitToTsType lStr r false = some (tsKeywordType "string")
-maybeLitToTsType lBool r false = some (tsKeywordType "boolean")
-maybeLitToTsType lNull r false = some (tsKeywordType "null")
-maybeLitToTsType lNum r false = some (tsKeywordType "number")
-maybeLitToTsType lBigInt r false = some (tsKeywordType "bigint")
-maybeLitToTsType lRegex r false = some regexType
+maybeLitToTsType lStr r false = some (tsKeywordType dummySp "string")
+maybeLitToTsType lBool r false = some (tsKeywordType dummySp "boolean")
+maybeLitToTsType lNull r false = some (tsKeywordType dummySp "null")
+maybeLitToTsType lNum r false = some (tsKeywordType dummySp "number")
+maybeLitToTsType lBigInt r false = some (tsKeywordType dummySp "bigint")
+maybeLitToTsType lRegex r false = some (regexType dummySp)
 maybeLitToTsType lJsxText r false = none

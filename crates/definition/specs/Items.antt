@@ -7,7 +7,7 @@ use mathlib.Core.Option.{Option, none, some}
 use lib.Dec.{eqb}
 use Rattle.definition.specs.Tree.{Head, Rec, Recs, rec, nil, cons}
 use Rattle.definition.specs.Grammar.{mark}
-use Rattle.definition.specs.Record.{headOf, kidsOf, markOf, is, isNo, fresh, absent, ident, withFlags, flag1, kid, setKid, one, join, given, gone, diag, listed, Out, Typing, pure, ifM, onValue, wrap, single, each, atKid, second}
+use Rattle.definition.specs.Record.{headOf, kidsOf, markOf, is, isNo, dummySp, fresh, absent, ident, withFlags, flag1, kid, setKid, one, join, given, gone, diag, listed, Out, Typing, pure, ifM, onValue, wrap, single, each, atKid, second}
 use Rattle.definition.specs.Helpers.{anyTypeAnn}
 use Rattle.definition.specs.Names.{genUniqueName}
 use Rattle.definition.specs.Typing.{orAny}
@@ -56,7 +56,7 @@ bodyKind m = cond (eqb m (mark "Nb")) bBlock (cond (eqb m (mark "Nd")) bNested b
 module _ (ty : Typing) where
   -- the type of a Bd at h without one, from the init: "typed (c off, r on), else any and d2 at the pattern"
   abbrev pub declaratorType : Head → Rec → ℕ → Out Rec
-  declaratorType h init n = ifM (isNo init) (λ n. (anyTypeAnn, diag "d2" h ∷ [], n)) (λ n. orAny (ty init false true n) (diag "d2" h ∷ [])) n
+  declaratorType h init n = ifM (isNo init) (λ n. (anyTypeAnn dummySp, diag "d2" h ∷ [], n)) (λ n. orAny (ty init false true n) (diag "d2" h ∷ [])) n
 
   -- the pattern of a Vr at h: "Other patterns give d1 at Vr"
   unfoldable pub declaratorPattern : Head → Rec → Rec → ℕ → Out Rec
@@ -87,12 +87,12 @@ withoutBody r n = wrap (headOf r) (each bodyPart 0 (kidsOf r) n)
 
 abbrev pub constOf : ℕ → Rec → Rec
 constOf i t =
-    rec (fresh "Vd" 3 []) (one (rec (fresh "Vr" 0 []) (cons (rec (fresh "Bd" 0 []) (cons (ident (genUniqueName i)) (one t))) (one absent))))
+    rec (fresh "Vd" 3 []) (one (rec (fresh "Vr" 0 []) (cons (rec (fresh "Bd" 0 []) (cons (ident dummySp (genUniqueName i)) (one t))) (one absent))))
 
 -- an Xe with the type of its expression, and the number of the name: "Untyped: kept whole, no diagnostic of its own"
 unfoldable pub defaultTyped : Head → Recs → ℕ → Option Rec → Recs
 defaultTyped h ks i none = one (rec h ks)
-defaultTyped h ks i (some t) = cons (constOf i t) (one (rec h (setKid 0 (ident (genUniqueName i)) ks)))
+defaultTyped h ks i (some t) = cons (constOf i t) (one (rec h (setKid 0 (ident dummySp (genUniqueName i)) ks)))
 
 -- "get declare at module level and lose it inside Nb"
 abbrev pub declared : Bool → Head → Head

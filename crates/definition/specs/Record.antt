@@ -59,27 +59,45 @@ contextOf r = u32At (textOf r) 0
 abbrev pub symbolOf : Rec → List ℕ
 symbolOf r = drop 4 (textOf r)
 
+-- ---- ranges
+
+-- "start and end (4 each; what `range()` gives ..)"
+pub record Range : Type 0 where
+  pub start : ℕ
+  pub end : ℕ
+
+-- "0,0 is `DUMMY_SP`"
+abbrev pub dummySp : Range
+dummySp = record { start = 0; end = 0 }
+
+-- the range of a record, by its head
+abbrev pub rangeOf : Head → Range
+rangeOf h = record { start = h .start; end = h .end }
+
 -- ---- records made afresh
 
--- "A record made afresh has none" (no Ops) "and only the named flags it needs"; its range is `DUMMY_SP`
-abbrev pub fresh : String → ℕ → List ℕ → Head
-fresh s f t = record { mark = mark s; flags = f; start = 0; end = 0; text = t }
+-- the head of every record that is made, with a range: "A record made afresh has none" (no Ops) "and only the named flags it needs"
+abbrev pub made : String → ℕ → Range → List ℕ → Head
+made s f at t = record { mark = mark s; flags = f; start = at .start; end = at .end; text = t }
 
--- one that is made afresh with the range of another
+-- one at `DUMMY_SP`; one without flags that has the range of another record
+abbrev pub fresh : String → ℕ → List ℕ → Head
+fresh s f t = made s f dummySp t
+
 abbrev pub ranged : String → Head → List ℕ → Head
-ranged s h t = record { mark = mark s; flags = 0; start = h .start; end = h .end; text = t }
+ranged s h t = made s 0 (rangeOf h) t
 
 -- `None`, where it is made (reading 9)
 abbrev pub absent : Rec
 absent = rec (fresh "No" 0 []) nil
 
--- `Ident::new(name, DUMMY_SP, SyntaxContext::default())`
-abbrev pub ident : List ℕ → Rec
-ident name = rec (fresh "Id" 0 (le4 0 ++ name)) nil
+-- `Ident::new(name, span, SyntaxContext::default())`
+abbrev pub ident : Range → List ℕ → Rec
+ident at name = rec (made "Id" 0 at (le4 0 ++ name)) nil
 
--- `Ident::new(name, span, Default::default())`, with the span of a record (readings 11 and 12)
+-- the same with the span of a record (readings 11 and 12)
 abbrev pub identAt : Head → List ℕ → Rec
-identAt h name = rec (ranged "Id" h (le4 0 ++ name)) nil
+identAt h name = ident (rangeOf h) name
 
 -- ---- a head with one field changed
 
@@ -89,10 +107,23 @@ withFlags h f = record { mark = h .mark; flags = f; start = h .start; end = h .e
 abbrev pub withText : Head → List ℕ → Head
 withText h t = record { mark = h .mark; flags = h .flags; start = h .start; end = h .end; text = t }
 
--- flag 1 set or cleared; "Flag bits not named here are carried along"
+-- ---- flags: each is a power of 2
+
+-- whether a flag is set
+abbrev pub hasFlag : ℕ → ℕ → Bool
+hasFlag b f = eqb (f / b % 2) 1
+
+-- a flag set; one cleared; "Flag bits not named here are carried along"
+abbrev pub withFlag : ℕ → ℕ → ℕ
+withFlag b f = f / (2 * b) * (2 * b) + (b + f % b)
+
+abbrev pub withoutFlag : ℕ → ℕ → ℕ
+withoutFlag b f = f / (2 * b) * (2 * b) + f % b
+
+-- flag 1 set or cleared
 abbrev pub flag1 : Bool → ℕ → ℕ
-flag1 true f = f / 2 * 2 + 1
-flag1 false f = f / 2 * 2
+flag1 true f = withFlag 1 f
+flag1 false f = withoutFlag 1 f
 
 -- a record with flag 1 set
 abbrev pub flagged : Rec → Rec
@@ -100,10 +131,10 @@ flagged r = rec (withFlags (headOf r) (flag1 true (headOf r .flags))) (kidsOf r)
 
 -- whether flag 1, or flag 2, is set
 abbrev pub has1 : Head → Bool
-has1 h = eqb (h .flags % 2) 1
+has1 h = hasFlag 1 (h .flags)
 
 abbrev pub has2 : Head → Bool
-has2 h = eqb (h .flags / 2 % 2) 1
+has2 h = hasFlag 2 (h .flags)
 
 -- ---- children
 

@@ -8,7 +8,7 @@ use mathlib.Core.Option.{none, some}
 use lib.ListN.{take, drop}
 use Rattle.definition.specs.Tree.{Head, Rec, Recs, rec, nil, cons}
 use Rattle.definition.specs.Grammar.{mark}
-use Rattle.definition.specs.Record.{headOf, kidsOf, markOf, symbolOf, identAt, kid, Diag, diag, diagBytes}
+use Rattle.definition.specs.Record.{headOf, kidsOf, markOf, symbolOf, dummySp, identAt, kid, Diag, diag, diagBytes}
 use Rattle.definition.specs.Helpers.{anyTypeAnn, objectFreezeCallArg}
 use Rattle.definition.specs.Prescan.{PrescannedModuleIds}
 use Rattle.definition.specs.Typing.{eExpr, elementKind, keyKind, keyExpr, keyFlag, propertySignature, identToTsType, typeSecond, spreadType}
@@ -72,7 +72,7 @@ module _ (ids : PrescannedModuleIds) (ctx : ℕ) where
     -- "untyped value any, d2 at it"
     any : {n : ℕ} {p : Rec} {ps ms : Recs} {ds : List Diag} → markOf p ≡ mark "Kv" → typeSecond ids ctx (kidsOf p) c r n .0 ≡ none →
         Ledger c r (typeSecond ids ctx (kidsOf p) c r n .2) ps ms ds →
-        Ledger c r n (cons p ps) (cons (signatureOf p r anyTypeAnn) ms)
+        Ledger c r n (cons p ps) (cons (signatureOf p r (anyTypeAnn dummySp)) ms)
         (typeSecond ids ctx (kidsOf p) c r n .1 ++ (diag "d2" (headOf (kid 1 (kidsOf p))) ∷ ds))
     -- an Op is no property
     op : {n : ℕ} {p : Rec} {ps ms : Recs} {ds : List Diag} → markOf p ≡ mark "Op" → Ledger c r n ps ms ds → Ledger c r n (cons p ps) ms ds

@@ -7,7 +7,7 @@ use mathlib.Core.Option.{Option, none, some}
 use lib.Dec.{eqb}
 use Rattle.definition.specs.Tree.{Head, Rec, Recs, rec, nil, cons}
 use Rattle.definition.specs.Grammar.{mark}
-use Rattle.definition.specs.Record.{text, sameText, headOf, kidsOf, markOf, textOf, is, among, isNo, contextOf, symbolOf, fresh, ranged, identAt, withText, flagged, kid, one, join, given, present, Diag, diag, Out, pure, ifM, onValue}
+use Rattle.definition.specs.Record.{text, sameText, headOf, kidsOf, markOf, textOf, is, among, isNo, contextOf, symbolOf, Range, dummySp, made, fresh, ranged, identAt, withText, flagged, kid, one, join, given, present, Diag, diag, Out, pure, ifM, onValue}
 use Rattle.definition.specs.Helpers.{tsKeywordType, anyTypeAnn, tsReadonly, referenceTo, tsLitType, tsTupleElement, tsTypeQuery, objectFreezeCallArg, tplToTsType, Lit, lStr, lBool, lNull, lNum, lBigInt, lRegex, lJsxText, litKind, maybeLitToTsType}
 use Rattle.definition.specs.Prescan.{PrescannedModuleIds}
 use Rattle.definition.specs.Names.{digit, genUniqueName}
@@ -35,7 +35,7 @@ readonlyMembers (cons m ms) = cons (cond (is "Op" m) m (flagged m)) (readonlyMem
 
 unfoldable pub readonlyOfBy : Frozen → Rec → Option Rec
 readonlyOfBy fTypeLit t = cond (plainMembers (kidsOf t)) (some (rec (headOf t) (readonlyMembers (kidsOf t)))) none
-readonlyOfBy fArray t = some (tsReadonly t)
+readonlyOfBy fArray t = some (tsReadonly dummySp t)
 readonlyOfBy fSame t = some t
 readonlyOfBy fOther t = none
 
@@ -61,10 +61,10 @@ respelled l t = rec (withText (headOf l) t) nil
 
 -- the type of the negation of an expression, by the literal that it is
 unfoldable pub minusBy : Lit → Rec → Bool → Option Rec
-minusBy lNum l true = some (tsLitType (respelled l (turned (textOf l))))
-minusBy lNum l false = some (tsKeywordType "number")
-minusBy lBigInt l true = some (tsLitType (respelled l (turnedInteger (textOf l))))
-minusBy lBigInt l false = some (tsKeywordType "bigint")
+minusBy lNum l true = some (tsLitType dummySp (respelled l (turned (textOf l))))
+minusBy lNum l false = some (tsKeywordType dummySp "number")
+minusBy lBigInt l true = some (tsLitType dummySp (respelled l (turnedInteger (textOf l))))
+minusBy lBigInt l false = some (tsKeywordType dummySp "bigint")
 minusBy lStr l c = none
 minusBy lBool l c = none
 minusBy lNull l c = none
@@ -75,20 +75,20 @@ minusBy lJsxText l c = none
 
 -- the tuple of the elements' types: "Ar gives Tu in Ro if r" (reading 13)
 abbrev pub tupleOf : Head → Bool → Recs → Rec
-tupleOf h true ts = tsReadonly (rec (ranged "Tu" h []) ts)
+tupleOf h true ts = tsReadonly dummySp (rec (ranged "Tu" h []) ts)
 tupleOf h false ts = rec (ranged "Tu" h []) ts
 
 -- one more element before those of the rest, or the failure of the rest
 abbrev pub element : Rec → List Diag → Out (Option Recs) → Out (Option Recs)
-element t ds o = (given (o .0) none (λ ts. some (cons (tsTupleElement t) ts)), ds ++ o .1, o .2)
+element t ds o = (given (o .0) none (λ ts. some (cons (tsTupleElement dummySp t) ts)), ds ++ o .1, o .2)
 
 -- a type, or any and a diagnostic
 abbrev pub orAny : Out (Option Rec) → List Diag → Out Rec
-orAny o ds = given (o .0) (anyTypeAnn, o .1 ++ ds, o .2) (λ t. (t, o .1, o .2))
+orAny o ds = given (o .0) (anyTypeAnn dummySp, o .1 ++ ds, o .2) (λ t. (t, o .1, o .2))
 
 -- `TsRestType`: "`Rt` (rest)"
-abbrev pub tsRestType : Rec → Rec
-tsRestType t = rec (fresh "Rt" 0 []) (one t)
+abbrev pub tsRestType : Range → Rec → Rec
+tsRestType at t = rec (made "Rt" 0 at []) (one t)
 
 pub data Element : Type 0 where
   eHole eSpread eExpr eOp : Element
@@ -99,10 +99,10 @@ elementKind m = cond (eqb m (mark "No")) eHole (cond (eqb m (mark "Sp")) eSpread
 -- `typed` types the element, `spread` the array that a Sp spreads, `rest` the elements after it
 unfoldable pub elementBy :
     Element → Head → (ℕ → Out (Option Rec)) → (ℕ → Out (Option Rec)) → (ℕ → Out (Option Recs)) → ℕ → Out (Option Recs)
-elementBy eHole h typed spread rest n = element anyTypeAnn [] (rest n)
+elementBy eHole h typed spread rest n = element (anyTypeAnn dummySp) [] (rest n)
 elementBy eSpread h typed spread rest n =
     let o : Out (Option Rec) = spread n in
-    given (o .0) (none, o .1 ++ (diag "d4" h ∷ []), o .2) (λ t. element (tsRestType t) (o .1) (rest (o .2)))
+    given (o .0) (none, o .1 ++ (diag "d4" h ∷ []), o .2) (λ t. element (tsRestType dummySp t) (o .1) (rest (o .2)))
 elementBy eExpr h typed spread rest n =
     let o : Out Rec = orAny (typed n) (diag "d1" h ∷ []) in
     element (o .0) (o .1) (rest (o .2))
@@ -196,7 +196,7 @@ paramBy qOther h ks right n = pure nil n
 -- "`Ft` (function) Op? type pattern*", from the head and the children of a Fu or an Aw, which begin with the type parameters and the return type
 abbrev pub fnType : Head → Recs → Recs → Rec
 fnType h ks params =
-    rec (ranged "Ft" h []) (cons (kid 0 ks) (cons (given (present (kid 1 ks)) anyTypeAnn (λ t. t)) params))
+    rec (ranged "Ft" h []) (cons (kid 0 ks) (cons (given (present (kid 1 ks)) (anyTypeAnn dummySp) (λ t. t)) params))
 
 -- ---- `expr_to_ts_type`
 
@@ -232,23 +232,23 @@ module _ (ids : PrescannedModuleIds) (ctx : ℕ) where
   -- `ident_to_ts_type`: "Unresolved `undefined` is typed only under c; `NaN`, `Infinity` always number" (reading 17)
   unfoldable pub globalType : List ℕ → Bool → Option Rec
   globalType name c =
-      cond (sameText name (text "undefined") && c) (some (tsKeywordType "undefined"))
-      (cond (sameText name (text "NaN") || sameText name (text "Infinity")) (some (tsKeywordType "number")) none)
+      cond (sameText name (text "undefined") && c) (some (tsKeywordType dummySp "undefined"))
+      (cond (sameText name (text "NaN") || sameText name (text "Infinity")) (some (tsKeywordType dummySp "number")) none)
 
   unfoldable pub identToTsType : Rec → Bool → Option Rec
   identToTsType i c =
       cond (eqb (contextOf i) ctx) (globalType (symbolOf i) c)
-      (cond (ids .typeofSafe (textOf i)) (some (tsTypeQuery i)) none)
+      (cond (ids .typeofSafe (textOf i)) (some (tsTypeQuery dummySp i)) none)
 
   -- `Expr::New`: "of a non-generic class declared in this module", without type arguments
   unfoldable pub newType : Recs → Option Rec
   newType ks =
       let i : Rec = kid 0 ks in
-      cond (is "Id" i && (isNo (kid 1 ks) && ids .nonGenericClasses (textOf i))) (some (referenceTo i)) none
+      cond (is "Id" i && (isNo (kid 1 ks) && ids .nonGenericClasses (textOf i))) (some (referenceTo dummySp i)) none
 
   -- "A spread of an array-typed Id or of an Ar (r off) is Rt; any other fails the array"; `typed` types the Ar
   unfoldable pub spreadBy : Spread → Rec → (ℕ → Out (Option Rec)) → ℕ → Out (Option Rec)
-  spreadBy sIdent i typed n = pure (cond (ids .arrayTyped (textOf i)) (some (tsTypeQuery i)) none) n
+  spreadBy sIdent i typed n = pure (cond (ids .arrayTyped (textOf i)) (some (tsTypeQuery dummySp i)) none) n
   spreadBy sArray a typed n = typed n
   spreadBy sOther e typed n = pure none n
 

@@ -3,14 +3,14 @@ use mathlib.Core.Path.{_≡_, refl, sym, ap, _∙_}
 use mathlib.Core.List.{List}
 use mathlib.Core.Bool.{Bool, true, false}
 use mathlib.Core.Logic.{_⊎_, ⊎-elim}
-use Prim.Native.Nat.{ℕ, suc, _+_, _*_, _/_, _-_, _≤_, _<_, _^_}
+use Prim.Native.Nat.{ℕ, suc, _+_, _-_, _≤_, _<_, _^_}
 use mir.Syntax.{w8}
 use mir.Val
 use lib.ListN.{length, getD}
 use Rattle.definition.specs.Tree.{Head, Rec, Recs, rec, cons, count, markAt, countAt, bodyAt, headAt, endAt, treeAt}
 use Rattle.definition.specs.Grammar.{mark, marks, grammar, known, slots, place, least}
 use Rattle.definition.specs.Children.{AcceptedAt, AllAccepted}
-use Rattle.definition.specs.Record.{headOf, kidsOf, withFlags, flag1, gone, Out, pure, wrap, each, atKid}
+use Rattle.definition.specs.Record.{headOf, kidsOf, withFlags, withFlag, withoutFlag, flag1, gone, Out, pure, wrap, each, atKid}
 use Rattle.definition.specs.Enums.{enumMember}
 use Rattle.definition.specs.Items.{declarator, bodyPart, withoutBody}
 use Rattle.definition.proofs.Children.{tree-is, children}
@@ -36,10 +36,10 @@ use Rattle.items.proofs.Begun.{begun, begun-all, begun-done, keeps-thir
 
 -- ---- "get declare at module level and lose it inside Nb"
 
-pub declared-set : (b : Bool) (f : ℕ) → b ≡ true → f / 2 * 2 + 1 ≡ flag1 b f
+pub declared-set : (b : Bool) (f : ℕ) → b ≡ true → withFlag 1 f ≡ flag1 b f
 declared-set b f e = rw e
 
-pub declared-cleared : (b : Bool) (f : ℕ) → b ≡ false → f / 2 * 2 ≡ flag1 b f
+pub declared-cleared : (b : Bool) (f : ℕ) → b ≡ false → withoutFlag 1 f ≡ flag1 b f
 declared-cleared b f e = rw e
 
 -- ---- a step on every child of a declaration

@@ -10,7 +10,7 @@ use lib.ListN.{length, getD}
 use Rattle.definition.specs.Tree.{Rec, Recs, rec, cons, markAt, countAt, bodyAt, headAt, endAt, treeAt}
 use Rattle.definition.specs.Grammar.{mark, grammar, known, slots, place, least}
 use Rattle.definition.specs.Children.{AcceptedAt}
-use Rattle.definition.specs.Record.{headOf, kidsOf, is, withFlags, kid, setKid, gone, Out, Typing, pure, onValue, wrap, single, each, atKid}
+use Rattle.definition.specs.Record.{headOf, kidsOf, is, dummySp, withFlags, kid, setKid, gone, Out, Typing, pure, onValue, wrap, single, each, atKid}
 use Rattle.definition.specs.Helpers.{anyTypeAnn}
 use Rattle.definition.specs.Typing.{orAny}
 use Rattle.definition.specs.Classes.{typeOr}
@@ -62,7 +62,7 @@ module _ (left : ℕ) (s : List ℕ) (at : ℕ) (a : AcceptedAt left s at) where
 -- ---- the type of a Bd that has none
 
 module _ (tree : List ℕ) (scope : Scope) (left at init n : ℕ) where
-  any-type : markAt tree init ≡ mark "No" → (anyTypeAnn, diagAt tree at (mark "d2") ∷ [], n) ≡ declaratorType (typingOf tree scope) (headAt tree at) (treeAt left tree init) n
+  any-type : markAt tree init ≡ mark "No" → (anyTypeAnn dummySp, diagAt tree at (mark "d2") ∷ [], n) ≡ declaratorType (typingOf tree scope) (headAt tree at) (treeAt left tree init) n
   unfolding headAt
   any-type e = rw (is-mark left tree init (mark "No") e)
 
@@ -70,7 +70,7 @@ module _ (tree : List ℕ) (scope : Scope) (left at init n : ℕ) where
   unfolding headAt typeOf
   init-type e = rw (not-mark left tree init (mark "No") e)
 
-pub type-any : (tree : List ℕ) (scope : Scope) (left at init : ℕ) {o o' g g' : List ℕ} {s s1 s2 : State} → markAt tree init ≡ mark "No" → s .d ≤ top → Keeps o o' s s1 anyTypeAnn
+pub type-any : (tree : List ℕ) (scope : Scope) (left at init : ℕ) {o o' g g' : List ℕ} {s s1 s2 : State} → markAt tree init ≡ mark "No" → s .d ≤ top → Keeps o o' s s1 (anyTypeAnn dummySp)
     → Marks g g' s1 s2 (diagAt tree at (mark "d2")) → Makes o o' g g' s s2 (declaratorType (typingOf tree scope) (headAt tree at) (treeAt left tree init) (s .n))
 type-any tree scope left at init {g = g} {s = s} m d v w = makes-as (makes-mark (makes-keeps g v d) w) (any-type tree scope left at init (s .n) m)
 

@@ -10,10 +10,10 @@ use mir.Syntax.{w8}
 use mir.Val
 use lib.ListN.{length, getD}
 use borrow.Author.Tests.{ne-eqb}
-use Rattle.definition.specs.Tree.{Head, Rec, Recs, rec, nil, cons, le4, headBytes, encode, encodes, markAt, countAt, bodyAt, headAt, endAt, treeAt}
+use Rattle.definition.specs.Tree.{Head, Rec, Recs, rec, nil, cons, headBytes, encode, encodes, markAt, countAt, bodyAt, headAt, endAt, treeAt}
 use Rattle.definition.specs.Grammar.{mark, grammar, known, slots, place, least}
 use Rattle.definition.specs.Children.{AcceptedAt, childAt}
-use Rattle.definition.specs.Record.{headOf, kidsOf, markOf, is, listed, fresh, absent, ident, withFlags, kid, setKid, one, Diag, Out, pure, ifM, onValue, wrap, single, atKid, second}
+use Rattle.definition.specs.Record.{headOf, kidsOf, markOf, is, dummySp, listed, fresh, absent, ident, withFlags, kid, setKid, one, Diag, Out, pure, ifM, onValue, wrap, single, atKid, second}
 use Rattle.definition.specs.Names.{genUniqueName}
 use Rattle.definition.specs.Classes.{class}
 use Rattle.definition.specs.Items.{Default, xClass, xFn, xOther, defaultKind, bodyPart, withoutBody, constOf, defaultTyped, exportDefaultDecl, exportDefaultExpr}
@@ -21,11 +21,10 @@ use Rattle.definition.specs.Transform.{textsFit, allTextsFit}
 use Rattle.definition.proofs.Children.{child-1}
 use Rattle.definition.proofs.Kids.{head-is, mark-is, flags-is, is-mark, not-mark, at-least}
 use Rattle.records.specs.declared.Head.{Head as Fields}
-use Rattle.records.specs.Fields.{fieldsAt, fieldBytes}
+use Rattle.records.specs.Fields.{fieldsAt}
 use Rattle.records.specs.Wrote.{top, Put}
-use Rattle.records.proofs.Stores.{head-bytes}
 use Rattle.names.proofs.Decimals.{length-unique, at-most-twenty}
-use Rattle.swc_helpers.proofs.Made.{put-put, put-as, encode-one, encode-two}
+use Rattle.swc_helpers.proofs.Made.{encode-one, encode-two}
 use Rattle.prescan.specs.declared.Scope.{Scope}
 use Rattle.typing.specs.declared.State.{State}
 use Rattle.typing.specs.declared.Mode.{Mode}
@@ -37,14 +36,14 @@ use Rattle.typing.specs.Below.{Gives}
 use Rattle.typing.proofs.Fits.{name-fits, all-one}
 use Rattle.typing.proofs.Loops.{rest, encodes-one}
 use Rattle.typing.proofs.Steps.{step-put, step-puts, step-then, step-as, step-back, IsSome, IsNone, is-some, is-none}
-use Rattle.typing.proofs.Written.{puts-fitting, puts-as, unique-is}
+use Rattle.typing.proofs.Written.{puts-fitting, puts-as}
 use Rattle.parts.specs.Makes.{frontBytes, Keeps, KeepsAll, Makes}
 use Rattle.parts.proofs.Kept.{head-short, front-as}
 use Rattle.parts.proofs.Kids.{One, kids-one}
 use Rattle.parts.proofs.Makes.{makes-as, makes-keeps, gives-one, gives-none}
 use Rattle.parts.proofs.Ready.{ready-at}
 use Rattle.classes.specs.Typings.{typingOf}
-use Rattle.items.specs.Steps.{freshFields, constFront, readonlyMode, withClass, defaultFn, defaultDeclOf, defaultExprOf}
+use Rattle.items.specs.Steps.{constFront, readonlyMode, withClass, defaultFn, defaultDeclOf, defaultExprOf}
 use Rattle.items.proofs.Begun.{keeps-first, makes-first, each-silent}
 
 -- ---- records as the only ones
@@ -82,39 +81,21 @@ mark-at-body s at e m = ap (markAt s) (sym e) ∙ m
 pub second-there : (left : ℕ) (s : List ℕ) (at : ℕ) {p q : ℕ} → p ≡ bodyAt s at → q ≡ endAt (left - 1) s p → q ≡ childAt left s at 1
 second-there left s at e f = f ∙ (ap (endAt (left - 1) s) e ∙ sym (child-1 left s at))
 
--- ---- a generated name, and a const before its type
+-- ---- a generated name
 
-pub front-put : {o o1 o2 : List ℕ} {p q r : ℕ} (k counter : ℕ) → length o < 2 ^ 64 → k ≡ length (genUniqueName counter) → Put o o1 p (fieldBytes (freshFields (mark "Id") 0 (4 + k) 0)) q → Put o1 o2 q (le4 0) r
-    → Put o o2 p (fieldBytes (freshFields (mark "Id") 0 (4 + length (genUniqueName counter)) 0) ++ le4 0) r
-front-put k counter l e a b = put-put l (rw e at a) b
-
-pub unique-put : {o o1 o2 : List ℕ} {p q r : ℕ} (counter : ℕ) → length o < 2 ^ 64 → Put o o1 p (fieldBytes (freshFields (mark "Id") 0 (4 + length (genUniqueName counter)) 0) ++ le4 0) q
-    → Put o1 o2 q (genUniqueName counter) r → Put o o2 p (encode (ident (genUniqueName counter))) r
-unique-put counter l a b =
-    let k : ℕ = length (genUniqueName counter) in
-    put-as (put-put l a b)
-    (append-assoc (fieldBytes (freshFields (mark "Id") 0 (4 + k) 0)) (le4 0) (genUniqueName counter) ∙ unique-is 0 0 k (genUniqueName counter) refl)
-
-pub const-put : {o o1 o2 o3 o4 : List ℕ} {p q r t u : ℕ} (counter : ℕ) → length o < 2 ^ 64 → Put o o1 p (fieldBytes (freshFields (mark "Vd") 3 0 1)) q → Put o1 o2 q (fieldBytes (freshFields (mark "Vr") 0 0 2)) r
-    → Put o2 o3 r (fieldBytes (freshFields (mark "Bd") 0 0 2)) t → Put o3 o4 t (encode (ident (genUniqueName counter))) u → Put o o4 p (constFront counter) u
-const-put counter l a b c d =
-    put-as
-    (put-put l (put-put l (put-put l (put-as a (head-bytes (fresh "Vd" 3 []) 1)) (put-as b (head-bytes (fresh "Vr" 0 []) 2))) (put-as c (head-bytes (fresh "Bd" 0 []) 2))) d)
-    (simp append-assoc)
-
-unique-fits : (counter : ℕ) → counter < 2 ^ 64 → textsFit (ident (genUniqueName counter)) ≡ true
+unique-fits : (counter : ℕ) → counter < 2 ^ 64 → textsFit (ident dummySp (genUniqueName counter)) ≡ true
 unique-fits counter h = name-fits (fresh "Id" 0 []) (genUniqueName counter) (omega (arith, length-unique counter, at-most-twenty counter h))
 
 -- ---- an Xe with the name
 
 pub name-written : (left : ℕ) (s : List ℕ) (at : ℕ) → AcceptedAt left s at → ((i : ℕ) → mir.Val.Fits w8 (getD s i 0)) → {p1 : ℕ} → One left s at (bodyAt s at) p1 → (counter : ℕ) → counter < 2 ^ 64
     → {o o1 o2 o3 : List ℕ} {x x1 x3 : State} {h : Fields} {q : ℕ} → length o < 2 ^ 64 → h ≡ fieldsAt s at
-    → Puts o o1 x x1 (frontBytes (withFlags (headAt s at) (h .flags)) (h .count)) true → Put o1 o2 (x1 .p) (encode (ident (genUniqueName counter))) q
-    → KeepsAll o2 o3 (movedTo x1 q) x3 (rest left s (h .count - 1) p1) → Keeps o o3 x x3 (rec (headAt s at) (setKid 0 (ident (genUniqueName counter)) (kidsOf (treeAt left s at))))
+    → Puts o o1 x x1 (frontBytes (withFlags (headAt s at) (h .flags)) (h .count)) true → Put o1 o2 (x1 .p) (encode (ident dummySp (genUniqueName counter))) q
+    → KeepsAll o2 o3 (movedTo x1 q) x3 (rest left s (h .count - 1) p1) → Keeps o o3 x x3 (rec (headAt s at) (setKid 0 (ident dummySp (genUniqueName counter)) (kidsOf (treeAt left s at))))
 name-written left s at a known u counter small {x1 = x1} l e v w z =
     puts-as
-    (keeps-first left s at e l (headAt s at) (front-as s at e v) (head-short left s at a known) (ident (genUniqueName counter)) u (puts-fitting x1 w (unique-fits counter small)) z)
-    (ap (λ (r : Rec). rec (headAt s at) (setKid 0 (ident (genUniqueName counter)) (kidsOf r))) (sym (u .is)))
+    (keeps-first left s at e l (headAt s at) (front-as s at e v) (head-short left s at a known) (ident dummySp (genUniqueName counter)) u (puts-fitting x1 w (unique-fits counter small)) z)
+    (ap (λ (r : Rec). rec (headAt s at) (setKid 0 (ident dummySp (genUniqueName counter)) (kidsOf r))) (sym (u .is)))
 
 -- where it stands
 pub name-kids : (left : ℕ) (s : List ℕ) (at : ℕ) (a : AcceptedAt left s at) → markAt s at ≡ mark "Xe" → {p1 : ℕ} → p1 ≡ childAt left s at 1 → One left s at (bodyAt s at) p1
@@ -124,7 +105,7 @@ name-kids left s at a m e = xe-kids left s at a m refl (e ∙ child-1 left s at)
 
 const-bytes : (i : ℕ) (t : Rec) → constFront i ++ (encode t ++ encode absent) ≡ encode (constOf i t)
 const-bytes i t =
-    let name : Rec = ident (genUniqueName i) in
+    let name : Rec = ident dummySp (genUniqueName i) in
     let bd : Rec = rec (fresh "Bd" 0 []) (cons name (one t)) in
     let vr : Rec = rec (fresh "Vr" 0 []) (cons bd (one absent)) in
     let A : List ℕ = headBytes (fresh "Vd" 3 []) 1 in
@@ -193,12 +174,12 @@ module _ (tree : List ℕ) (scope : Scope) (left at : ℕ) {p0 p1 : ℕ} (u : On
   type-is m s e = rw (e, add-one (s .n))
 
   pair-is : (n : ℕ) (type : Rec) (v : Option Rec) → v ≡ some type
-      → cons (constOf (n + 1) type) (one (rec (headAt tree at) (setKid 0 (ident (genUniqueName (n + 1))) (kidsOf (treeAt left tree at))))) ≡ defaultTyped (headOf (treeAt left tree at)) (kidsOf (treeAt left tree at)) (suc n) v
+      → cons (constOf (n + 1) type) (one (rec (headAt tree at) (setKid 0 (ident dummySp (genUniqueName (n + 1))) (kidsOf (treeAt left tree at))))) ≡ defaultTyped (headOf (treeAt left tree at)) (kidsOf (treeAt left tree at)) (suc n) v
   unfolding defaultTyped
   pair-is n type v e =
       let ks : Recs = kidsOf (treeAt left tree at) in
-      ap (λ (k : ℕ). cons (constOf k type) (one (rec (headAt tree at) (setKid 0 (ident (genUniqueName k)) ks)))) (add-one n)
-      ∙ (ap (λ (h : Head). cons (constOf (suc n) type) (one (rec h (setKid 0 (ident (genUniqueName (suc n))) ks)))) (sym (head-is left tree at))
+      ap (λ (k : ℕ). cons (constOf k type) (one (rec (headAt tree at) (setKid 0 (ident dummySp (genUniqueName k)) ks)))) (add-one n)
+      ∙ (ap (λ (h : Head). cons (constOf (suc n) type) (one (rec h (setKid 0 (ident dummySp (genUniqueName (suc n))) ks)))) (sym (head-is left tree at))
       ∙ ap (λ (v : Option Rec). defaultTyped (headOf (treeAt left tree at)) ks (suc n) v) (sym e))
 
   whole-is : (n : ℕ) (v : Option Rec) → v ≡ none → one (treeAt left tree at) ≡ defaultTyped (headOf (treeAt left tree at)) (kidsOf (treeAt left tree at)) (suc n) v
@@ -209,12 +190,12 @@ module _ (tree : List ℕ) (scope : Scope) (left at : ℕ) {p0 p1 : ℕ} (u : On
   -- typed: a const with that type, and the Xe of its name
   pub expr-typed : {o o1 o2 o3 o4 g g' : List ℕ} (s : State) {t : Typed} {typed next : State} {m : Mode} {q r : ℕ} → (markAt tree p0 ≡ mark "Id" → ⊥) → m ≡ readonlyMode scope → s .n + 1 < 2 ^ 64 → s .d ≤ top
       → Put o o1 (s .p) (constFront (s .n + 1)) q → Did o1 o2 g g' (raised s q) t (exprType m s) → t ≡ Some typed → Put o2 o3 (typed .p) (encode absent) r
-      → Keeps o3 o4 (movedTo typed r) next (rec (headAt tree at) (setKid 0 (ident (genUniqueName (s .n + 1))) (kidsOf (treeAt left tree at))))
+      → Keeps o3 o4 (movedTo typed r) next (rec (headAt tree at) (setKid 0 (ident dummySp (genUniqueName (s .n + 1))) (kidsOf (treeAt left tree at))))
       → Gives o o4 g g' s (record { s = next; count = 2 }) (defaultExprOf tree scope (treeAt left tree at) (s .n))
   expr-typed {o} {o1} {o2} {o3} {o4} {g} {g'} s {typed = typed} {next = next} {m = m} {q = q} n e small d a w z b c =
       let x : Out (Option Rec) = exprType m s in
       let i : IsSome o1 o2 g g' (raised s q) typed x = is-some w z in
-      let xe : Rec = rec (headAt tree at) (setKid 0 (ident (genUniqueName (s .n + 1))) (kidsOf (treeAt left tree at))) in
+      let xe : Rec = rec (headAt tree at) (setKid 0 (ident dummySp (genUniqueName (s .n + 1))) (kidsOf (treeAt left tree at))) in
       let below : typed .d ≤ top = (let y = i .step .ran .atd in omega arith) in
       let all = step-then (step-put g (raised s (s .p)) a d) (step-then (i .step) (step-then (step-put g' typed b below) (step-puts g' c below))) in
       let made : Gives o o4 g g' s (record { s = next; count = 2 }) (cons (constOf (s .n + 1) (i .type)) (one xe), x .1, x .2) =

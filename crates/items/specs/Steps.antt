@@ -5,13 +5,12 @@ use mathlib.Core.Option.{Option}
 use Prim.Native.Nat.{ℕ, _-_}
 use lib.Dec.{eqb}
 use Rattle.definition.specs.Tree.{Rec, Recs, headBytes, encode, endAt, readAll, treeAt}
-use Rattle.definition.specs.Record.{headOf, kidsOf, markOf, fresh, ident, withFlags, kid, Out, wrap, each, atKid, second}
+use Rattle.definition.specs.Record.{headOf, kidsOf, markOf, dummySp, fresh, ident, withFlags, kid, Out, wrap, each, atKid, second}
 use Rattle.definition.specs.Classes.{handleFunction, class}
 use Rattle.definition.specs.Check.{deepest}
 use Rattle.definition.specs.Names.{genUniqueName}
 use Rattle.definition.specs.Enums.{enumMember}
 use Rattle.definition.specs.Items.{declKind, defaultKind, declaratorPattern, declarator, withoutBody, declToTypeDecl, transformModuleStmt, exportDefaultDecl, exportDefaultExpr, transformModuleItems, transformModuleItem, exported, nsParts, transformTsNsBody}
-use Rattle.records.specs.declared.Head.{Head as Fields}
 use Rattle.prescan.specs.declared.Scope.{Scope}
 use Rattle.typing.specs.declared.Mode.{Mode}
 use Rattle.classes.specs.Typings.{typingOf}
@@ -48,10 +47,6 @@ withMembers flags r n = wrap (withFlags (headOf r) flags) (each (λ i. enumMembe
 abbrev pub defaultFn : Rec → ℕ → Out Rec
 defaultFn r n = wrap (headOf r) (atKid 0 (second withoutBody) (kidsOf r) n)
 
--- the fields of a fresh head
-abbrev pub freshFields : ℕ → ℕ → ℕ → ℕ → Fields
-freshFields m f text count = record { mark = m; flags = f; start = 0; end = 0; text = text; count = count }
-
 -- an Xe; the list plays no part
 abbrev pub defaultExprOf : List ℕ → Scope → Rec → ℕ → Out Recs
 defaultExprOf tree scope r n = exportDefaultExpr [] (scope .unresolved) (typingOf tree scope) (headOf r) (kidsOf r) n
@@ -59,7 +54,7 @@ defaultExprOf tree scope r n = exportDefaultExpr [] (scope .unresolved) (typingO
 -- a declared const before its type
 abbrev pub constFront : ℕ → List ℕ
 constFront i =
-    headBytes (fresh "Vd" 3 []) 1 ++ (headBytes (fresh "Vr" 0 []) 2 ++ (headBytes (fresh "Bd" 0 []) 2 ++ encode (ident (genUniqueName i))))
+    headBytes (fresh "Vd" 3 []) 1 ++ (headBytes (fresh "Vr" 0 []) 2 ++ (headBytes (fresh "Bd" 0 []) 2 ++ encode (ident dummySp (genUniqueName i))))
 
 -- ---- items
 

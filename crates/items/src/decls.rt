@@ -18,6 +18,9 @@ use parts::put_front;
 use parts::put_gone;
 use prescan::Scope;
 use records::body_at;
+use records::flags::DECLARE;
+use records::flags::with_flag;
+use records::flags::without_flag;
 use records::read_head;
 use records::record_end;
 use typing::State;
@@ -27,9 +30,9 @@ pub fn declared(flags: u8, top: bool) -> u8
     ensures { λ r. ⌜ r ≡ flag1 top flags ⌝ }
 {
     if top {
-        return flags / 2 * 2 + 1;
+        return with_flag(flags, DECLARE);
     }
-    flags / 2 * 2
+    without_flag(flags, DECLARE)
 }
 
 // A Cd or a Cx: its class is the second child.

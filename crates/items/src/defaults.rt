@@ -1,19 +1,16 @@
 // `ModuleDecl::ExportDefaultDecl` and `ModuleDecl::ExportDefaultExpr`.
 ghost use mathlib.Core.Path.{_≡_};
-ghost use mathlib.Core.List.{_++_};
 ghost use Prim.Native.Nat.{_+_, _<_, _^_};
-ghost use lib.ListN.{length};
-ghost use Rattle.definition.specs.Tree.{rec, encode, le4, markAt, bodyAt, headAt, treeAt};
+ghost use Rattle.definition.specs.Tree.{rec, markAt, bodyAt, headAt, treeAt};
 ghost use Rattle.definition.specs.Grammar.{mark};
 ghost use Rattle.definition.specs.Children.{AcceptedAt, childAt};
-ghost use Rattle.definition.specs.Record.{ident, kidsOf, setKid};
+ghost use Rattle.definition.specs.Record.{dummySp, ident, kidsOf, setKid};
 ghost use Rattle.definition.specs.Names.{genUniqueName};
-ghost use Rattle.records.specs.Fields.{fieldBytes};
 ghost use Rattle.records.specs.Wrote.{Put};
 ghost use Rattle.typing.specs.Did.{Ready};
 ghost use Rattle.typing.specs.Below.{Gives};
 ghost use Rattle.parts.specs.Makes.{Keeps};
-ghost use Rattle.items.specs.Steps.{freshFields, constFront, defaultFn, defaultDeclOf, defaultExprOf};
+ghost use Rattle.items.specs.Steps.{constFront, defaultFn, defaultDeclOf, defaultExprOf};
 use crate::decls::bodiless;
 use crate::decls::with_class;
 use crate::vars::readonly;
@@ -24,8 +21,12 @@ use parts::keep;
 use parts::keep_all;
 use parts::put_front;
 use prescan::Scope;
-use records::Head;
+use records::DUMMY_SP;
 use records::body_at;
+use records::flags::CONST;
+use records::flags::DECLARE;
+use records::made::put_absent;
+use records::made::put_made_front;
 use records::mark_at;
 use records::marks::BD;
 use records::marks::CX;
@@ -38,9 +39,6 @@ use records::record_end;
 use typing::Counted;
 use typing::State;
 use typing::Typed;
-
-// "4-byte context"
-const CONTEXT_SIZE: usize = 4;
 
 // An Xd with a class: the Cx is its first child.
 fn default_class(
@@ -127,62 +125,15 @@ pub fn export_default_decl(
     }
 }
 
-// A fresh head.
-fn put_fresh(mark: u16, flags: u8, text: usize, count: usize, out: &mut [u8], p: usize) -> usize
-    ensures { λ r. ⌜ Put (now (out .entry)) (now (out .exit)) p (fieldBytes (freshFields mark flags text count)) r ⌝ }
-{
-    let head = Head {
-        mark,
-        flags,
-        start: 0,
-        end: 0,
-        text,
-        count,
-    };
-    records::put_head(out, p, head)
-}
-
-// What stands before the name of an Id with the name that the counter gave: its head and its context.
-fn put_ident_front(counter: usize, out: &mut [u8], p: usize) -> usize
-    ensures { λ r. ⌜
-        Put (now (out .entry)) (now (out .exit)) p
-        (fieldBytes (freshFields (mark "Id") 0 (4 + length (genUniqueName counter)) 0) ++ le4 0) r
-        ⌝ }
-{
-    let length = CONTEXT_SIZE + unique::unique_name_length(counter);
-    let q = put_fresh(ID, 0, length, 0, out, p);
-    records::put_text(out, q, b"\0\0\0\0")
-}
-
-// `Ident::new(name, DUMMY_SP, ..)` with a name that is generated: the counter `n` is raised.
-fn put_new_ident(n: usize, out: &mut [u8], p: usize) -> Made
-    requires { ⌜ n + 1 < 2 ^ 64 ⌝ }
-    ensures { λ r. ⌜
-        (r .«id_counter» ≡ n + 1)
-        × Put (now (out .entry)) (now (out .exit)) p (encode (ident (genUniqueName (n + 1)))) (r .p)
-        ⌝ }
-{
-    let q = put_ident_front(n + 1, out, p);
-    unique::make_unique_name(n, out, q)
-}
-
-// The same name once more: `name.clone()`.
-fn put_unique_ident(counter: usize, out: &mut [u8], p: usize) -> usize
-    ensures { λ r. ⌜ Put (now (out .entry)) (now (out .exit)) p (encode (ident (genUniqueName counter))) r ⌝ }
-{
-    let q = put_ident_front(counter, out, p);
-    unique::put_unique_name(counter, out, q)
-}
-
 // "a declared const, named _dts_1 at the first", before its type: the counter `n` is raised.
 fn put_const_front(n: usize, out: &mut [u8], p: usize) -> Made
     requires { ⌜ n + 1 < 2 ^ 64 ⌝ }
     ensures { λ r. ⌜ (r .«id_counter» ≡ n + 1) × Put (now (out .entry)) (now (out .exit)) p (constFront (n + 1)) (r .p) ⌝ }
 {
-    let q = put_fresh(VD, 3, 0, 1, out, p);
-    let r = put_fresh(VR, 0, 0, 2, out, q);
-    let t = put_fresh(BD, 0, 0, 2, out, r);
-    put_new_ident(n, out, t)
+    let q = put_made_front(VD, DECLARE + CONST, DUMMY_SP, 1, out, p);
+    let r = put_made_front(VR, 0, DUMMY_SP, 2, out, q);
+    let t = put_made_front(BD, 0, DUMMY_SP, 2, out, r);
+    unique::make_unique_ident(DUMMY_SP, n, out, t)
 }
 
 // The Xe at `at` with the generated name for its expression; `rest` is what stands behind that.
@@ -199,12 +150,12 @@ fn put_default_name(
     requires { ⌜ rest ≡ childAt left (now tree) at 1 ⌝ }
     ensures { λ r. ⌜
         Keeps (now (out .entry)) (now (out .exit)) s r
-        (rec (headAt (now (tree .entry)) at) (setKid 0 (ident (genUniqueName counter)) (kidsOf (treeAt left (now (tree .entry)) at))))
+        (rec (headAt (now (tree .entry)) at) (setKid 0 (ident dummySp (genUniqueName counter)) (kidsOf (treeAt left (now (tree .entry)) at))))
         ⌝ }
 {
     let head = read_head(tree, at);
     let mut named = put_front(tree, at, left, head.flags, head.count, out, s);
-    named.p = put_unique_ident(counter, out, named.p);
+    named.p = unique::put_unique_ident(DUMMY_SP, counter, out, named.p);
     keep_all(tree, rest, head.count - 1, left - 1, out, named)
 }
 
@@ -245,7 +196,7 @@ pub fn export_default_expr(
     ) {
         Typed::Some(typed) => {
             let mut bare = typed;
-            bare.p = swc_helpers::put_absent(out, typed.p);
+            bare.p = put_absent(out, typed.p);
             let rest = record_end(tree, expr, left - 1);
             let next = put_default_name(tree, at, rest, left, counter, out, bare);
             Counted { s: next, count: 2 }

@@ -13,6 +13,7 @@ use parts::put_front;
 use reader::child_at;
 use records::body_at;
 use records::count_at;
+use records::made::put_absent;
 use records::mark_at;
 use records::marks::AS;
 use records::marks::BN;
@@ -120,7 +121,7 @@ fn enum_init(tree: &[u8], at: usize, left: usize, out: &mut [u8], s: State) -> S
         return keep(tree, at, left, out, s);
     }
     let mut next = s;
-    next.p = swc_helpers::put_absent(out, s.p);
+    next.p = put_absent(out, s.p);
     next
 }
 

@@ -16,6 +16,7 @@ use parts::put_any;
 use parts::put_front;
 use parts::put_gone;
 use prescan::Scope;
+use records::DUMMY_SP;
 use records::body_at;
 use records::mark_at;
 use records::marks::BD;
@@ -59,7 +60,7 @@ fn declarator_type(
         ⌝ }
 {
     if mark_at(tree, init) == NO {
-        let next = put_any(out, s);
+        let next = put_any(DUMMY_SP, out, s);
         return typing::mark_diagnostic(tree, at, D2, diagnostics, next);
     }
     let t = typing::expr_to_ts_type(tree, init, left, readonly(scope), out, diagnostics, s);

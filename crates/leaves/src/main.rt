@@ -13,6 +13,7 @@ use libc::STDOUT_FILENO;
 use names::Key;
 use prescan::Question;
 use prescan::Scope;
+use records::DUMMY_SP;
 use records::marks::AR;
 use records::marks::AS;
 use records::marks::AW;
@@ -138,7 +139,7 @@ fn show_type(tree: &[u8], at: usize, left: usize)
 {
     print_bool(at, b"is_array_type", prescan::is_array_type(tree, at, left));
     let mut out = io::buffer();
-    let end = swc_helpers::ts_readonly(&mut out, 0);
+    let end = swc_helpers::ts_readonly(DUMMY_SP, &mut out, 0);
     print_label(at, b"ts_readonly");
     print_front(&out, end);
     print_record(tree, at, left);
@@ -265,7 +266,7 @@ fn show_type_ref(tree: &[u8], at: usize, left: usize)
     requires { ⌜ AcceptedAt left (now tree) at × (markAt (now tree) at ≡ mark "Id") ⌝ }
 {
     let mut out = io::buffer();
-    let end = swc_helpers::type_ref(records::text::symbol_at(tree, at), &mut out, 0);
+    let end = swc_helpers::type_ref(DUMMY_SP, records::text::symbol_at(tree, at), &mut out, 0);
     print_label(at, b"type_ref");
     print_written(&out, end);
 }
@@ -274,7 +275,7 @@ fn show_query(tree: &[u8], at: usize, left: usize)
     requires { ⌜ AcceptedAt left (now tree) at ⌝ }
 {
     let mut out = io::buffer();
-    let end = swc_helpers::ts_type_query(tree, at, left, &mut out, 0);
+    let end = swc_helpers::ts_type_query(tree, at, left, DUMMY_SP, &mut out, 0);
     print_label(at, b"ts_type_query");
     print_written(&out, end);
 }
@@ -283,7 +284,7 @@ fn show_reference(tree: &[u8], at: usize, left: usize)
     requires { ⌜ AcceptedAt left (now tree) at ⌝ }
 {
     let mut out = io::buffer();
-    let end = swc_helpers::reference_to(tree, at, left, &mut out, 0);
+    let end = swc_helpers::reference_to(tree, at, left, DUMMY_SP, &mut out, 0);
     print_label(at, b"reference_to");
     print_written(&out, end);
 }
@@ -293,9 +294,9 @@ fn show_rest(tree: &[u8], at: usize, left: usize)
     requires { ⌜ AcceptedAt left (now tree) at ⌝ }
 {
     let mut out = io::buffer();
-    let p = swc_helpers::ts_tuple_element(&mut out, 0);
-    let q = swc_helpers::ts_rest_type(&mut out, p);
-    let end = swc_helpers::ts_type_query(tree, at, left, &mut out, q);
+    let p = swc_helpers::ts_tuple_element(DUMMY_SP, &mut out, 0);
+    let q = swc_helpers::ts_rest_type(DUMMY_SP, &mut out, p);
+    let end = swc_helpers::ts_type_query(tree, at, left, DUMMY_SP, &mut out, q);
     print_label(at, b"ts_rest_type");
     print_written(&out, end);
 }
@@ -454,7 +455,7 @@ fn next_tree(number: usize) -> bool {
 
 fn show_keyword(kind: TsKeywordTypeKind, name: &[u8]) {
     let mut out = io::buffer();
-    let end = swc_helpers::ts_keyword_type(kind, &mut out, 0);
+    let end = swc_helpers::ts_keyword_type(DUMMY_SP, kind, &mut out, 0);
     print(name);
     print_written(&out, end);
 }
@@ -468,10 +469,10 @@ fn show_constants() {
     show_keyword(TsKeywordTypeKind::TsUndefinedKeyword, b"undefined ");
     show_keyword(TsKeywordTypeKind::TsNullKeyword, b"null ");
     let mut out = io::buffer();
-    let any = swc_helpers::any_type_ann(&mut out, 0);
+    let any = swc_helpers::any_type_ann(DUMMY_SP, &mut out, 0);
     print(b"any_type_ann ");
     print_written(&out, any);
-    let regex = swc_helpers::regex_type(&mut out, 0);
+    let regex = swc_helpers::regex_type(DUMMY_SP, &mut out, 0);
     print(b"regex_type ");
     print_written(&out, regex);
 }

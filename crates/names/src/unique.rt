@@ -2,9 +2,14 @@
 ghost use mathlib.Core.Path.{_≡_};
 ghost use Prim.Native.Nat.{_+_, _<_, _≤_, _^_};
 ghost use lib.ListN.{length};
+ghost use Rattle.definition.specs.Tree.{encode};
+ghost use Rattle.definition.specs.Record.{ident};
 ghost use Rattle.definition.specs.Names.{decimal, genUniqueName};
+ghost use Rattle.records.specs.Fields.{span};
 ghost use Rattle.records.specs.Wrote.{Put};
+use records::Range;
 use records::advance;
+use records::made::put_ident_front;
 use records::put;
 use records::put_text;
 
@@ -87,4 +92,24 @@ pub fn make_unique_name(id_counter: usize, out: &mut [u8], p: usize) -> Made
         p: end,
         id_counter: names.id_counter,
     }
+}
+
+// `Ident::new(name, span, ..)` with a name that is generated: the counter is raised.
+pub fn make_unique_ident(range: Range, id_counter: usize, out: &mut [u8], p: usize) -> Made
+    requires { ⌜ «id_counter» + 1 < 2 ^ 64 ⌝ }
+    ensures { λ r. ⌜
+        (r .«id_counter» ≡ «id_counter» + 1)
+        × Put (now (out .entry)) (now (out .exit)) p (encode (ident (span range) (genUniqueName («id_counter» + 1)))) (r .p)
+        ⌝ }
+{
+    let q = put_ident_front(range, unique_name_length(id_counter + 1), out, p);
+    make_unique_name(id_counter, out, q)
+}
+
+// The same name once more: `name.clone()`.
+pub fn put_unique_ident(range: Range, id_counter: usize, out: &mut [u8], p: usize) -> usize
+    ensures { λ r. ⌜ Put (now (out .entry)) (now (out .exit)) p (encode (ident (span range) (genUniqueName «id_counter»))) r ⌝ }
+{
+    let q = put_ident_front(range, unique_name_length(id_counter), out, p);
+    put_unique_name(id_counter, out, q)
 }

@@ -3,7 +3,7 @@ use mathlib.Core.Path.{_≡_, refl, sym, ap, _∙_}
 use mathlib.Core.List.{List}
 use mathlib.Core.Bool.{Bool, true, false, cond, _&&_, _||_}
 use mathlib.Core.Logic.{_⊎_, inl, inr, ⊎-elim}
-use Prim.Native.Nat.{ℕ, zero, suc, _-_, _/_, _%_, _<_, _≤_}
+use Prim.Native.Nat.{ℕ, zero, suc, _-_, _<_, _≤_}
 use native.Mathlib.Omega.{arith}
 use lib.Dec.{eqb}
 use lib.ListN.{drop}
@@ -12,7 +12,7 @@ use Rattle.definition.specs.Tree.{Head, Rec, Recs, rec, nil, cons, markAt, flag
 use Rattle.definition.specs.Grammar.{mark, marks, member, _or_, declaration, type, expression, pattern, optional, grammar, known, slots, place}
 use Rattle.definition.specs.Check.{checkAll}
 use Rattle.definition.specs.Children.{AcceptedAt, AllAccepted}
-use Rattle.definition.specs.Record.{text, sameText, kidsOf, markOf, is, isNo, kid}
+use Rattle.definition.specs.Record.{text, sameText, kidsOf, markOf, is, isNo, hasFlag, kid}
 use Rattle.definition.specs.Prescan.{ArrayType, ArrayType.aArray, ArrayType.aReadonly, ArrayType.aRef, ArrayType.aOther, arrayTypeKind, refersToArray, isArrayTypeBy, isArrayType, firstIsArrayType, ArrayInit, ArrayInit.iArray, ArrayInit.iThrough, ArrayInit.iAs, ArrayInit.iOther, arrayInitKind, isArrayLitInitBy, isArrayLitInit, firstIsArrayLitInit, Question, Question.typeofSafe, Question.nonGenericClass, Question.arrayTyped, addClass, addConst, named, addDeclarator, addDeclarators, Declared, Declared.dFn, Declared.dClass, Declared.dVar, Declared.dOther, declaredKind, addDeclBy, addFn, addDecl, addItem, asked}
 use Rattle.definition.proofs.Kids.{fixed, Child, placed, wider, member-one, head-is, mark-is, flags-is, kids-are, first-in, second-in}
 use Rattle.definition.proofs.Children.{children, first-one, others, readAll-more, readAll-none}
@@ -302,14 +302,14 @@ module _ (q : Question) (name : List ℕ) where
 
 -- f is the record's flags
 module _ {left : ℕ} {s : List ℕ} {at : ℕ} (a : AcceptedAt left s at) {f : ℕ} (fq : f ≡ flagsAt s at) (q : Question) (name : List ℕ) where
-  var-by : addVar q name (treeAt left s at) ≡ (eqb (f / 2 % 2) 1 && addDeclarators q name (kidsOf (treeAt left s at)))
-  var-by = ap (λ (k : ℕ). eqb (k / 2 % 2) 1 && addDeclarators q name (kidsOf (treeAt left s at))) (flags-is left s at ∙ sym fq)
+  var-by : addVar q name (treeAt left s at) ≡ (hasFlag 2 f && addDeclarators q name (kidsOf (treeAt left s at)))
+  var-by = ap (λ (k : ℕ). hasFlag 2 k && addDeclarators q name (kidsOf (treeAt left s at))) (flags-is left s at ∙ sym fq)
 
-  pub var-other : (f / 2 % 2 ≡ 1 → ⊥) → addVar q name (treeAt left s at) ≡ false
-  var-other n = var-by ∙ rw (ne-eqb (f / 2 % 2) 1 n)
+  pub var-other : hasFlag 2 f ≡ false → addVar q name (treeAt left s at) ≡ false
+  var-other n = var-by ∙ rw n
 
-  pub var-const : f / 2 % 2 ≡ 1 → addVar q name (treeAt left s at) ≡ addDeclarators q name (kidsOf (treeAt left s at))
-  var-const e = var-by ∙ rw (eq-eqb (f / 2 % 2) 1 e)
+  pub var-const : hasFlag 2 f ≡ true → addVar q name (treeAt left s at) ≡ addDeclarators q name (kidsOf (treeAt left s at))
+  var-const e = var-by ∙ rw e
 
 -- ---- a declaration
 

@@ -13,6 +13,8 @@ ghost use Rattle.prescan.specs.Scope.{Skips};
 use records::DEEPEST;
 use records::body_at;
 use records::count_at;
+use records::flags::CONST;
+use records::flags::has_flag;
 use records::mark_at;
 use records::marks::AR;
 use records::marks::AS;
@@ -213,7 +215,7 @@ fn add_var(tree: &[u8], at: usize, left: usize, name: &[u8], question: Question)
     ensures { λ r. ⌜ r ≡ addVar (meant question) (now (name .entry)) (treeAt left (now (tree .entry)) at) ⌝ }
 {
     let head = read_head(tree, at);
-    if head.flags / 2 % 2 != 1 {
+    if !has_flag(head.flags, CONST) {
         return false;
     }
     let mut n = head.count;

@@ -4,4 +4,5 @@ pub mod Whole
 pub mod Wrote
 pub mod Texts
 pub mod Puts
+mod SetFlags
 pub mod Accepted

@@ -5,15 +5,20 @@ ghost use lib.ListN.{length, set};
 ghost use lib.Seq.{sets};
 ghost use Rattle.definition.specs.Tree.{headSize, le2, le4, u16At, u32At, markAt, countAt, bodyAt, textAt, endAt};
 ghost use Rattle.definition.specs.Record.{diagBytes};
-ghost use Rattle.records.specs.Fields.{fieldsAt, fieldBytes, diagOf};
+ghost use Rattle.records.specs.Fields.{fieldsAt, fieldBytes, rangeAt, diagOf};
 ghost use Rattle.records.specs.Whole.{Whole, partAt};
 ghost use Rattle.records.specs.Wrote.{sat, Put};
 
+pub mod flags;
+pub mod made;
 pub mod marks;
 pub mod text;
 
 // "15-byte head"
 pub const HEAD_SIZE: usize = 15;
+
+// "`Id` (1 optional): 4-byte context, symbol": where the symbol of an Id begins in its text.
+pub const CONTEXT_SIZE: usize = 4;
 
 // "depth over 64 (root is 1)": the levels that a tree's root is read with.
 pub const DEEPEST: usize = 64;
@@ -39,6 +44,15 @@ const DIAGNOSTIC_END: usize = 6;
 
 // The largest position.
 const TOP: usize = 0xffff_ffff_ffff_ffff;
+
+// "start and end (4 each; what `range()` gives ..)".
+pub struct Range {
+    pub start: u32,
+    pub end: u32,
+}
+
+// "0,0 is `DUMMY_SP`".
+pub const DUMMY_SP: Range = Range { start: 0, end: 0 };
 
 // A record's head by value: mark, flags, start and end, text length, child count.
 pub struct Head {
@@ -125,6 +139,16 @@ pub fn read_head(tree: &[u8], at: usize) -> Head
         text,
         count,
     }
+}
+
+// The range of the record at `at`.
+pub fn range_at(tree: &[u8], at: usize) -> Range
+    requires { ⌜ at + headSize ≤ length (now tree) ⌝ }
+    ensures { λ r. ⌜ r ≡ rangeAt (now (tree .entry)) at ⌝ }
+{
+    let start = u32_at(tree, at + START);
+    let end = u32_at(tree, at + END);
+    Range { start, end }
 }
 
 // The text of the record at `at`, as the part of the tree that it fills.

@@ -6,13 +6,11 @@ ghost use Rattle.definition.specs.Tree.{lengthAt, bodyAt, textAt, u32At, treeAt
 ghost use Rattle.definition.specs.Children.{AcceptedAt};
 ghost use Rattle.definition.specs.Record.{sameText};
 ghost use Rattle.records.specs.Texts.{isGlobalName};
+use crate::CONTEXT_SIZE;
 use crate::mark_at;
 use crate::marks::ID;
 use crate::text_at;
 use crate::u32_at;
-
-// "`Id` (1 optional): 4-byte context, symbol"
-const CONTEXT_SIZE: usize = 4;
 
 // Whether two texts are equal.
 pub fn same_text(a: &[u8], b: &[u8]) -> bool

@@ -3,7 +3,7 @@ use mathlib.Core.Path.{_≡_, refl, sym, _∙_, ap}
 use mathlib.Core.List.{List}
 use mathlib.Core.Bool.{Bool, true, false, cond, _&&_}
 use mathlib.Core.Logic.{_⊎_, inl, inr, ⊎-elim}
-use Prim.Native.Nat.{ℕ, _-_, _%_, _<_, _≤_}
+use Prim.Native.Nat.{ℕ, _-_, _<_, _≤_}
 use native.Mathlib.Decide.{decLt}
 use native.Mathlib.Omega.{arith}
 use lib.Dec.{eqb}
@@ -11,7 +11,7 @@ use borrow.Author.Tests.{ne-eqb}
 use Rattle.definition.specs.Tree.{Rec, Recs, rec, nil, markAt, countAt, textAt, bodyAt, readAll, endAt, treeAt, encode}
 use Rattle.definition.specs.Grammar.{mark}
 use Rattle.definition.specs.Children.{AcceptedAt, AllAccepted, childAt}
-use Rattle.definition.specs.Record.{headOf, kidsOf, textOf, is, has1, kid, fresh}
+use Rattle.definition.specs.Record.{headOf, kidsOf, textOf, is, dummySp, fresh, hasFlag, has1, kid}
 use Rattle.definition.specs.Helpers.{noExprs, firstCooked, tplToTsType, tsLitType, tsKeywordType}
 use Rattle.definition.proofs.Children.{children, child-0, first-one, others, readAll-more, readAll-none}
 use Rattle.definition.proofs.Kids.{mark-is, flags-is, text-is, kids-are, kid-none}
@@ -73,39 +73,39 @@ module _ (left : ℕ) (s : List ℕ) (at : ℕ) (a : AcceptedAt left s at) where
   no-quasi n = nothing-found _ _ (ap (λ (k : Rec). is "Qu" k && has1 (headOf k)) (kid-none left s at a 0 (omega arith)))
 
   module _ (x : ℕ) (ex : x ≡ bodyAt s at) (h : Fields.Head) (r : h ≡ fieldsAt s x) (n : countAt s at ≡ 0 → ⊥) where
-    cooked-is : firstCooked (kidsOf (treeAt left s at)) ≡ (eqb (h .mark) (mark "Qu") && eqb (h .flags % 2) 1)
+    cooked-is : firstCooked (kidsOf (treeAt left s at)) ≡ (eqb (h .mark) (mark "Qu") && hasFlag 1 (h .flags))
     cooked-is =
         ap (λ (k : Rec). is "Qu" k && has1 (headOf k)) (first-is left s at a x ex (omega arith))
         ∙ ap (λ (m : ℕ). eqb m (mark "Qu") && has1 (headOf (treeAt (left - 1) s x))) (mark-is (left - 1) s x)
-        ∙ ap (λ (f : ℕ). eqb (markAt s x) (mark "Qu") && eqb (f % 2) 1) (flags-is (left - 1) s x)
-        ∙ ap (λ (h : Fields.Head). eqb (h .mark) (mark "Qu") && eqb (h .flags % 2) 1) (sym r)
+        ∙ ap (λ (f : ℕ). eqb (markAt s x) (mark "Qu") && hasFlag 1 f) (flags-is (left - 1) s x)
+        ∙ ap (λ (h : Fields.Head). eqb (h .mark) (mark "Qu") && hasFlag 1 (h .flags)) (sym r)
 
     pub other-part : (h .mark ≡ mark "Qu" → ⊥) → Nothing ≡ foundIf (firstCooked (kidsOf (treeAt left s at))) (childAt left s at 0)
     other-part k = nothing-found _ _ (cooked-is ∙ rw (ne-eqb _ _ k))
 
     module _ (k : h .mark ≡ mark "Qu") where
-      pub cooked : h .flags % 2 ≡ 1 → At x ≡ foundIf (firstCooked (kidsOf (treeAt left s at))) (childAt left s at 0)
+      pub cooked : hasFlag 1 (h .flags) ≡ true → At x ≡ foundIf (firstCooked (kidsOf (treeAt left s at))) (childAt left s at 0)
       cooked e = found-at _ _ _ (cooked-is ∙ rw (k, e)) (ex ∙ sym (child-0 left s at))
 
-      pub not-cooked : (h .flags % 2 ≡ 1 → ⊥) → Nothing ≡ foundIf (firstCooked (kidsOf (treeAt left s at))) (childAt left s at 0)
-      not-cooked e = nothing-found _ _ (cooked-is ∙ rw (k, ne-eqb _ _ e))
+      pub not-cooked : hasFlag 1 (h .flags) ≡ false → Nothing ≡ foundIf (firstCooked (kidsOf (treeAt left s at))) (childAt left s at 0)
+      not-cooked e = nothing-found _ _ (cooked-is ∙ rw (k, e))
 
 -- ---- its type
 
 module _ (ks : Recs) where
-  pub with-exprs : noExprs ks ≡ false → tsKeywordType "string" ≡ tplToTsType ks true
+  pub with-exprs : noExprs ks ≡ false → tsKeywordType dummySp "string" ≡ tplToTsType ks true
   unfolding tplToTsType
   with-exprs e = rw e
 
-  pub not-found : (at : ℕ) → Nothing ≡ foundIf (firstCooked ks) at → tsKeywordType "string" ≡ tplToTsType ks true
+  pub not-found : (at : ℕ) → Nothing ≡ foundIf (firstCooked ks) at → tsKeywordType dummySp "string" ≡ tplToTsType ks true
   unfolding tplToTsType
   not-found at f = go (noExprs ks) (firstCooked ks) (is-nothing (firstCooked ks) at f)
     where
-      go : (b c : Bool) → c ≡ false → tsKeywordType "string" ≡ cond (b && c) (tsLitType (rec (fresh "Ss" 0 (textOf (kid 0 ks))) nil)) (tsKeywordType "string")
+      go : (b c : Bool) → c ≡ false → tsKeywordType dummySp "string" ≡ cond (b && c) (tsLitType dummySp (rec (fresh "Ss" 0 (textOf (kid 0 ks))) nil)) (tsKeywordType dummySp "string")
       go true c e = rw e
       go false c e = refl
 
-  quasi-type : noExprs ks ≡ true → firstCooked ks ≡ true → tsLitType (rec (fresh "Ss" 0 (textOf (kid 0 ks))) nil) ≡ tplToTsType ks true
+  quasi-type : noExprs ks ≡ true → firstCooked ks ≡ true → tsLitType dummySp (rec (fresh "Ss" 0 (textOf (kid 0 ks))) nil) ≡ tplToTsType ks true
   unfolding tplToTsType
   quasi-type e f = rw (e, f)
 
@@ -130,15 +130,15 @@ module _ (left : ℕ) (s : List ℕ) (at : ℕ) (a : AcceptedAt left s at) (x : 
   found-accepted = first-accepted left s at a x first-at there
 
   pub found-type : noExprs (kidsOf (treeAt left s at)) ≡ true → (t : List ℕ) → t ≡ textAt s x
-      → tsLitType (rec (fresh "Ss" 0 t) nil) ≡ tplToTsType (kidsOf (treeAt left s at)) true
+      → tsLitType dummySp (rec (fresh "Ss" 0 t) nil) ≡ tplToTsType (kidsOf (treeAt left s at)) true
   found-type e t q =
-      ap (λ (t : List ℕ). tsLitType (rec (fresh "Ss" 0 t) nil)) (q ∙ (sym (text-is (left - 1) s x) ∙ sym (ap textOf (first-is left s at a x first-at there))))
+      ap (λ (t : List ℕ). tsLitType dummySp (rec (fresh "Ss" 0 t) nil)) (q ∙ (sym (text-is (left - 1) s x) ∙ sym (ap textOf (first-is left s at a x first-at there))))
       ∙ quasi-type (kidsOf (treeAt left s at)) e is-cooked
 
 -- what is written for a template of a kind
 pub tpl-put : {a b : List ℕ} {p : ℕ} (ks : Recs) {kind k : DeclMutabilityKind} {t : Rec} {q : ℕ} → kind ≡ k → t ≡ tplToTsType ks (isConst k) → Put a b p (encode t) q → Put a b p (encode (tplToTsType ks (isConst kind))) q
 tpl-put ks e f w = rw (e, ← f) w
 
-pub mutable-is : (ks : Recs) → tsKeywordType "string" ≡ tplToTsType ks false
+pub mutable-is : (ks : Recs) → tsKeywordType dummySp "string" ≡ tplToTsType ks false
 unfolding tplToTsType
 mutable-is ks = refl

@@ -13,7 +13,7 @@ use Rattle.definition.specs.Tree.{Head, rec, nil, headSize, headBytes, encode, 
 use Rattle.definition.specs.Grammar.{mark}
 use Rattle.definition.specs.Check.{isInteger, digits}
 use Rattle.definition.specs.Children.{AcceptedAt}
-use Rattle.definition.specs.Record.{sameText, textOf, fresh, withText}
+use Rattle.definition.specs.Record.{sameText, textOf, Range, made, withText, hasFlag}
 use Rattle.definition.specs.Helpers.{litKind, tsLitType}
 use Rattle.definition.specs.Typing.{turned, turnedInteger, respelled}
 use Rattle.definition.proofs.Children.{itself}
@@ -169,14 +169,14 @@ same-head : (h : Head) (t : List ℕ) → length t ≡ length (h .text) → head
 unfolding headBytes
 same-head h t e = rw e
 
-respelled-is : (left : ℕ) (s : List ℕ) (at : ℕ) (t : List ℕ) → length t ≡ length (textAt s at) → litFront s at ++ t ≡ encode (tsLitType (respelled (treeAt left s at) t))
+respelled-is : (range : Range) (left : ℕ) (s : List ℕ) (at : ℕ) (t : List ℕ) → length t ≡ length (textAt s at) → litFront range s at ++ t ≡ encode (tsLitType range (respelled (treeAt left s at) t))
 unfolding headAt
-respelled-is left s at t e =
-    append-assoc (headBytes (fresh "Tl" 0 []) 1) (headBytes (headAt s at) 0) t
-    ∙ ap (λ (b : List ℕ). headBytes (fresh "Tl" 0 []) 1 ++ (b ++ t)) (same-head (headAt s at) t e)
-    ∙ ap (λ (b : List ℕ). headBytes (fresh "Tl" 0 []) 1 ++ b) (encode-leaf (withText (headAt s at) t))
-    ∙ encode-one (fresh "Tl" 0 []) (rec (withText (headAt s at) t) nil) refl
-    ∙ ap (λ (h : Head). encode (tsLitType (rec (withText h t) nil))) (sym (head-is left s at))
+respelled-is range left s at t e =
+    append-assoc (headBytes (made "Tl" 0 range []) 1) (headBytes (headAt s at) 0) t
+    ∙ ap (λ (b : List ℕ). headBytes (made "Tl" 0 range []) 1 ++ (b ++ t)) (same-head (headAt s at) t e)
+    ∙ ap (λ (b : List ℕ). headBytes (made "Tl" 0 range []) 1 ++ b) (encode-leaf (withText (headAt s at) t))
+    ∙ encode-one (made "Tl" 0 range []) (rec (withText (headAt s at) t) nil) refl
+    ∙ ap (λ (h : Head). encode (tsLitType range (rec (withText h t) nil))) (sym (head-is left s at))
 
 -- the head that is read there, without children
 pub bare-head : (s : List ℕ) (at : ℕ) (h : Fields.Head) → h ≡ fieldsAt s at → bodyAt s at ≤ length s
@@ -200,13 +200,13 @@ module _ (left : ℕ) (s : List ℕ) (at : ℕ) (a : AcceptedAt left s at) where
     number-is = text-number s at (omega (arith, nu-text left s at a e)) ∙ ap (λ (t : List ℕ). u64At t 0) (sym (text-is left s at))
 
     -- the type that is written, from the bits with the sign turned
-    pub negated-is : Bytes s → (m : ℕ) → m ≡ turnedBits (u64At s (at + headSize))
-        → litFront s at ++ le8 m ≡ encode (tsLitType (respelled (treeAt left s at) (turned (textOf (treeAt left s at)))))
-    negated-is bytes m q =
+    pub negated-is : (range : Range) → Bytes s → (m : ℕ) → m ≡ turnedBits (u64At s (at + headSize))
+        → litFront range s at ++ le8 m ≡ encode (tsLitType range (respelled (treeAt left s at) (turned (textOf (treeAt left s at)))))
+    negated-is range bytes m q =
         let n : lengthAt s at ≡ 8 = nu-text left s at a e in
         let l : length (textAt s at) ≡ 8 = text-length left s at a ∙ n in
         let t : le8 m ≡ turned (textAt s at) = ap le8 (q ∙ ap turnedBits (text-number s at (omega arith))) ∙ turned-bytes (textAt s at) l (λ i h. text-below s at bytes i (omega arith)) in
-        respelled-is left s at (le8 m) (sym l) ∙ ap (λ (x : List ℕ). encode (tsLitType (respelled (treeAt left s at) x))) (t ∙ ap turned (sym (text-is left s at)))
+        respelled-is range left s at (le8 m) (sym l) ∙ ap (λ (x : List ℕ). encode (tsLitType range (respelled (treeAt left s at) x))) (t ∙ ap turned (sym (text-is left s at)))
 
   -- a Bi has a sign and digits
   module _ (e : markAt s at ≡ mark "Bi") where
@@ -216,13 +216,13 @@ module _ (left : ℕ) (s : List ℕ) (at : ℕ) (a : AcceptedAt left s at) where
     pub integer-long : 2 ≤ length (textAt s at)
     integer-long = integer-length (textAt s at) integer
 
-    pub negated-integer : (sign : ℕ) → sign ≡ turnedSign (getD (textAt s at) 0 0) (getD (textAt s at) 1 0)
-        → litFront s at ++ (sign ∷ drop 1 (textAt s at)) ≡ encode (tsLitType (respelled (treeAt left s at) (turnedInteger (textOf (treeAt left s at)))))
-    negated-integer sign q =
+    pub negated-integer : (range : Range) (sign : ℕ) → sign ≡ turnedSign (getD (textAt s at) 0 0) (getD (textAt s at) 1 0)
+        → litFront range s at ++ (sign ∷ drop 1 (textAt s at)) ≡ encode (tsLitType range (respelled (treeAt left s at) (turnedInteger (textOf (treeAt left s at)))))
+    negated-integer range sign q =
         let t : sign ∷ drop 1 (textAt s at) ≡ turnedInteger (textAt s at) = ap (λ (x : ℕ). x ∷ drop 1 (textAt s at)) q ∙ turned-integer (textAt s at) integer in
         let l : length (sign ∷ drop 1 (textAt s at)) ≡ length (textAt s at) = omega (arith, length-drop 1 (textAt s at), integer-long) in
-        respelled-is left s at (sign ∷ drop 1 (textAt s at)) l
-        ∙ ap (λ (x : List ℕ). encode (tsLitType (respelled (treeAt left s at) x))) (t ∙ ap turnedInteger (sym (text-is left s at)))
+        respelled-is range left s at (sign ∷ drop 1 (textAt s at)) l
+        ∙ ap (λ (x : List ℕ). encode (tsLitType range (respelled (treeAt left s at) x))) (t ∙ ap turnedInteger (sym (text-is left s at)))
 
 -- ---- the literal that a head says
 
@@ -233,9 +233,9 @@ module _ (left : ℕ) (s : List ℕ) (at : ℕ) (h : Fields.Head) (r : h ≡ fie
   pub literal-is : (m : ℕ) → h .mark ≡ m → literalBy (litKind m) at (treeAt left s at) ≡ literalOf at (treeAt left s at)
   literal-is m e = ap (λ (k : ℕ). literalBy (litKind k) at (treeAt left s at)) (sym (mark-is left s at ∙ marked m e))
 
-  pub boolean-is : h .mark ≡ mark "Bl" → Boolean (eqb (h .flags % 2) 1) ≡ literalOf at (treeAt left s at)
+  pub boolean-is : {b : Bool} → b ≡ hasFlag 1 (h .flags) → h .mark ≡ mark "Bl" → Boolean b ≡ literalOf at (treeAt left s at)
   unfolding litKind literalBy
-  boolean-is e = ap (λ (f : ℕ). Boolean (eqb (f % 2) 1)) (ap (λ (h : Fields.Head). h .flags) r ∙ sym (flags-is left s at)) ∙ literal-is (mark "Bl") e
+  boolean-is q e = ap Boolean q ∙ ap (λ (f : ℕ). Boolean (hasFlag 1 f)) (ap (λ (h : Fields.Head). h .flags) r ∙ sym (flags-is left s at)) ∙ literal-is (mark "Bl") e
 
   pub no-literal : (h .mark ≡ mark "Ss" → ⊥) → (h .mark ≡ mark "Bl" → ⊥) → (h .mark ≡ mark "Nl" → ⊥) → (h .mark ≡ mark "Nu" → ⊥) → (h .mark ≡ mark "Bi" → ⊥) → (h .mark ≡ mark "Re" → ⊥)
       → JsxText ≡ literalOf at (treeAt left s at)

@@ -5,7 +5,7 @@ use mathlib.Core.Bool.{cond}
 use lib.Dec.{eqb}
 use lib.Ieee.{Float, binary64, ofBits}
 use Rattle.definition.specs.Tree.{Rec, headBytes, headAt, u32At}
-use Rattle.definition.specs.Record.{headOf, markOf, textOf, has1, fresh}
+use Rattle.definition.specs.Record.{headOf, markOf, textOf, Range, made, has1}
 use Rattle.definition.specs.Helpers.{Lit, lStr, lBool, lNull, lNum, lBigInt, lRegex, lJsxText, litKind}
 use Rattle.swc_helpers.specs.declared.literals.Literal.{Literal}
 use Rattle.swc_helpers.specs.declared.literals.Literal.the-variants.{Str, Num, BigInt, Bool, Null, Regex, JsxText}
@@ -59,5 +59,5 @@ kindOf Regex = lRegex
 kindOf JsxText = lJsxText
 
 -- the type of the literal at `at` with another text of the same length, before that text
-abbrev pub litFront : List ℕ → ℕ → List ℕ
-litFront s at = headBytes (fresh "Tl" 0 []) 1 ++ headBytes (headAt s at) 0
+abbrev pub litFront : Range → List ℕ → ℕ → List ℕ
+litFront range s at = headBytes (made "Tl" 0 range []) 1 ++ headBytes (headAt s at) 0

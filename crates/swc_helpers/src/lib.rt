@@ -2,26 +2,30 @@
 // it at a position, as far as there is room, and returns the position behind it. One that makes a record around a type which is typed later
 // writes what stands before that type.
 ghost use mathlib.Core.Path.{_≡_};
-ghost use mathlib.Core.List.{[]};
 ghost use mathlib.Core.Option.{some};
-ghost use Rattle.definition.specs.Tree.{rec, nil, headBytes, encode, treeAt, markAt};
+ghost use Rattle.definition.specs.Tree.{encode, treeAt, markAt};
 ghost use Rattle.definition.specs.Children.{AcceptedAt, childAt};
 ghost use Rattle.definition.specs.Grammar.{mark};
-ghost use Rattle.definition.specs.Record.{absent, markOf, kidsOf};
+ghost use Rattle.definition.specs.Record.{markOf, kidsOf};
 ghost use Rattle.definition.specs.Helpers.{tsKeywordType, anyTypeAnn, referenceTo, typeRef, tsLitType, regexType, tsTypeQuery};
 ghost use Rattle.definition.specs.Helpers.{objectFreezeCallArg, noExprs, firstCooked, tplToTsType, litKind, maybeLitToTsType};
 ghost use Rattle.definition.specs.Typing.{minusBy};
-ghost use Rattle.records.specs.Fields.{fieldBytes};
+ghost use Rattle.records.specs.Fields.{span};
 ghost use Rattle.records.specs.Wrote.{Put};
 ghost use Rattle.swc_helpers.specs.Found.{foundIf, isConst, PutMaybe, isObjectFreeze, isQuasi};
-ghost use Rattle.swc_helpers.specs.Made.{freshFields, freshHead, keyword, tsReadonlyFront, tsTupleElementFront, tsRestTypeFront};
+ghost use Rattle.swc_helpers.specs.Made.{keyword, tsReadonlyFront, tsTupleElementFront, tsRestTypeFront};
 use crate::literals::Literal;
-use records::Head;
-use records::marks::ID;
+use records::DUMMY_SP;
+use records::Range;
+use records::flags::COOKED;
+use records::flags::has_flag;
+use records::made::put_absent;
+use records::made::put_ident;
+use records::made::put_made_front;
+use records::made::put_made_leaf;
 use records::marks::KI;
 use records::marks::KW;
 use records::marks::MB;
-use records::marks::NO;
 use records::marks::OP;
 use records::marks::QU;
 use records::marks::RF;
@@ -35,9 +39,6 @@ use records::marks::TM;
 
 pub mod literals;
 
-// "4-byte context": where the symbol of an Id begins in its text.
-const CONTEXT_SIZE: usize = 4;
-
 // The keywords of `TsKeywordTypeKind` that types are made of.
 pub enum TsKeywordTypeKind {
     TsAnyKeyword,
@@ -49,134 +50,114 @@ pub enum TsKeywordTypeKind {
     TsNullKeyword,
 }
 
-// The head of a record that is made afresh, with a text of a length and children of a number: its span is `DUMMY_SP`. Every type that is made
-// has its head from here.
-fn put_fresh(mark: u16, text: usize, count: usize, out: &mut [u8], p: usize) -> usize
-    ensures { λ r. ⌜ Put (now (out .entry)) (now (out .exit)) p (fieldBytes (freshFields mark text count)) r ⌝ }
-{
-    records::put_head(
-        out,
-        p,
-        Head {
-            mark,
-            flags: 0,
-            start: 0,
-            end: 0,
-            text,
-            count,
-        },
-    )
-}
-
-// The same of a record without text.
-fn put_front(mark: u16, count: usize, out: &mut [u8], p: usize) -> usize
-    ensures { λ r. ⌜ Put (now (out .entry)) (now (out .exit)) p (headBytes (freshHead mark []) count) r ⌝ }
-{
-    put_fresh(mark, 0, count, out, p)
-}
-
-// A record that is made afresh and has no children.
-fn put_leaf(mark: u16, text: &[u8], out: &mut [u8], p: usize) -> usize
-    ensures { λ r. ⌜ Put (now (out .entry)) (now (out .exit)) p (encode (rec (freshHead mark (now (text .entry))) nil)) r ⌝ }
-{
-    let q = put_fresh(mark, text.len(), 0, out, p);
-    records::put_text(out, q, text)
-}
-
-// `None`.
-pub fn put_absent(out: &mut [u8], p: usize) -> usize
-    ensures { λ r. ⌜ Put (now (out .entry)) (now (out .exit)) p (encode absent) r ⌝ }
-{
-    put_front(NO, 0, out, p)
-}
-
 // `ts_keyword_type`.
-pub fn ts_keyword_type(kind: TsKeywordTypeKind, out: &mut [u8], p: usize) -> usize
-    ensures { λ r. ⌜ Put (now (out .entry)) (now (out .exit)) p (encode (tsKeywordType (keyword kind))) r ⌝ }
+pub fn ts_keyword_type(range: Range, kind: TsKeywordTypeKind, out: &mut [u8], p: usize) -> usize
+    ensures { λ r. ⌜ Put (now (out .entry)) (now (out .exit)) p (encode (tsKeywordType (span range) (keyword kind))) r ⌝ }
 {
     match kind {
-        TsKeywordTypeKind::TsAnyKeyword => put_leaf(KW, b"any", out, p),
-        TsKeywordTypeKind::TsNumberKeyword => put_leaf(KW, b"number", out, p),
-        TsKeywordTypeKind::TsBooleanKeyword => put_leaf(KW, b"boolean", out, p),
-        TsKeywordTypeKind::TsBigIntKeyword => put_leaf(KW, b"bigint", out, p),
-        TsKeywordTypeKind::TsStringKeyword => put_leaf(KW, b"string", out, p),
-        TsKeywordTypeKind::TsUndefinedKeyword => put_leaf(KW, b"undefined", out, p),
-        TsKeywordTypeKind::TsNullKeyword => put_leaf(KW, b"null", out, p),
+        TsKeywordTypeKind::TsAnyKeyword => put_made_leaf(KW, range, b"any", out, p),
+        TsKeywordTypeKind::TsNumberKeyword => put_made_leaf(KW, range, b"number", out, p),
+        TsKeywordTypeKind::TsBooleanKeyword => put_made_leaf(KW, range, b"boolean", out, p),
+        TsKeywordTypeKind::TsBigIntKeyword => put_made_leaf(KW, range, b"bigint", out, p),
+        TsKeywordTypeKind::TsStringKeyword => put_made_leaf(KW, range, b"string", out, p),
+        TsKeywordTypeKind::TsUndefinedKeyword => put_made_leaf(KW, range, b"undefined", out, p),
+        TsKeywordTypeKind::TsNullKeyword => put_made_leaf(KW, range, b"null", out, p),
     }
 }
 
 // `any_type_ann`.
-pub fn any_type_ann(out: &mut [u8], p: usize) -> usize
-    ensures { λ r. ⌜ Put (now (out .entry)) (now (out .exit)) p (encode anyTypeAnn) r ⌝ }
+pub fn any_type_ann(range: Range, out: &mut [u8], p: usize) -> usize
+    ensures { λ r. ⌜ Put (now (out .entry)) (now (out .exit)) p (encode (anyTypeAnn (span range))) r ⌝ }
 {
-    ts_keyword_type(TsKeywordTypeKind::TsAnyKeyword, out, p)
+    ts_keyword_type(range, TsKeywordTypeKind::TsAnyKeyword, out, p)
 }
 
 // `ts_readonly`, before its type.
-pub fn ts_readonly(out: &mut [u8], p: usize) -> usize
-    ensures { λ r. ⌜ Put (now (out .entry)) (now (out .exit)) p tsReadonlyFront r ⌝ }
+pub fn ts_readonly(range: Range, out: &mut [u8], p: usize) -> usize
+    ensures { λ r. ⌜ Put (now (out .entry)) (now (out .exit)) p (tsReadonlyFront (span range)) r ⌝ }
 {
-    put_front(RO, 1, out, p)
+    put_made_front(RO, 0, range, 1, out, p)
 }
 
-// `type_ref`.
-pub fn type_ref(name: &[u8], out: &mut [u8], p: usize) -> usize
-    ensures { λ r. ⌜ Put (now (out .entry)) (now (out .exit)) p (encode (typeRef (now (name .entry)))) r ⌝ }
+// `type_ref`; the Id in it is at `DUMMY_SP`.
+pub fn type_ref(range: Range, name: &[u8], out: &mut [u8], p: usize) -> usize
+    ensures { λ r. ⌜ Put (now (out .entry)) (now (out .exit)) p (encode (typeRef (span range) (now (name .entry)))) r ⌝ }
 {
-    let q = put_front(RF, 2, out, p);
-    let r = put_fresh(ID, CONTEXT_SIZE + name.len(), 0, out, q);
-    let s = records::put_text(out, r, b"\0\0\0\0");
-    let t = records::put_text(out, s, name);
-    put_absent(out, t)
+    let q = put_made_front(RF, 0, range, 2, out, p);
+    let r = put_ident(DUMMY_SP, name, out, q);
+    put_absent(out, r)
 }
 
 // `TsTypeRef` of an Id of the tree, which it names: `type_name: TsEntityName::Ident(ident.clone())`.
-pub fn reference_to(tree: &[u8], at: usize, left: usize, out: &mut [u8], p: usize) -> usize
+pub fn reference_to(
+    tree: &[u8],
+    at: usize,
+    left: usize,
+    range: Range,
+    out: &mut [u8],
+    p: usize,
+) -> usize
     requires { ⌜ AcceptedAt left (now tree) at ⌝ }
-    ensures { λ r. ⌜ Put (now (out .entry)) (now (out .exit)) p (encode (referenceTo (treeAt left (now (tree .entry)) at))) r ⌝ }
+    ensures { λ r. ⌜
+        Put (now (out .entry)) (now (out .exit)) p (encode (referenceTo (span range) (treeAt left (now (tree .entry)) at))) r
+        ⌝ }
 {
-    let q = put_front(RF, 2, out, p);
+    let q = put_made_front(RF, 0, range, 2, out, p);
     let r = records::put_record(tree, at, left, out, q);
     put_absent(out, r)
 }
 
 // `ts_lit_type` of a literal of the tree.
-pub fn ts_lit_type(tree: &[u8], at: usize, left: usize, out: &mut [u8], p: usize) -> usize
+pub fn ts_lit_type(
+    tree: &[u8],
+    at: usize,
+    left: usize,
+    range: Range,
+    out: &mut [u8],
+    p: usize,
+) -> usize
     requires { ⌜ AcceptedAt left (now tree) at ⌝ }
-    ensures { λ r. ⌜ Put (now (out .entry)) (now (out .exit)) p (encode (tsLitType (treeAt left (now (tree .entry)) at))) r ⌝ }
+    ensures { λ r. ⌜ Put (now (out .entry)) (now (out .exit)) p (encode (tsLitType (span range) (treeAt left (now (tree .entry)) at))) r ⌝ }
 {
-    let q = put_front(TL, 1, out, p);
+    let q = put_made_front(TL, 0, range, 1, out, p);
     records::put_record(tree, at, left, out, q)
 }
 
 // `regex_type`.
-pub fn regex_type(out: &mut [u8], p: usize) -> usize
-    ensures { λ r. ⌜ Put (now (out .entry)) (now (out .exit)) p (encode regexType) r ⌝ }
+pub fn regex_type(range: Range, out: &mut [u8], p: usize) -> usize
+    ensures { λ r. ⌜ Put (now (out .entry)) (now (out .exit)) p (encode (regexType (span range))) r ⌝ }
 {
-    type_ref(b"RegExp", out, p)
+    type_ref(range, b"RegExp", out, p)
 }
 
 // `ts_tuple_element`, before its type.
-pub fn ts_tuple_element(out: &mut [u8], p: usize) -> usize
-    ensures { λ r. ⌜ Put (now (out .entry)) (now (out .exit)) p tsTupleElementFront r ⌝ }
+pub fn ts_tuple_element(range: Range, out: &mut [u8], p: usize) -> usize
+    ensures { λ r. ⌜ Put (now (out .entry)) (now (out .exit)) p (tsTupleElementFront (span range)) r ⌝ }
 {
-    let q = put_front(TM, 2, out, p);
+    let q = put_made_front(TM, 0, range, 2, out, p);
     put_absent(out, q)
 }
 
 // `TsRestType`, before its type.
-pub fn ts_rest_type(out: &mut [u8], p: usize) -> usize
-    ensures { λ r. ⌜ Put (now (out .entry)) (now (out .exit)) p tsRestTypeFront r ⌝ }
+pub fn ts_rest_type(range: Range, out: &mut [u8], p: usize) -> usize
+    ensures { λ r. ⌜ Put (now (out .entry)) (now (out .exit)) p (tsRestTypeFront (span range)) r ⌝ }
 {
-    put_front(RT, 1, out, p)
+    put_made_front(RT, 0, range, 1, out, p)
 }
 
 // `TsTypeQuery` of an Id of the tree.
-pub fn ts_type_query(tree: &[u8], at: usize, left: usize, out: &mut [u8], p: usize) -> usize
+pub fn ts_type_query(
+    tree: &[u8],
+    at: usize,
+    left: usize,
+    range: Range,
+    out: &mut [u8],
+    p: usize,
+) -> usize
     requires { ⌜ AcceptedAt left (now tree) at ⌝ }
-    ensures { λ r. ⌜ Put (now (out .entry)) (now (out .exit)) p (encode (tsTypeQuery (treeAt left (now (tree .entry)) at))) r ⌝ }
+    ensures { λ r. ⌜ Put (now (out .entry)) (now (out .exit)) p (encode (tsTypeQuery (span range) (treeAt left (now (tree .entry)) at))) r ⌝ }
 {
-    let q = put_front(TF, 1, out, p);
+    let q = put_made_front(TF, 0, range, 1, out, p);
     records::put_record(tree, at, left, out, q)
 }
 
@@ -281,7 +262,7 @@ fn first_cooked(tree: &[u8], at: usize, left: usize) -> Found
     if head.mark != QU {
         return Found::Nothing;
     }
-    if head.flags % 2 == 1 {
+    if has_flag(head.flags, COOKED) {
         return Found::At(quasi);
     }
     Found::Nothing
@@ -303,16 +284,16 @@ pub fn tpl_to_ts_type(
         ⌝ }
 {
     if let DeclMutabilityKind::Mutable = kind {
-        return ts_keyword_type(TsKeywordTypeKind::TsStringKeyword, out, p);
+        return ts_keyword_type(DUMMY_SP, TsKeywordTypeKind::TsStringKeyword, out, p);
     }
     if !no_exprs(tree, at, left) {
-        return ts_keyword_type(TsKeywordTypeKind::TsStringKeyword, out, p);
+        return ts_keyword_type(DUMMY_SP, TsKeywordTypeKind::TsStringKeyword, out, p);
     }
     let Found::At(quasi) = first_cooked(tree, at, left) else {
-        return ts_keyword_type(TsKeywordTypeKind::TsStringKeyword, out, p);
+        return ts_keyword_type(DUMMY_SP, TsKeywordTypeKind::TsStringKeyword, out, p);
     };
-    let q = put_front(TL, 1, out, p);
-    put_leaf(SS, records::text_at(tree, quasi), out, q)
+    let q = put_made_front(TL, 0, DUMMY_SP, 1, out, p);
+    put_made_leaf(SS, DUMMY_SP, records::text_at(tree, quasi), out, q)
 }
 
 // `Option<TsType>`: a type was written, up to this position, or there is none.
@@ -321,11 +302,11 @@ pub enum MaybeType {
     Untyped,
 }
 
-// A keyword as the answer of `maybe_lit_to_ts_type`.
-fn some_keyword(kind: TsKeywordTypeKind, out: &mut [u8], p: usize) -> MaybeType
-    ensures { λ r. ⌜ PutMaybe (now (out .entry)) (now (out .exit)) p (some (tsKeywordType (keyword kind))) r ⌝ }
+// `Some(ts_keyword_type(..))`.
+pub fn some_keyword(range: Range, kind: TsKeywordTypeKind, out: &mut [u8], p: usize) -> MaybeType
+    ensures { λ r. ⌜ PutMaybe (now (out .entry)) (now (out .exit)) p (some (tsKeywordType (span range) (keyword kind))) r ⌝ }
 {
-    MaybeType::Typed(ts_keyword_type(kind, out, p))
+    MaybeType::Typed(ts_keyword_type(range, kind, out, p))
 }
 
 // `maybe_lit_to_ts_type`.
@@ -346,21 +327,26 @@ pub fn maybe_lit_to_ts_type(
     let lit = literals::literal_at(tree, at, left);
     match kind {
         DeclMutabilityKind::Const => match lit {
-            Literal::Str(_) => MaybeType::Typed(ts_lit_type(tree, at, left, out, p)),
-            Literal::Bool(_) => MaybeType::Typed(ts_lit_type(tree, at, left, out, p)),
-            Literal::Null => some_keyword(TsKeywordTypeKind::TsNullKeyword, out, p),
-            Literal::Num(_) => MaybeType::Typed(ts_lit_type(tree, at, left, out, p)),
-            Literal::BigInt(_) => MaybeType::Typed(ts_lit_type(tree, at, left, out, p)),
-            Literal::Regex => MaybeType::Typed(regex_type(out, p)),
+            Literal::Str(_) => MaybeType::Typed(ts_lit_type(tree, at, left, DUMMY_SP, out, p)),
+            Literal::Bool(_) => MaybeType::Typed(ts_lit_type(tree, at, left, DUMMY_SP, out, p)),
+            Literal::Null => some_keyword(DUMMY_SP, TsKeywordTypeKind::TsNullKeyword, out, p),
+            Literal::Num(_) => MaybeType::Typed(ts_lit_type(tree, at, left, DUMMY_SP, out, p)),
+            Literal::BigInt(_) => MaybeType::Typed(ts_lit_type(tree, at, left, DUMMY_SP, out, p)),
+            Literal::Regex => MaybeType::Typed(regex_type(DUMMY_SP, out, p)),
             Literal::JsxText => MaybeType::Untyped,
         },
         DeclMutabilityKind::Mutable => match lit {
-            Literal::Str(_) => some_keyword(TsKeywordTypeKind::TsStringKeyword, out, p),
-            Literal::Bool(_) => some_keyword(TsKeywordTypeKind::TsBooleanKeyword, out, p),
-            Literal::Null => some_keyword(TsKeywordTypeKind::TsNullKeyword, out, p),
-            Literal::Num(_) => some_keyword(TsKeywordTypeKind::TsNumberKeyword, out, p),
-            Literal::BigInt(_) => some_keyword(TsKeywordTypeKind::TsBigIntKeyword, out, p),
-            Literal::Regex => MaybeType::Typed(regex_type(out, p)),
+            Literal::Str(_) => some_keyword(DUMMY_SP, TsKeywordTypeKind::TsStringKeyword, out, p),
+            Literal::Bool(_) => some_keyword(DUMMY_SP, TsKeywordTypeKind::TsBooleanKeyword, out, p),
+            Literal::Null => some_keyword(DUMMY_SP, TsKeywordTypeKind::TsNullKeyword, out, p),
+            Literal::Num(_) => some_keyword(DUMMY_SP, TsKeywordTypeKind::TsNumberKeyword, out, p),
+            Literal::BigInt(_) => some_keyword(
+                DUMMY_SP,
+                TsKeywordTypeKind::TsBigIntKeyword,
+                out,
+                p,
+            ),
+            Literal::Regex => MaybeType::Typed(regex_type(DUMMY_SP, out, p)),
             Literal::JsxText => MaybeType::Untyped,
         },
     }
@@ -384,18 +370,18 @@ pub fn minus_lit_to_ts_type(
     match literals::literal_at(tree, at, left) {
         Literal::Num(_) => match kind {
             DeclMutabilityKind::Const => {
-                MaybeType::Typed(literals::negated_number(tree, at, left, out, p))
+                MaybeType::Typed(literals::negated_number(tree, at, left, DUMMY_SP, out, p))
             }
             DeclMutabilityKind::Mutable => {
-                some_keyword(TsKeywordTypeKind::TsNumberKeyword, out, p)
+                some_keyword(DUMMY_SP, TsKeywordTypeKind::TsNumberKeyword, out, p)
             }
         },
         Literal::BigInt(_) => match kind {
             DeclMutabilityKind::Const => {
-                MaybeType::Typed(literals::negated_bigint(tree, at, left, out, p))
+                MaybeType::Typed(literals::negated_bigint(tree, at, left, DUMMY_SP, out, p))
             }
             DeclMutabilityKind::Mutable => {
-                some_keyword(TsKeywordTypeKind::TsBigIntKeyword, out, p)
+                some_keyword(DUMMY_SP, TsKeywordTypeKind::TsBigIntKeyword, out, p)
             }
         },
         _ => MaybeType::Untyped,

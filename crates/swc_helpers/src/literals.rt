@@ -9,10 +9,14 @@ ghost use Rattle.definition.specs.Grammar.{mark};
 ghost use Rattle.definition.specs.Record.{textOf};
 ghost use Rattle.definition.specs.Helpers.{tsLitType};
 ghost use Rattle.definition.specs.Typing.{turned, turnedInteger, respelled};
+ghost use Rattle.records.specs.Fields.{span};
 ghost use Rattle.records.specs.Wrote.{Put};
 ghost use Rattle.swc_helpers.specs.Literal.{u64At, le8, turnedBits, turnedSign, numberOf, literalOf, litFront};
-use crate::put_front;
 use records::Head;
+use records::Range;
+use records::flags::TRUE;
+use records::flags::has_flag;
+use records::made::put_made_front;
 use records::marks::BI;
 use records::marks::BL;
 use records::marks::NL;
@@ -105,7 +109,7 @@ pub fn literal_at(tree: &[u8], at: usize, left: usize) -> Literal
     let flags = head.flags;
     match mark {
         SS => Literal::Str(at),
-        BL => Literal::Bool(flags % 2 == 1),
+        BL => Literal::Bool(has_flag(flags, TRUE)),
         NL => Literal::Null,
         NU => Literal::Num(number_at(tree, at, left)),
         BI => Literal::BigInt(at),
@@ -115,12 +119,12 @@ pub fn literal_at(tree: &[u8], at: usize, left: usize) -> Literal
 }
 
 // The type of a literal of the tree with another text of the same length, before that text: it keeps its span and loses its raw spelling.
-fn put_respelled(tree: &[u8], at: usize, out: &mut [u8], p: usize) -> usize
+fn put_respelled(tree: &[u8], at: usize, range: Range, out: &mut [u8], p: usize) -> usize
     requires { ⌜ bodyAt (now tree) at ≤ length (now tree) ⌝ }
-    ensures { λ r. ⌜ Put (now (out .entry)) (now (out .exit)) p (litFront (now (tree .entry)) at) r ⌝ }
+    ensures { λ r. ⌜ Put (now (out .entry)) (now (out .exit)) p (litFront (span range) (now (tree .entry)) at) r ⌝ }
 {
     let head = records::read_head(tree, at);
-    let q = put_front(TL, 1, out, p);
+    let q = put_made_front(TL, 0, range, 1, out, p);
     records::put_head(
         out,
         q,
@@ -136,14 +140,21 @@ fn put_respelled(tree: &[u8], at: usize, out: &mut [u8], p: usize) -> usize
 }
 
 // `-num.value` of the Nu at `at`, as its type: `ts_lit_type(TsLit::Number(Number { span: num.span, value: -num.value, raw: None }))`.
-pub fn negated_number(tree: &[u8], at: usize, left: usize, out: &mut [u8], p: usize) -> usize
+pub fn negated_number(
+    tree: &[u8],
+    at: usize,
+    left: usize,
+    range: Range,
+    out: &mut [u8],
+    p: usize,
+) -> usize
     requires { ⌜ AcceptedAt left (now tree) at × (markAt (now tree) at ≡ mark "Nu") ⌝ }
-    ensures { λ r. ⌜ Put (now (out .entry)) (now (out .exit)) p (encode (tsLitType (respelled (treeAt left (now (tree .entry)) at) (turned (textOf (treeAt left (now (tree .entry)) at)))))) r ⌝ }
+    ensures { λ r. ⌜ Put (now (out .entry)) (now (out .exit)) p (encode (tsLitType (span range) (respelled (treeAt left (now (tree .entry)) at) (turned (textOf (treeAt left (now (tree .entry)) at)))))) r ⌝ }
 {
     let value = number_at(tree, at, left);
     let bits = negated(value, bits_at(tree, at));
     let text = bytes_of(bits);
-    let q = put_respelled(tree, at, out, p);
+    let q = put_respelled(tree, at, range, out, p);
     records::put_text(out, q, &text)
 }
 
@@ -161,13 +172,20 @@ fn turned_sign(sign: u8, digit: u8) -> u8
 }
 
 // `-(*bigint.value)` of the Bi at `at`, as its type: `ts_lit_type(TsLit::BigInt(BigInt { span: bigint.span, value, raw: None }))`.
-pub fn negated_bigint(tree: &[u8], at: usize, left: usize, out: &mut [u8], p: usize) -> usize
+pub fn negated_bigint(
+    tree: &[u8],
+    at: usize,
+    left: usize,
+    range: Range,
+    out: &mut [u8],
+    p: usize,
+) -> usize
     requires { ⌜ AcceptedAt left (now tree) at × (markAt (now tree) at ≡ mark "Bi") ⌝ }
-    ensures { λ r. ⌜ Put (now (out .entry)) (now (out .exit)) p (encode (tsLitType (respelled (treeAt left (now (tree .entry)) at) (turnedInteger (textOf (treeAt left (now (tree .entry)) at)))))) r ⌝ }
+    ensures { λ r. ⌜ Put (now (out .entry)) (now (out .exit)) p (encode (tsLitType (span range) (respelled (treeAt left (now (tree .entry)) at) (turnedInteger (textOf (treeAt left (now (tree .entry)) at)))))) r ⌝ }
 {
     let text = records::text_at(tree, at);
     let sign = [turned_sign(text[0], text[1])];
-    let q = put_respelled(tree, at, out, p);
+    let q = put_respelled(tree, at, range, out, p);
     let r = records::put_text(out, q, &sign);
     records::put_text(out, r, &text[1..])
 }

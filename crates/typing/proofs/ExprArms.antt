@@ -9,7 +9,7 @@ use lib.Dec.{eqb}
 use Rattle.definition.specs.Tree.{Head, Rec, Recs, rec, nil, cons, count, markAt, countAt, treeAt}
 use Rattle.definition.specs.Grammar.{mark, marks, member, expression, type}
 use Rattle.definition.specs.Children.{AcceptedAt, childAt}
-use Rattle.definition.specs.Record.{headOf, kidsOf, markOf, isNo, ranged, kid, one, join, given, present, Diag, Out, pure, ifM, onValue}
+use Rattle.definition.specs.Record.{headOf, kidsOf, markOf, isNo, dummySp, ranged, kid, one, join, given, present, Diag, Out, pure, ifM, onValue}
 use Rattle.definition.specs.Helpers.{tsReadonly, objectFreezeCallArg}
 use Rattle.definition.specs.Prescan.{PrescannedModuleIds}
 use Rattle.definition.specs.Typing.{
@@ -97,10 +97,10 @@ frozen-fn b h ks o = frozen-same b (fnType h ks (o .0)) refl (o .1) (o .2)
 
 wrap-tuple : (h : Head) (o : Out (Option Recs))
     → onValue (λ (ts : Option Recs). given ts none (λ ts. some (tupleOf h true ts))) o
-    ≡ wrapped tsReadonly (onValue (λ (ts : Option Recs). given ts none (λ ts. some (rec (ranged "Tu" h []) ts))) o)
+    ≡ wrapped (tsReadonly dummySp) (onValue (λ (ts : Option Recs). given ts none (λ ts. some (rec (ranged "Tu" h []) ts))) o)
 wrap-tuple h o = λ i. (go (o .0) i, o .1, o .2)
   where
-    go : (v : Option Recs) → given v none (λ ts. some (tupleOf h true ts)) ≡ given (given v none (λ ts. some (rec (ranged "Tu" h []) ts))) none (λ t. some (tsReadonly t))
+    go : (v : Option Recs) → given v none (λ ts. some (tupleOf h true ts)) ≡ given (given v none (λ ts. some (rec (ranged "Tu" h []) ts))) none (λ t. some (tsReadonly dummySp t))
     go none = refl
     go (some ts) = refl
 
@@ -130,7 +130,7 @@ module _ (tree : List ℕ) (m : Mode) (left at n : ℕ) where
   unfolding tupleType
   array-plain e f = sym (type-array e ∙ rw f)
 
-  pub array-readonly : markAt tree at ≡ mark "Ar" → (m .as_readonly || m .frozen) ≡ true → wrapped tsReadonly (tupleType tree m left at n) ≡ typeOf tree m left at n
+  pub array-readonly : markAt tree at ≡ mark "Ar" → (m .as_readonly || m .frozen) ≡ true → wrapped (tsReadonly dummySp) (tupleType tree m left at n) ≡ typeOf tree m left at n
   unfolding tupleType
   array-readonly e f = sym (type-array e ∙ rw f (wrap-tuple (headOf t) (elements ids (m .scope .unresolved) (kidsOf t) (m .as_const) (m .as_readonly) n)))
 

@@ -12,10 +12,10 @@ use mir.Syntax.{w8}
 use mir.Val
 use lib.ListN.{length, getD, length-append, length-drop}
 use borrow.Author.Tests.{ne-eqb}
-use Rattle.definition.specs.Tree.{Head, Rec, Recs, rec, nil, cons, count, headBytes, encode, encodes, headSize, markAt, startAt, lastAt, lengthAt, textAt, bodyAt, headAt, endAt, treeAt}
+use Rattle.definition.specs.Tree.{Head, Rec, Recs, rec, nil, cons, count, headBytes, encode, encodes, headSize, markAt, lengthAt, textAt, bodyAt, headAt, endAt, treeAt}
 use Rattle.definition.specs.Grammar.{mark, marks, pattern, expression}
 use Rattle.definition.specs.Children.{AcceptedAt}
-use Rattle.definition.specs.Record.{headOf, kidsOf, markOf, symbolOf, is, ranged, identAt, kid, one, given, Diag, diag, diagsBytes, Out, pure, onValue}
+use Rattle.definition.specs.Record.{headOf, kidsOf, markOf, symbolOf, is, Range, ranged, identAt, kid, one, given, Diag, diag, diagsBytes, Out, pure, onValue}
 use Rattle.definition.specs.Counting.{records}
 use Rattle.definition.specs.Names.{genUniqueName}
 use Rattle.definition.specs.Prescan.{PrescannedModuleIds}
@@ -25,6 +25,7 @@ use Rattle.definition.proofs.Round.{length-headBytes}
 use Rattle.definition.proofs.Children.{itself, end-after, end-inside}
 use Rattle.definition.proofs.Counting.{counter-low, counter-high}
 use Rattle.definition.proofs.Kids.{Child, mark-is, head-is, text-is, text-length, left-of, id-text, member-one}
+use Rattle.records.specs.Fields.{span, rangeAt}
 use Rattle.records.specs.Wrote.{top, sat, Put, Ran}
 use Rattle.swc_helpers.proofs.Made.{encode-two}
 use Rattle.prescan.specs.declared.Scope.{Scope}
@@ -33,7 +34,7 @@ use Rattle.typing.specs.declared.Typed.{Typed}
 use Rattle.typing.specs.declared.Typed.the-variants.{Some, None}
 use Rattle.typing.specs.declared.Counted.{Counted}
 use Rattle.typing.specs.Did.{Ready, idsOf, mutableMode, typeOf, diagAt, Marks, Step, Did, Gave, movedTo, backTo}
-use Rattle.typing.specs.Parts.{identOf, bindingFront, uniqueFront}
+use Rattle.typing.specs.Parts.{bindingFront, uniqueFront}
 use Rattle.typing.specs.Moved.{Unnamed}
 use Rattle.typing.specs.Below.{paramOf, paramType, patType, Gives, countedOf}
 use Rattle.typing.proofs.Steps.{and-true, step-none, step-put, step-then, step-as, step-back, step-lower, step-marks, IsSome, IsNone, did-some, did-none, Front}
@@ -146,7 +147,7 @@ gave-mark o s h w e = rw e (record { value = none; same = refl; did = did-none (
 
 -- the front of a parameter
 binding-bytes : (left : ℕ) (tree : List ℕ) (at : ℕ) (name : List ℕ) (ty : Rec)
-    → bindingFront (startAt tree at) (lastAt tree at) name ++ encode ty ≡ encode (bindingIdent (headOf (treeAt left tree at)) name ty)
+    → bindingFront (span (rangeAt tree at)) name ++ encode ty ≡ encode (bindingIdent (headOf (treeAt left tree at)) name ty)
 unfolding headAt
 binding-bytes left tree at name ty =
     rw (head-is left tree at)
@@ -168,7 +169,7 @@ gave-skipped {o} {o2} {g} {g2} s {s2} {y} k h z w e =
     rw e (record { value = none; same = refl; did = did-none (step-lower s k h u) })
 
 module _ (tree : List ℕ) (left at : ℕ) {o o1 o2 g g2 : List ℕ} (s : State) {s2 : State} {y : Out (Option Rec)} {x : Out Recs} where
-  pub gave-named : {q : ℕ} (name : List ℕ) → s .d ≤ top → textsFit (identAt (headOf (treeAt left tree at)) name) ≡ true → Put o o1 (s .p) (bindingFront (startAt tree at) (lastAt tree at) name) q
+  pub gave-named : {q : ℕ} (name : List ℕ) → s .d ≤ top → textsFit (identAt (headOf (treeAt left tree at)) name) ≡ true → Put o o1 (s .p) (bindingFront (span (rangeAt tree at)) name) q
       → IsSome o1 o2 g g2 (movedTo s q) s2 y → x ≡ given (y .0) (nil, y .1, y .2) (λ ty. (one (bindingIdent (headOf (treeAt left tree at)) name ty), y .1, y .2))
       → Gave o o2 g g2 s (Some s2) x
   gave-named name k f v w e =
@@ -181,16 +182,16 @@ module _ (tree : List ℕ) (left at : ℕ) {o o1 o2 g g2 : List ℕ} (s : State)
 
 -- ---- a generated name
 
-front-length : (start end : ℕ) (name : List ℕ) → length (bindingFront start end name) ≡ headSize + headSize + 4 + length name
+front-length : (at : Range) (name : List ℕ) → length (bindingFront at name) ≡ headSize + headSize + 4 + length name
 unfolding encode encodes headBytes
-front-length start end name = omega (arith, ap length (append-nil name))
+front-length at name = omega (arith, ap length (append-nil name))
 
-unnamed-step : {o o1 o2 g g1 : List ℕ} (s : State) {made r : State} {E : List ℕ} {ds : List Diag} {n start end : ℕ} {f : Bool}
-    → Step o o1 g g1 (movedTo s (sat (s .p) (uniqueFront (s .n + 1)))) made E ds n f → Unnamed o1 o2 s made r start end
-    → Step o o2 g g1 s r (bindingFront start end (genUniqueName (made .n + 1)) ++ E) ds (n + 1) f
-unnamed-step {o} {o1} {o2} {g} {g1} s {made} {r} {E} {ds} {n} {start} {end} {f} w u =
-    let H : List ℕ = bindingFront start end (genUniqueName (made .n + 1)) in
-    let l : length H ≡ uniqueFront (s .n + 1) + u .by = front-length start end (genUniqueName (made .n + 1)) ∙ sym (u .size) in
+unnamed-step : {o o1 o2 g g1 : List ℕ} (s : State) {made r : State} {E : List ℕ} {ds : List Diag} {n : ℕ} {at : Range} {f : Bool}
+    → Step o o1 g g1 (movedTo s (sat (s .p) (uniqueFront (s .n + 1)))) made E ds n f → Unnamed o1 o2 s made r at
+    → Step o o2 g g1 s r (bindingFront at (genUniqueName (made .n + 1)) ++ E) ds (n + 1) f
+unnamed-step {o} {o1} {o2} {g} {g1} s {made} {r} {E} {ds} {n} {at} {f} w u =
+    let H : List ℕ = bindingFront at (genUniqueName (made .n + 1)) in
+    let l : length H ≡ uniqueFront (s .n + 1) + u .by = front-length at (genUniqueName (made .n + 1)) ∙ sym (u .size) in
     rw (u .state) (record {
       ran = record {
         out = rw (u .put .bytes) (wrote-moved (s .p) (uniqueFront (s .n + 1)) (u .by) (made .p) H (w .ran .out) (w .ran .atp) (u .moved) l);
@@ -203,7 +204,7 @@ unnamed-step {o} {o1} {o2} {g} {g1} s {made} {r} {E} {ds} {n} {start} {end} {f} 
     })
 
 pub gave-unnamed : (tree : List ℕ) (left at : ℕ) {o o1 o2 g g1 : List ℕ} (s : State) {made r : State} {q : ℕ} {y : Out (Option Rec)} {x : Out Recs} → q ≡ sat (s .p) (uniqueFront (s .n + 1))
-    → IsSome o o1 g g1 (movedTo s q) made y → Unnamed o1 o2 s made r (startAt tree at) (lastAt tree at)
+    → IsSome o o1 g g1 (movedTo s q) made y → Unnamed o1 o2 s made r (span (rangeAt tree at))
     → x ≡ given (y .0) (nil, y .1, y .2) (λ ty. (one (bindingIdent (headOf (treeAt left tree at)) (genUniqueName (y .2 + 1)) ty), y .1, y .2 + 1))
     → Gave o o2 g g1 s (Some r) x
 gave-unnamed tree left at {o} {o1} {o2} {g} {g1} s {made} {r} {q} {y} z w u e =
@@ -212,7 +213,7 @@ gave-unnamed tree left at {o} {o1} {o2} {g} {g1} s {made} {r} {q} {y} z w u e =
     rw (← w .step .counter) (name-fits (headOf (treeAt left tree at)) (genUniqueName (made .n + 1)) (omega (arith, u .short))) in
     let v : Step o o1 g g1 (movedTo s (sat (s .p) (uniqueFront (s .n + 1)))) made (encode ty) (y .1) (y .2) (textsFit ty) = rw z at (w .step) in
     let c : made .n ≡ y .2 = w .step .counter in
-    let d : Step o o2 g g1 s r (bindingFront (startAt tree at) (lastAt tree at) (genUniqueName (y .2 + 1)) ++ encode ty) (y .1) (y .2 + 1) (textsFit ty) = rw c at (unnamed-step s v u) in
+    let d : Step o o2 g g1 s r (bindingFront (span (rangeAt tree at)) (genUniqueName (y .2 + 1)) ++ encode ty) (y .1) (y .2 + 1) (textsFit ty) = rw c at (unnamed-step s v u) in
     rw (e, w .same) (record {
       value = some (bindingIdent (headOf (treeAt left tree at)) (genUniqueName (y .2 + 1)) ty);
       same = refl;

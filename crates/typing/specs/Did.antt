@@ -7,7 +7,7 @@ use Prim.Native.Nat.{ℕ, _≤_}
 use Rattle.definition.specs.Tree.{Rec, Recs, nil, cons, encode, encodes, startAt, lastAt, treeAt}
 use Rattle.definition.specs.Check.{deepest}
 use Rattle.definition.specs.Children.{AcceptedAt}
-use Rattle.definition.specs.Record.{kidsOf, one, given, Diag, diagBytes, diagsBytes, Out, onValue}
+use Rattle.definition.specs.Record.{kidsOf, dummySp, one, given, Diag, diagBytes, diagsBytes, Out, onValue}
 use Rattle.definition.specs.Helpers.{anyTypeAnn}
 use Rattle.definition.specs.Prescan.{PrescannedModuleIds, prescanModuleIds}
 use Rattle.definition.specs.Typing.{exprToTsType}
@@ -99,7 +99,7 @@ pub record Gave (o o' g g' : List ℕ) (s : State) (r : Typed) (x : Out Recs) : 
 -- a type t, or any and the diagnostic e
 pub record Filled (o o' g g' : List ℕ) (t : Typed) (r : State) (e : Diag) : Type 0 where
   pub typed : (s : State) → t ≡ Some s → (r ≡ s) × (o' ≡ o) × (g' ≡ g)
-  pub any : (s : State) → t ≡ None s → Step o o' g g' s r (encode anyTypeAnn) (e ∷ []) (s .n) true
+  pub any : (s : State) → t ≡ None s → Step o o' g g' s r (encode (anyTypeAnn dummySp)) (e ∷ []) (s .n) true
 
 -- the answer of a helper that wrote where `s` stood
 abbrev pub typedAs : State → MaybeType → Typed

@@ -6,13 +6,12 @@ ghost use Rattle.definition.specs.Tree.{encode, markAt, textAt, treeAt};
 ghost use Rattle.definition.specs.Grammar.{mark};
 ghost use Rattle.definition.specs.Check.{deepest};
 ghost use Rattle.definition.specs.Children.{AcceptedAt};
-ghost use Rattle.definition.specs.Record.{kidsOf, symbolOf, kid};
-ghost use Rattle.definition.specs.Helpers.{tsKeywordType, tsTypeQuery};
+ghost use Rattle.definition.specs.Record.{kidsOf, symbolOf, dummySp, kid};
+ghost use Rattle.definition.specs.Helpers.{tsTypeQuery};
 ghost use Rattle.definition.specs.Typing.{identToTsType};
 ghost use Rattle.prescan.specs.Scope.{Skips};
 ghost use Rattle.records.specs.Wrote.{Put};
 ghost use Rattle.swc_helpers.specs.Found.{isConst, PutMaybe};
-ghost use Rattle.swc_helpers.specs.Made.{keyword};
 ghost use Rattle.typing.specs.Did.{idsOf};
 ghost use Rattle.typing.specs.Parts.{numberName, nameType, classType, asType};
 ghost use Rattle.typing.specs.Leaf.{leafType};
@@ -20,6 +19,7 @@ use crate::Mode;
 use crate::readonly::readonly_or_same;
 use prescan::Question;
 use prescan::Scope;
+use records::DUMMY_SP;
 use records::marks::BI;
 use records::marks::BL;
 use records::marks::ID;
@@ -36,6 +36,7 @@ use records::text::same_text;
 use swc_helpers::DeclMutabilityKind;
 use swc_helpers::MaybeType;
 use swc_helpers::TsKeywordTypeKind;
+use swc_helpers::some_keyword;
 
 // `match as_const { true => DeclMutabilityKind::Const, false => DeclMutabilityKind::Mutable }`.
 fn decl_kind(as_const: bool) -> DeclMutabilityKind
@@ -47,13 +48,6 @@ fn decl_kind(as_const: bool) -> DeclMutabilityKind
     DeclMutabilityKind::Mutable
 }
 
-// `ts_keyword_type` as an answer.
-fn keyword(kind: TsKeywordTypeKind, out: &mut [u8], p: usize) -> MaybeType
-    ensures { λ r. ⌜ PutMaybe (now (out .entry)) (now (out .exit)) p (some (tsKeywordType (keyword kind))) r ⌝ }
-{
-    MaybeType::Typed(swc_helpers::ts_keyword_type(kind, out, p))
-}
-
 // `"NaN" | "Infinity" =>` of the `match` in `ident_to_ts_type`, and what follows it.
 fn number_name(tree: &[u8], at: usize, left: usize, out: &mut [u8], p: usize) -> MaybeType
     requires { ⌜ AcceptedAt left (now tree) at × (markAt (now tree) at ≡ mark "Id") ⌝ }
@@ -61,10 +55,10 @@ fn number_name(tree: &[u8], at: usize, left: usize, out: &mut [u8], p: usize) ->
 {
     let name = records::text::symbol_at(tree, at);
     if same_text(name, b"NaN") {
-        return keyword(TsKeywordTypeKind::TsNumberKeyword, out, p);
+        return some_keyword(DUMMY_SP, TsKeywordTypeKind::TsNumberKeyword, out, p);
     }
     if same_text(name, b"Infinity") {
-        return keyword(TsKeywordTypeKind::TsNumberKeyword, out, p);
+        return some_keyword(DUMMY_SP, TsKeywordTypeKind::TsNumberKeyword, out, p);
     }
     MaybeType::Untyped
 }
@@ -85,7 +79,7 @@ fn global_type(
         return number_name(tree, at, left, out, p);
     }
     if same_text(records::text::symbol_at(tree, at), b"undefined") {
-        return keyword(TsKeywordTypeKind::TsUndefinedKeyword, out, p);
+        return some_keyword(DUMMY_SP, TsKeywordTypeKind::TsUndefinedKeyword, out, p);
     }
     number_name(tree, at, left, out, p)
 }
@@ -112,7 +106,7 @@ pub fn ident_to_ts_type(
         return global_type(tree, at, left, as_const, out, p);
     }
     if prescan::asked(tree, at, left, scope, Question::TypeofSafe) {
-        return MaybeType::Typed(swc_helpers::ts_type_query(tree, at, left, out, p));
+        return MaybeType::Typed(swc_helpers::ts_type_query(tree, at, left, DUMMY_SP, out, p));
     }
     MaybeType::Untyped
 }
@@ -142,7 +136,7 @@ fn new_type(
         return MaybeType::Untyped;
     }
     if prescan::asked(tree, ident, left - 1, scope, Question::NonGenericClass) {
-        return MaybeType::Typed(swc_helpers::reference_to(tree, ident, left - 1, out, p));
+        return MaybeType::Typed(swc_helpers::reference_to(tree, ident, left - 1, DUMMY_SP, out, p));
     }
     MaybeType::Untyped
 }
@@ -174,11 +168,11 @@ pub fn array_ident(
     requires { ⌜ Skips (now tree) scope ⌝ }
     ensures { λ r. ⌜
         PutMaybe (now (out .entry)) (now (out .exit)) p
-        (cond (idsOf (now (tree .entry)) .arrayTyped (textAt (now (tree .entry)) at)) (some (tsTypeQuery (treeAt left (now (tree .entry)) at))) none) r
+        (cond (idsOf (now (tree .entry)) .arrayTyped (textAt (now (tree .entry)) at)) (some (tsTypeQuery dummySp (treeAt left (now (tree .entry)) at))) none) r
         ⌝ }
 {
     if prescan::asked(tree, at, left, scope, Question::ArrayTyped) {
-        return MaybeType::Typed(swc_helpers::ts_type_query(tree, at, left, out, p));
+        return MaybeType::Typed(swc_helpers::ts_type_query(tree, at, left, DUMMY_SP, out, p));
     }
     MaybeType::Untyped
 }

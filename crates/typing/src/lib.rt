@@ -14,7 +14,6 @@ use crate::leaves::as_type;
 use crate::leaves::ident_to_ts_type;
 use crate::leaves::leaf_type;
 use crate::made::put_keyed;
-use crate::made::put_ranged;
 use crate::made::put_shorthand;
 use crate::params::child_at;
 use crate::params::put_fn_front;
@@ -23,7 +22,10 @@ use crate::params::put_unnamed;
 use crate::params::unique_binding_size;
 use crate::readonly::has_readonly;
 use prescan::Scope;
+use records::DUMMY_SP;
 use records::HEAD_SIZE;
+use records::Range;
+use records::made::put_made_front;
 use records::marks::AG;
 use records::marks::AR;
 use records::marks::AS;
@@ -138,7 +140,7 @@ pub fn or_any(
         Typed::Some(s) => s,
         Typed::None(s) => {
             let mut next = s;
-            next.p = swc_helpers::any_type_ann(out, s.p);
+            next.p = swc_helpers::any_type_ann(DUMMY_SP, out, s.p);
             mark_diagnostic(tree, at, code, diagnostics, next)
         }
     }
@@ -301,7 +303,7 @@ fn array_type(
         return tuple_type(tree, at, left, mode, out, diagnostics, s);
     }
     let mut next = s;
-    next.p = swc_helpers::ts_readonly(out, s.p);
+    next.p = swc_helpers::ts_readonly(DUMMY_SP, out, s.p);
     match tuple_type(tree, at, left, mode, out, diagnostics, next) {
         Typed::Some(made) => Typed::Some(made),
         Typed::None(failed) => Typed::None(back(s, failed)),
@@ -343,7 +345,11 @@ fn tuple_type(
         child = records::record_end(tree, child, left - 1);
         n -= 1;
     }
-    put_ranged(TU, head.start, head.end, count, out, s.p);
+    let range = Range {
+        start: head.start,
+        end: head.end,
+    };
+    put_made_front(TU, 0, range, count, out, s.p);
     Typed::Some(next)
 }
 
@@ -368,14 +374,14 @@ fn element_type(
         OP => Elements::All(Counted { s, count: 0 }),
         SP => spread_type(tree, at, left, mode, out, diagnostics, s),
         NO => {
-            let q = swc_helpers::ts_tuple_element(out, s.p);
-            next.p = swc_helpers::any_type_ann(out, q);
+            let q = swc_helpers::ts_tuple_element(DUMMY_SP, out, s.p);
+            next.p = swc_helpers::any_type_ann(DUMMY_SP, out, q);
             Elements::All(Counted { s: next, count: 1 })
         }
         _ => {
             let mut inner = mode;
             inner.frozen = false;
-            next.p = swc_helpers::ts_tuple_element(out, s.p);
+            next.p = swc_helpers::ts_tuple_element(DUMMY_SP, out, s.p);
             let t = expr_to_ts_type(tree, at, left, inner, out, diagnostics, next);
             let made = or_any(tree, at, D1, t, out, diagnostics);
             Elements::All(Counted { s: made, count: 1 })
@@ -400,9 +406,9 @@ fn spread_type(
         ⌝ }
 {
     let expr = records::body_at(tree, at);
-    let q = swc_helpers::ts_tuple_element(out, s.p);
+    let q = swc_helpers::ts_tuple_element(DUMMY_SP, out, s.p);
     let mut next = s;
-    next.p = swc_helpers::ts_rest_type(out, q);
+    next.p = swc_helpers::ts_rest_type(DUMMY_SP, out, q);
     match rest_type(tree, expr, left - 1, mode, out, diagnostics, next) {
         Typed::Some(made) => Elements::All(Counted { s: made, count: 1 }),
         Typed::None(failed) => {
@@ -469,7 +475,11 @@ fn object_type(
         child = records::record_end(tree, child, left - 1);
         n -= 1;
     }
-    put_ranged(LI, head.start, head.end, count, out, s.p);
+    let range = Range {
+        start: head.start,
+        end: head.end,
+    };
+    put_made_front(LI, 0, range, count, out, s.p);
     Typed::Some(next)
 }
 
@@ -598,7 +608,11 @@ fn function_type(
         child = records::record_end(tree, child, left - 1);
         n -= 1;
     }
-    put_ranged(FT, head.start, head.end, 2 + count, out, s.p);
+    let range = Range {
+        start: head.start,
+        end: head.end,
+    };
+    put_made_front(FT, 0, range, 2 + count, out, s.p);
     Typed::Some(next)
 }
 

@@ -10,15 +10,6 @@ use Rattle.classes.proofs.Members.{is-named, is-nameless, named-counter
 use borrow.Author.Needs.{needs}
 use Rattle.classes.proofs.method.Statement.{statement}
 use Rattle.classes.proofs.method.Tie as tie
-use Rattle.classes.proofs.method.Reads as reads
-use Rattle.classes.proofs.method.Lts as lts
-use Rattle.classes.proofs.handle_function.Reads as handle-function-reads
-use Rattle.classes.proofs.put_prop_name.Reads as put-prop-name-reads
-use Rattle.parts.proofs.keep_all.Reads as keep-all-reads
-use Rattle.parts.proofs.put_front.Reads as put-front-reads
-use Rattle.records.proofs.body_at.Reads as body-at-reads
-use Rattle.records.proofs.read_head.Reads as read-head-reads
-use Rattle.records.proofs.record_end.Reads as record-end-reads
 
 read-head-requires : tie.Need-read-head-requires
 read-head-requires c κs = room (c .before .before .before .pre .0 .accepted)
@@ -62,6 +53,9 @@ returns c = method-gone _ _ (kids-two _ _ _ (c .before .before .before .before .
 sub-handle-function : tie.Need-sub-handle-function
 sub-handle-function c = omega (arith, level (c .before .before .before .before .before .before .before .before .before .before .before .before .before .before .before .before .before .before .before .pre .0 .accepted))
 
+has-flag-requires : tie.Need-has-flag-requires
+has-flag-requires c κs = search needs
+
 handle-function-requires : tie.Need-handle-function-requires
 handle-function-requires c κs = let k = kids-two _ _ _ (c .before .before .before .before .before .before .before .before .before .before .before .before .before .before .before .before .before .before .before .before .before .pre .0 .accepted) (me-two _ _ _ (c .before .before .before .before .before .before .before .before .before .before .before .before .before .before .before .before .before .before .before .before .before .pre .0 .accepted) (c .before .before .before .before .before .before .before .before .before .before .before .before .before .before .before .before .before .before .before .before .before .pre .1)) (c .before .before .before .before .before .before .before .before .before .before .before .before .before .before .before .before .body-at .ensures) (c .before .before .before .before .before .before .before .before .before .before .before .before .before .before .before .record-end .ensures) refl in (ready-kid (c .before .before .before .before .before .before .before .before .before .before .before .before .before .before .before .before .before .before .before .before .before .pre .0) (k .second) (k .low1) (named-counter (c .before .before .before .before .before .before .before .before .before .before .before .before .put-front .ensures) (is-named (c .before .before .before .before .before .before .before .before .put-prop-name .ensures) (c .before .before .before .before .named .given .1))), me-function _ _ _ (c .before .before .before .before .before .before .before .before .before .before .before .before .before .before .before .before .before .before .before .before .before .pre .0 .accepted) (c .before .before .before .before .before .before .before .before .before .before .before .before .before .before .before .before .before .before .before .before .before .pre .1) (c .before .before .before .before .before .before .before .before .before .before .before .before .before .before .before .before .body-at .ensures) (c .before .before .before .before .before .before .before .before .before .before .before .before .before .before .before .record-end .ensures))
 
@@ -78,7 +72,7 @@ same-length-3 : tie.Need-same-length-3
 same-length-3 c = search needs
 
 returns-2 : tie.Need-returns-2
-returns-2 c = method-made _ _ (kids-two _ _ _ (c .before .before .before .before .before .before .before .before .before .before .before .before .before .before .before .before .before .before .before .before .before .before .before .before .before .before .before .before .before .before .before .pre .0 .accepted) (me-two _ _ _ (c .before .before .before .before .before .before .before .before .before .before .before .before .before .before .before .before .before .before .before .before .before .before .before .before .before .before .before .before .before .before .before .pre .0 .accepted) (c .before .before .before .before .before .before .before .before .before .before .before .before .before .before .before .before .before .before .before .before .before .before .before .before .before .before .before .before .before .before .before .pre .1)) (c .before .before .before .before .before .before .before .before .before .before .before .before .before .before .before .before .before .before .before .before .before .before .before .before .before .before .body-at .ensures) (c .before .before .before .before .before .before .before .before .before .before .before .before .before .before .before .before .before .before .before .before .before .before .before .before .before .record-end .ensures) (c .before .before .before .before .before .before .before .before .before .before .before .before .before .before .before .before .before .before .before .before .before .before .before .before .record-end2 .ensures)) (c .before .before .before .before .before .before .before .before .before .before .before .before .before .before .before .before .before .before .before .before .before .before .before .before .before .before .before .before .before .before .before .pre .0 .accepted) (c .before .before .before .before .before .before .before .before .before .before .before .before .before .before .before .before .before .before .before .before .before .before .before .before .before .before .before .before .before .before .shared-slice-known .given) (c .before .before .before .before .before .before .before .before .before .before .before .before .before .before .before .before .before .before .before .before .before .before .before .before .before .before .before .before .before .before .before .args .s) (c .before .before .before .before .before .before .before .before .before .before .before .before .before .before .before .before .before .before .before .before .before .before .before .before .before .before .before .read-head .ensures) (omega (arith, c .before .before .before .before .before .before .before .before .before .before .before .before .before .before .before .before .before .before .before .before .before .before .before .before .before .before .before .before .before .before .before .good)) (c .before .before .before .before .before .before .before .before .before .before .before .before .before .before .before .before .before .before .before .before .before .before .put-front .ensures) (is-named (c .before .before .before .before .before .before .before .before .before .before .before .before .before .before .before .before .before .before .put-prop-name .ensures) (c .before .before .before .before .before .before .before .before .before .before .before .before .before .before .named .given .1)) (c .before .before .before .before .before .before .before .before .before .handle-function .ensures) (c .before .before .keep-all .ensures)
+returns-2 c = method-made _ _ (kids-two _ _ _ (c .before .before .before .before .before .before .before .before .before .before .before .before .before .before .before .before .before .before .before .before .before .before .before .before .before .before .before .before .before .before .before .pre .0 .accepted) (me-two _ _ _ (c .before .before .before .before .before .before .before .before .before .before .before .before .before .before .before .before .before .before .before .before .before .before .before .before .before .before .before .before .before .before .before .pre .0 .accepted) (c .before .before .before .before .before .before .before .before .before .before .before .before .before .before .before .before .before .before .before .before .before .before .before .before .before .before .before .before .before .before .before .pre .1)) (c .before .before .before .before .before .before .before .before .before .before .before .before .before .before .before .before .before .before .before .before .before .before .before .before .before .before .body-at .ensures) (c .before .before .before .before .before .before .before .before .before .before .before .before .before .before .before .before .before .before .before .before .before .before .before .before .before .record-end .ensures) (c .before .before .before .before .before .before .before .before .before .before .before .before .before .before .before .before .before .before .before .before .before .before .before .before .record-end2 .ensures)) (c .before .before .before .before .before .before .before .before .before .before .before .before .before .before .before .before .before .before .before .before .before .before .before .before .before .before .before .before .before .before .before .pre .0 .accepted) (c .before .before .before .before .before .before .before .before .before .before .before .before .before .before .before .before .before .before .before .before .before .before .before .before .before .before .before .before .before .before .shared-slice-known .given) (c .before .before .before .before .before .before .before .before .before .before .before .before .before .before .before .before .before .before .before .before .before .before .before .before .before .before .before .before .before .before .before .args .s) (c .before .before .before .before .before .before .before .before .before .before .before .before .before .before .before .before .before .before .before .before .before .before .before .before .before .before .before .read-head .ensures) (c .before .before .before .before .before .before .before .before .before .before .before .before .has-flag .ensures) (omega (arith, c .before .before .before .before .before .before .before .before .before .before .before .before .before .before .before .before .before .before .before .before .before .before .before .before .before .before .before .before .before .before .before .good)) (c .before .before .before .before .before .before .before .before .before .before .before .before .before .before .before .before .before .before .before .before .before .before .put-front .ensures) (is-named (c .before .before .before .before .before .before .before .before .before .before .before .before .before .before .before .before .before .before .put-prop-name .ensures) (c .before .before .before .before .before .before .before .before .before .before .before .before .before .before .named .given .1)) (c .before .before .before .before .before .before .before .before .before .handle-function .ensures) (c .before .before .keep-all .ensures)
 
 same-length-2 : tie.Need-same-length-2
 same-length-2 c = returns-2 c .step .ran .out .same
@@ -100,6 +94,7 @@ method-spec =
     enum-told
     same-length
     returns
+    has-flag-requires
     sub-handle-function
     handle-function-requires
     sub-keep-all

@@ -2,6 +2,8 @@
 use mathlib.Core.Path.{sym, ap, _∙_}
 use Prim.Native.Nat.{_-_}
 use native.Mathlib.Omega.{arith}
+use borrow.Author.Needs.{needs}
+use borrow.Author.Tests.{not-true, not-false}
 use Rattle.definition.specs.Tree.{treeAt}
 use Rattle.definition.specs.Record.{kidsOf}
 use Rattle.definition.specs.Prescan.{addDeclarator}
@@ -21,8 +23,11 @@ abbrev μ-loop : tie.MeasureT-loop
 read-head-requires : tie.Need-read-head-requires Inv-loop μ-loop
 read-head-requires c κs = room (c .before .before .pre)
 
+has-flag-requires : tie.Need-has-flag-requires Inv-loop μ-loop
+has-flag-requires c κs = search needs
+
 returns : tie.Need-returns Inv-loop μ-loop
-returns c = sym (var-other (c .before .before .before .before .before .pre) (ap (λ (h : Head). h .flags) (c .before .before .read-head .ensures)) (meant (c .before .before .before .before .before .args .question)) (c .before .before .before .before .before .args .name .now) (c .if1 .taken))
+returns c = sym (var-other (c .before .before .before .before .before .pre) (ap (λ (h : Head). h .flags) (c .before .before .read-head .ensures)) (meant (c .before .before .before .before .before .args .question)) (c .before .before .before .before .before .args .name .now) (sym (c .before .has-flag .ensures) ∙ not-true _ (c .if1 .taken)))
 
 body-at-requires : tie.Need-body-at-requires Inv-loop μ-loop
 body-at-requires c κs = room (c .before .before .before .before .before .pre)
@@ -37,7 +42,7 @@ add-declarator-requires : tie.Need-add-declarator-requires Inv-loop μ-loop
 add-declarator-requires c κs = seek-first (c .before .loop .inv) (c .loop-test .taken)
 
 returns-2 : tie.Need-returns-2 Inv-loop μ-loop
-returns-2 c = sym (var-const (c .before .before .before .before .before .before .before .before .before .before .pre) (ap (λ (h : Head). h .flags) (c .before .before .before .before .before .before .before .read-head .ensures)) (meant (c .before .before .before .before .before .before .before .before .before .before .args .question)) (c .before .before .before .before .before .before .before .before .before .before .args .name .now) (c .before .before .before .before .before .if1 .left) ∙ seek-here (c .before .before .before .loop .inv) (addDeclarator (meant (c .before .before .before .before .before .before .before .before .before .before .args .question)) (c .before .before .before .before .before .before .before .before .before .before .args .name .now)) (declares-step (meant (c .before .before .before .before .before .before .before .before .before .before .args .question)) (c .before .before .before .before .before .before .before .before .before .before .args .name .now)) (c .before .before .loop-test .taken) (sym (c .before .add-declarator .ensures) ∙ c .if2 .taken))
+returns-2 c = sym (var-const (c .before .before .before .before .before .before .before .before .before .before .pre) (ap (λ (h : Head). h .flags) (c .before .before .before .before .before .before .before .read-head .ensures)) (meant (c .before .before .before .before .before .before .before .before .before .before .args .question)) (c .before .before .before .before .before .before .before .before .before .before .args .name .now) (sym (c .before .before .before .before .before .before .has-flag .ensures) ∙ not-false _ (c .before .before .before .before .before .if1 .left)) ∙ seek-here (c .before .before .before .loop .inv) (addDeclarator (meant (c .before .before .before .before .before .before .before .before .before .before .args .question)) (c .before .before .before .before .before .before .before .before .before .before .args .name .now)) (declares-step (meant (c .before .before .before .before .before .before .before .before .before .before .args .question)) (c .before .before .before .before .before .before .before .before .before .before .args .name .now)) (c .before .before .loop-test .taken) (sym (c .before .add-declarator .ensures) ∙ c .if2 .taken))
 
 sub-next-one : tie.Need-sub-next-one Inv-loop μ-loop
 sub-next-one c = omega (arith, level (c .before .before .before .before .before .before .before .before .before .before .pre))
@@ -55,7 +60,7 @@ loop-again : tie.Need-loop-again Inv-loop μ-loop
 loop-again c = seek-next (c .before .before .before .before .loop .inv) (addDeclarator (meant (c .before .before .before .before .before .before .before .before .before .before .before .args .question)) (c .before .before .before .before .before .before .before .before .before .before .before .args .name .now)) (declares-step (meant (c .before .before .before .before .before .before .before .before .before .before .before .args .question)) (c .before .before .before .before .before .before .before .before .before .before .before .args .name .now)) (c .before .before .before .loop-test .taken) (sym (c .before .before .add-declarator .ensures) ∙ c .before .if2 .left) (c .next-one .ensures)
 
 returns-3 : tie.Need-returns-3 Inv-loop μ-loop
-returns-3 c = sym (var-const (c .before .before .before .before .before .before .before .before .pre) (ap (λ (h : Head). h .flags) (c .before .before .before .before .before .read-head .ensures)) (meant (c .before .before .before .before .before .before .before .before .args .question)) (c .before .before .before .before .before .before .before .before .args .name .now) (c .before .before .before .if1 .left) ∙ seek-done (c .before .loop .inv) (declares-none (meant (c .before .before .before .before .before .before .before .before .args .question)) (c .before .before .before .before .before .before .before .before .args .name .now)) (c .loop-test .left))
+returns-3 c = sym (var-const (c .before .before .before .before .before .before .before .before .pre) (ap (λ (h : Head). h .flags) (c .before .before .before .before .before .read-head .ensures)) (meant (c .before .before .before .before .before .before .before .before .args .question)) (c .before .before .before .before .before .before .before .before .args .name .now) (sym (c .before .before .before .before .has-flag .ensures) ∙ not-false _ (c .before .before .before .if1 .left)) ∙ seek-done (c .before .loop .inv) (declares-none (meant (c .before .before .before .before .before .before .before .before .args .question)) (c .before .before .before .before .before .before .before .before .args .name .now)) (c .loop-test .left))
 
 pub add-var-spec : {M : Type 1} → statement M
 add-var-spec =
@@ -64,6 +69,7 @@ add-var-spec =
     Inv-loop
     μ-loop
     read-head-requires
+    has-flag-requires
     returns
     body-at-requires
     loop-holds

@@ -1,5 +1,6 @@
 -- `first_cooked` meets its contract. Assumes nothing.
 use mathlib.Core.Path.{_∙_, sym}
+use borrow.Author.Needs.{needs}
 use Rattle.definition.proofs.Children.{itself}
 use Rattle.swc_helpers.proofs.Calls.{first-accepted}
 use Rattle.swc_helpers.proofs.Templates.{no-quasi, other-part, cooked, not-cooked, some-children}
@@ -21,11 +22,14 @@ read-head-requires c κs = itself _ _ _ (first-accepted _ _ _ (c .before .before
 returns-2 : tie.Need-returns-2
 returns-2 c = other-part _ _ _ (c .before .before .before .before .before .before .before .pre) _ (c .before .before .before .body-at .ensures) _ (c .before .before .read-head .ensures) (λ e. c .before .before .before .before .if1 .left (c .before .before .before .before .before .count-at .ensures .0 ∙ e)) (c .if2 .taken)
 
+has-flag-requires : tie.Need-has-flag-requires
+has-flag-requires c κs = search needs
+
 returns-3 : tie.Need-returns-3
-returns-3 c = cooked _ _ _ (c .before .before .before .before .before .before .before .before .before .pre) _ (c .before .before .before .before .before .body-at .ensures) _ (c .before .before .before .before .read-head .ensures) (λ e. c .before .before .before .before .before .before .if1 .left (c .before .before .before .before .before .before .before .count-at .ensures .0 ∙ e)) (c .before .before .if2 .left) (c .if3 .taken)
+returns-3 c = cooked _ _ _ (c .before .before .before .before .before .before .before .before .before .pre) _ (c .before .before .before .before .before .body-at .ensures) _ (c .before .before .before .before .read-head .ensures) (λ e. c .before .before .before .before .before .before .if1 .left (c .before .before .before .before .before .before .before .count-at .ensures .0 ∙ e)) (c .before .before .if2 .left) (sym (c .before .has-flag .ensures) ∙ c .if3 .taken)
 
 returns-4 : tie.Need-returns-4
-returns-4 c = not-cooked _ _ _ (c .before .before .before .before .before .before .before .before .before .pre) _ (c .before .before .before .before .before .body-at .ensures) _ (c .before .before .before .before .read-head .ensures) (λ e. c .before .before .before .before .before .before .if1 .left (c .before .before .before .before .before .before .before .count-at .ensures .0 ∙ e)) (c .before .before .if2 .left) (c .if3 .left)
+returns-4 c = not-cooked _ _ _ (c .before .before .before .before .before .before .before .before .before .pre) _ (c .before .before .before .before .before .body-at .ensures) _ (c .before .before .before .before .read-head .ensures) (λ e. c .before .before .before .before .before .before .if1 .left (c .before .before .before .before .before .before .before .count-at .ensures .0 ∙ e)) (c .before .before .if2 .left) (sym (c .before .has-flag .ensures) ∙ c .if3 .left)
 
 pub first-cooked-spec : {M : Type 1} → statement M
 first-cooked-spec =
@@ -36,5 +40,6 @@ first-cooked-spec =
     body-at-requires
     read-head-requires
     returns-2
+    has-flag-requires
     returns-3
     returns-4)

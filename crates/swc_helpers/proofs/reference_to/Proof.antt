@@ -6,8 +6,8 @@ use borrow.Author.Needs.{needs}
 use Rattle.swc_helpers.proofs.reference_to.Statement.{statement}
 use Rattle.swc_helpers.proofs.reference_to.Tie as tie
 
-put-front-requires : tie.Need-put-front-requires
-put-front-requires c κs = search needs
+put-made-front-requires : tie.Need-put-made-front-requires
+put-made-front-requires c κs = search needs
 
 put-record-requires : tie.Need-put-record-requires
 put-record-requires c κs = is-whole _ _ _ (c .before .before .before .before .before .before .before .pre)
@@ -20,11 +20,11 @@ same-length c = search needs
 
 returns : tie.Need-returns
 returns c = put-as
-    (put-put (omega arith) (c .before .before .before .before .before .before .before .before .before .before .put-front .ensures)
+    (put-put (omega arith) (c .before .before .before .before .before .before .before .before .before .before .put-made-front .ensures)
     (put-put (omega arith) (copied _ _ _ (c .before .before .before .before .before .before .before .before .before .before .before .before .before .before .pre) (c .before .before .before .before .before .before .before .before .before .before .before .before .before .shared-slice-known .given) (c .before .before .before .before .before .before .put-record .ensures)) (c .before .before .put-absent .ensures)))
     (encode-two _ _ _ refl)
 
 pub reference-to-spec : {M : Type 1} → statement M
 reference-to-spec =
     tie.close
-    (tie.spec put-front-requires put-record-requires put-absent-requires same-length returns)
+    (tie.spec put-made-front-requires put-record-requires put-absent-requires same-length returns)

@@ -54,14 +54,14 @@ same-length-3 c = search needs
 returns-3 : tie.Need-returns-3
 returns-3 c = tpl-put _ (c .before .before .before .before .before .before .before .before .before .enum-told2 .given .1) (not-found _ _ (sym (c .before .before .before .before .enum-told3 .given .1) ∙ c .before .before .before .before .before .before .first-cooked .ensures)) (c .before .before .ts-keyword-type3 .ensures)
 
-put-front-requires : tie.Need-put-front-requires
-put-front-requires c κs = search needs
+put-made-front-requires : tie.Need-put-made-front-requires
+put-made-front-requires c κs = search needs
 
 text-at-requires : tie.Need-text-at-requires
 text-at-requires c κs = itself _ _ _ (found-accepted _ _ _ (c .before .before .before .before .before .before .before .before .before .before .before .before .before .before .pre) _ (sym (c .before .before .before .before .before .quasi .given .1) ∙ c .before .before .before .before .before .before .before .first-cooked .ensures)) .fits
 
-put-leaf-requires : tie.Need-put-leaf-requires
-put-leaf-requires c κs = search needs
+put-made-leaf-requires : tie.Need-put-made-leaf-requires
+put-made-leaf-requires c κs = search needs
 
 same-length-4 : tie.Need-same-length-4
 same-length-4 c = search needs
@@ -69,7 +69,7 @@ same-length-4 c = search needs
 returns-4 : tie.Need-returns-4
 returns-4 c = tpl-put _ (c .before .before .before .before .before .before .before .before .before .before .before .before .before .before .before .enum-told2 .given .1)
     (found-type _ _ _ (c .before .before .before .before .before .before .before .before .before .before .before .before .before .before .before .before .before .before .before .pre) _ (sym (c .before .before .before .before .before .before .before .before .before .before .quasi .given .1) ∙ c .before .before .before .before .before .before .before .before .before .before .before .before .first-cooked .ensures) (sym (c .before .before .before .before .before .before .before .before .before .before .before .before .before .before .no-exprs .ensures) ∙ not-false _ (c .before .before .before .before .before .before .before .before .before .before .before .before .before .if1 .left)) _ (c .before .before .before .before .text-at .ensures))
-    (put-as (put-put (omega arith) (c .before .before .before .before .before .before .before .put-front .ensures) (c .before .before .put-leaf .ensures)) (encode-one _ _ refl))
+    (put-as (put-put (omega arith) (c .before .before .before .before .before .before .before .put-made-front .ensures) (c .before .before .put-made-leaf .ensures)) (encode-one _ _ refl))
 
 pub tpl-to-ts-type-spec : {M : Type 1} → statement M
 tpl-to-ts-type-spec =
@@ -90,8 +90,8 @@ tpl-to-ts-type-spec =
     ts-keyword-type-requires-3
     same-length-3
     returns-3
-    put-front-requires
+    put-made-front-requires
     text-at-requires
-    put-leaf-requires
+    put-made-leaf-requires
     same-length-4
     returns-4)

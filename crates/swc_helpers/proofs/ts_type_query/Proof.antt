@@ -6,8 +6,8 @@ use borrow.Author.Needs.{needs}
 use Rattle.swc_helpers.proofs.ts_type_query.Statement.{statement}
 use Rattle.swc_helpers.proofs.ts_type_query.Tie as tie
 
-put-front-requires : tie.Need-put-front-requires
-put-front-requires c κs = search needs
+put-made-front-requires : tie.Need-put-made-front-requires
+put-made-front-requires c κs = search needs
 
 put-record-requires : tie.Need-put-record-requires
 put-record-requires c κs = is-whole _ _ _ (c .before .before .before .before .before .before .before .pre)
@@ -16,8 +16,8 @@ same-length : tie.Need-same-length
 same-length c = search needs
 
 returns : tie.Need-returns
-returns c = put-as (put-put (omega arith) (c .before .before .before .before .before .before .put-front .ensures) (copied _ _ _ (c .before .before .before .before .before .before .before .before .before .before .pre) (c .before .before .before .before .before .before .before .before .before .shared-slice-known .given) (c .before .before .put-record .ensures))) (encode-one _ _ refl)
+returns c = put-as (put-put (omega arith) (c .before .before .before .before .before .before .put-made-front .ensures) (copied _ _ _ (c .before .before .before .before .before .before .before .before .before .before .pre) (c .before .before .before .before .before .before .before .before .before .shared-slice-known .given) (c .before .before .put-record .ensures))) (encode-one _ _ refl)
 
 pub ts-type-query-spec : {M : Type 1} → statement M
 ts-type-query-spec =
-    tie.close (tie.spec put-front-requires put-record-requires same-length returns)
+    tie.close (tie.spec put-made-front-requires put-record-requires same-length returns)

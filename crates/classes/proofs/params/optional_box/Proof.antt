@@ -1,6 +1,7 @@
 -- `params::optional_box` meets its contract. Assumes nothing.
 use native.Mathlib.Omega.{arith}
 use mathlib.Core.Path.{refl}
+use mathlib.Core.Logic.{inl}
 use Rattle.definition.proofs.Children.{itself, some-left}
 use Rattle.swc_helpers.proofs.Made.{is-whole}
 use Rattle.typing.proofs.Ready.{ready-on}
@@ -13,14 +14,6 @@ use Rattle.classes.proofs.Parameters.{box-optional}
 use borrow.Author.Needs.{needs}
 use Rattle.classes.proofs.params.optional_box.Statement.{statement}
 use Rattle.classes.proofs.params.optional_box.Tie as tie
-use Rattle.classes.proofs.params.optional_box.Reads as reads
-use Rattle.classes.proofs.params.optional_box.Lts as lts
-use Rattle.classes.proofs.params.type_or_infer.Reads as type-or-infer-reads
-use Rattle.parts.proofs.keep_all.Reads as keep-all-reads
-use Rattle.parts.proofs.put_front.Reads as put-front-reads
-use Rattle.records.proofs.body_at.Reads as body-at-reads
-use Rattle.records.proofs.read_head.Reads as read-head-reads
-use Rattle.records.proofs.record_end.Reads as record-end-reads
 
 read-head-requires : tie.Need-read-head-requires
 read-head-requires c κs = itself _ _ _ (c .before .before .before .pre .0) .room
@@ -34,11 +27,8 @@ sub-record-end c = omega (arith, some-left _ _ _ (c .before .before .before .bef
 record-end-requires : tie.Need-record-end-requires
 record-end-requires c κs = is-whole _ _ _ (kids-one _ _ _ (c .before .before .before .before .before .pre .0) (box-one _ _ _ (c .before .before .before .before .before .pre .0) (c .before .before .before .before .before .pre .1 .0)) (c .body-at .ensures) refl .first)
 
-mul-flags : tie.Need-mul-flags
-mul-flags c = search needs
-
-add-flags : tie.Need-add-flags
-add-flags c = search needs
+with-flag-requires : tie.Need-with-flag-requires
+with-flag-requires c κs = inl refl
 
 put-front-requires : tie.Need-put-front-requires
 put-front-requires c κs = search needs
@@ -62,7 +52,7 @@ same-length-2 : tie.Need-same-length-2
 same-length-2 c = search needs
 
 returns : tie.Need-returns
-returns c = box-optional _ _ _ (kids-one _ _ _ (c .before .before .before .before .before .before .before .before .before .before .before .before .before .before .before .before .before .before .before .before .before .before .before .pre .0) (box-one _ _ _ (c .before .before .before .before .before .before .before .before .before .before .before .before .before .before .before .before .before .before .before .before .before .before .before .pre .0) (c .before .before .before .before .before .before .before .before .before .before .before .before .before .before .before .before .before .before .before .before .before .before .before .pre .1 .0)) (c .before .before .before .before .before .before .before .before .before .before .before .before .before .before .before .before .before .before .body-at .ensures) (c .before .before .before .before .before .before .before .before .before .before .before .before .before .before .before .before .before .record-end .ensures)) (c .before .before .before .before .before .before .before .before .before .before .before .before .before .before .before .before .before .before .before .before .before .before .before .pre .0) (c .before .before .before .before .before .before .before .before .before .before .before .before .before .before .before .before .before .before .before .before .before .before .shared-slice-known .given) (c .before .before .before .before .before .before .before .before .before .before .before .before .before .before .before .before .before .before .before .read-head .ensures) (typingOf (c .before .before .before .before .before .before .before .before .before .before .before .before .before .before .before .before .before .before .before .before .before .before .before .args .tree .now) (c .before .before .before .before .before .before .before .before .before .before .before .before .before .before .before .before .before .before .before .before .before .before .before .args .scope)) _ _ (omega (arith, c .before .before .before .before .before .before .before .before .before .before .before .before .before .before .before .before .before .before .before .before .before .before .before .good)) (c .before .before .before .before .before .before .before .before .before .before .before .before .before .before .put-front .ensures) (c .before .before .before .before .before .before .before .before .before .type-or-infer .ensures) (c .before .before .keep-all .ensures)
+returns c = box-optional _ _ _ (kids-one _ _ _ (c .before .before .before .before .before .before .before .before .before .before .before .before .before .before .before .before .before .before .before .before .before .before .before .pre .0) (box-one _ _ _ (c .before .before .before .before .before .before .before .before .before .before .before .before .before .before .before .before .before .before .before .before .before .before .before .pre .0) (c .before .before .before .before .before .before .before .before .before .before .before .before .before .before .before .before .before .before .before .before .before .before .before .pre .1 .0)) (c .before .before .before .before .before .before .before .before .before .before .before .before .before .before .before .before .before .before .body-at .ensures) (c .before .before .before .before .before .before .before .before .before .before .before .before .before .before .before .before .before .record-end .ensures)) (c .before .before .before .before .before .before .before .before .before .before .before .before .before .before .before .before .before .before .before .before .before .before .before .pre .0) (c .before .before .before .before .before .before .before .before .before .before .before .before .before .before .before .before .before .before .before .before .before .before .shared-slice-known .given) (c .before .before .before .before .before .before .before .before .before .before .before .before .before .before .before .before .before .before .before .read-head .ensures) (c .before .before .before .before .before .before .before .before .before .before .before .before .before .before .before .before .with-flag .ensures) (typingOf (c .before .before .before .before .before .before .before .before .before .before .before .before .before .before .before .before .before .before .before .before .before .before .before .args .tree .now) (c .before .before .before .before .before .before .before .before .before .before .before .before .before .before .before .before .before .before .before .before .before .before .before .args .scope)) _ _ (omega (arith, c .before .before .before .before .before .before .before .before .before .before .before .before .before .before .before .before .before .before .before .before .before .before .before .good)) (c .before .before .before .before .before .before .before .before .before .before .before .before .before .before .put-front .ensures) (c .before .before .before .before .before .before .before .before .before .type-or-infer .ensures) (c .before .before .keep-all .ensures)
 
 pub optional-box-spec : {M : Type 1} → statement M
 optional-box-spec =
@@ -72,8 +62,7 @@ optional-box-spec =
     body-at-requires
     sub-record-end
     record-end-requires
-    mul-flags
-    add-flags
+    with-flag-requires
     put-front-requires
     type-or-infer-requires
     sub-keep-all

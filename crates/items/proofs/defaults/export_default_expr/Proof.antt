@@ -9,18 +9,6 @@ use Rattle.items.proofs.Exports.{xe-kids, second-there, expr-ready, exp
 use borrow.Author.Needs.{needs}
 use Rattle.items.proofs.defaults.export_default_expr.Statement.{statement}
 use Rattle.items.proofs.defaults.export_default_expr.Tie as tie
-use Rattle.items.proofs.defaults.export_default_expr.Reads as reads
-use Rattle.items.proofs.defaults.export_default_expr.Lts as lts
-use Rattle.items.proofs.defaults.put_const_front.Reads as put-const-front-reads
-use Rattle.items.proofs.defaults.put_default_name.Reads as put-default-name-reads
-use Rattle.items.proofs.vars.readonly.Reads as readonly-reads
-use Rattle.parts.proofs.keep.Reads as keep-reads
-use Rattle.records.proofs.body_at.Reads as body-at-reads
-use Rattle.records.proofs.mark_at.Reads as mark-at-reads
-use Rattle.records.proofs.record_end.Reads as record-end-reads
-use Rattle.swc_helpers.proofs.put_absent.Reads as put-absent-reads
-use Rattle.typing.proofs.back.Reads as back-reads
-use Rattle.typing.proofs.expr_to_ts_type.Reads as expr-to-ts-type-reads
 
 body-at-requires : tie.Need-body-at-requires
 body-at-requires c κs = itself _ _ _ (c .before .before .before .pre .0 .accepted) .room

@@ -7,12 +7,6 @@ use Rattle.items.proofs.Exports.{xe-one, name-kids, name-written}
 use borrow.Author.Needs.{needs}
 use Rattle.items.proofs.defaults.put_default_name.Statement.{statement}
 use Rattle.items.proofs.defaults.put_default_name.Tie as tie
-use Rattle.items.proofs.defaults.put_default_name.Reads as reads
-use Rattle.items.proofs.defaults.put_default_name.Lts as lts
-use Rattle.items.proofs.defaults.put_unique_ident.Reads as put-unique-ident-reads
-use Rattle.parts.proofs.keep_all.Reads as keep-all-reads
-use Rattle.parts.proofs.put_front.Reads as put-front-reads
-use Rattle.records.proofs.read_head.Reads as read-head-reads
 
 read-head-requires : tie.Need-read-head-requires
 read-head-requires c κs = itself _ _ _ (c .before .before .pre .0 .0) .room

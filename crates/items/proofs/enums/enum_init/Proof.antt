@@ -6,12 +6,6 @@ use Rattle.items.proofs.Inits.{told, told-not, init-none, init-kept, in
 use borrow.Author.Needs.{needs}
 use Rattle.items.proofs.enums.enum_init.Statement.{statement}
 use Rattle.items.proofs.enums.enum_init.Tie as tie
-use Rattle.items.proofs.enums.enum_init.Reads as reads
-use Rattle.items.proofs.enums.enum_init.Lts as lts
-use Rattle.items.proofs.enums.valid_enum_init_expr.Reads as valid-enum-init-expr-reads
-use Rattle.parts.proofs.keep.Reads as keep-reads
-use Rattle.records.proofs.mark_at.Reads as mark-at-reads
-use Rattle.swc_helpers.proofs.put_absent.Reads as put-absent-reads
 
 mark-at-requires : tie.Need-mark-at-requires
 mark-at-requires c κs = itself _ _ _ (c .before .before .pre) .room

@@ -1,5 +1,6 @@
 -- `literals::literal_at` meets its contract. Assumes nothing.
 use mathlib.Core.Path.{_∙_, ap}
+use borrow.Author.Needs.{needs}
 use Rattle.definition.specs.Grammar.{mark}
 use Rattle.definition.specs.Helpers.{litKind}
 use Rattle.definition.proofs.Children.{itself}
@@ -15,12 +16,15 @@ read-head-requires c κs = itself _ _ _ (c .before .pre) .room
 number-at-requires : tie.Need-number-at-requires
 number-at-requires c κs = let a = c .before .before .before .args in (c .before .before .before .pre, marked (a .left) (a .tree .now) (a .at) (c .before .read-head .result) (c .before .read-head .ensures) (mark "Nu") (c .match .keys4))
 
+has-flag-requires : tie.Need-has-flag-requires
+has-flag-requires c κs = search needs
+
 returns : tie.Need-returns
 unfolding litKind literalBy
 returns c = literal-is _ _ _ _ (c .before .read-head .ensures) (mark "Ss") (c .match .keys1)
 
 returns-2 : tie.Need-returns-2
-returns-2 c = boolean-is _ _ _ _ (c .before .read-head .ensures) (c .match .keys2)
+returns-2 c = boolean-is _ _ _ _ (c .before .before .read-head .ensures) (c .has-flag .ensures) (c .before .match .keys2)
 
 returns-3 : tie.Need-returns-3
 unfolding litKind literalBy
@@ -46,6 +50,7 @@ literal-at-spec =
     tie.close
     (tie.spec
     read-head-requires
+    has-flag-requires
     number-at-requires
     returns
     returns-2

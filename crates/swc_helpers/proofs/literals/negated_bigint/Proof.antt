@@ -4,6 +4,7 @@ use mathlib.Core.Path.{_∙_, ap}
 use mathlib.Core.List.{List}
 use Prim.Native.Nat.{ℕ}
 use lib.ListN.{length, getD}
+use Rattle.records.specs.Fields.{span}
 use Rattle.swc_helpers.specs.Literal.{turnedSign}
 use Rattle.swc_helpers.proofs.Made.{put-put, put-as}
 use Rattle.swc_helpers.proofs.Texts.{body-fits, integer-long, rest-is, negated-integer}
@@ -52,7 +53,7 @@ returns c =
     let t = c .before .before .before .before .before .before .before .before .before .before .before .before .before .before .before .before .before .text-at .ensures in
     put-as
     (put-put (omega arith) (c .before .before .before .before .before .before .before .before .before .before .before .before .put-respelled .ensures) (put-put (omega arith) (c .before .before .before .before .before .before .before .put-text .ensures) (put-as (c .before .before .put-text2 .ensures) (rest-is _ _ t))))
-    (negated-integer _ _ _ (c .before .before .before .before .before .before .before .before .before .before .before .before .before .before .before .before .before .before .before .before .pre .0) (c .before .before .before .before .before .before .before .before .before .before .before .before .before .before .before .before .before .before .before .before .pre .1) _ (c .before .before .before .before .before .before .before .before .before .before .before .before .before .before .turned-sign .ensures ∙ ap (λ (x : List ℕ). turnedSign (getD x 0 0) (getD x 1 0)) t))
+    (negated-integer _ _ _ (c .before .before .before .before .before .before .before .before .before .before .before .before .before .before .before .before .before .before .before .before .pre .0) (c .before .before .before .before .before .before .before .before .before .before .before .before .before .before .before .before .before .before .before .before .pre .1) (span (c .before .before .before .before .before .before .before .before .before .before .before .before .before .before .before .before .before .before .before .before .args .range)) _ (c .before .before .before .before .before .before .before .before .before .before .before .before .before .before .turned-sign .ensures ∙ ap (λ (x : List ℕ). turnedSign (getD x 0 0) (getD x 1 0)) t))
 
 pub negated-bigint-spec : {M : Type 1} → statement M
 negated-bigint-spec =

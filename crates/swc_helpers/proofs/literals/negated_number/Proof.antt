@@ -2,6 +2,7 @@
 use native.Mathlib.Omega.{arith}
 use mathlib.Core.Path.{_∙_, ap, sym}
 use lib.Ieee.{binary64, ofBits}
+use Rattle.records.specs.Fields.{span}
 use Rattle.records.proofs.Whole.{slice-bytes}
 use Rattle.swc_helpers.specs.Literal.{turnedBits}
 use Rattle.swc_helpers.proofs.Made.{put-put, put-as}
@@ -37,7 +38,7 @@ same-length c = search needs
 returns : tie.Need-returns
 returns c = put-as
     (put-put (omega arith) (c .before .before .before .before .before .before .before .put-respelled .ensures) (put-as (c .before .before .put-text .ensures) (c .before .before .before .before .before .before .before .before .before .bytes-of .ensures)))
-    (negated-is _ _ _ (c .before .before .before .before .before .before .before .before .before .before .before .before .before .before .before .pre .0) (c .before .before .before .before .before .before .before .before .before .before .before .before .before .before .before .pre .1) (slice-bytes _ (c .before .before .before .before .before .before .before .before .before .before .before .before .before .before .shared-slice-known .given)) _ (c .before .before .before .before .before .before .before .before .before .before .negated .ensures ∙ ap turnedBits (c .before .before .before .before .before .before .before .before .before .before .before .bits-at .ensures)))
+    (negated-is _ _ _ (c .before .before .before .before .before .before .before .before .before .before .before .before .before .before .before .pre .0) (c .before .before .before .before .before .before .before .before .before .before .before .before .before .before .before .pre .1) (span (c .before .before .before .before .before .before .before .before .before .before .before .before .before .before .before .args .range)) (slice-bytes _ (c .before .before .before .before .before .before .before .before .before .before .before .before .before .before .shared-slice-known .given)) _ (c .before .before .before .before .before .before .before .before .before .before .negated .ensures ∙ ap turnedBits (c .before .before .before .before .before .before .before .before .before .before .before .bits-at .ensures)))
 
 pub negated-number-spec : {M : Type 1} → statement M
 negated-number-spec =

@@ -9,8 +9,8 @@ use Rattle.swc_helpers.proofs.literals.put_respelled.Tie as tie
 read-head-requires : tie.Need-read-head-requires
 read-head-requires c κs = search needs
 
-put-front-requires : tie.Need-put-front-requires
-put-front-requires c κs = search needs
+put-made-front-requires : tie.Need-put-made-front-requires
+put-made-front-requires c κs = search needs
 
 put-head-requires : tie.Need-put-head-requires
 put-head-requires c κs = search needs
@@ -19,9 +19,9 @@ same-length : tie.Need-same-length
 same-length c = search needs
 
 returns : tie.Need-returns
-returns c = put-put (omega arith) (c .before .before .before .before .before .before .put-front .ensures) (put-as (c .before .before .put-head .ensures) (bare-head _ _ _ (c .before .before .before .before .before .before .before .before .read-head .ensures) (c .before .before .before .before .before .before .before .before .before .before .before .pre)))
+returns c = put-put (omega arith) (c .before .before .before .before .before .before .put-made-front .ensures) (put-as (c .before .before .put-head .ensures) (bare-head _ _ _ (c .before .before .before .before .before .before .before .before .read-head .ensures) (c .before .before .before .before .before .before .before .before .before .before .before .pre)))
 
 pub put-respelled-spec : {M : Type 1} → statement M
 put-respelled-spec =
     tie.close
-    (tie.spec read-head-requires put-front-requires put-head-requires same-length returns)
+    (tie.spec read-head-requires put-made-front-requires put-head-requires same-length returns)

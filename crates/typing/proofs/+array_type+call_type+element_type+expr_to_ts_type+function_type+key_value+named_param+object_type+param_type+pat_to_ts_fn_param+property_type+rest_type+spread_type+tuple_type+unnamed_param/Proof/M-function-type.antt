@@ -16,7 +16,7 @@ use Rattle.typing.proofs.param_type.Reads as param-type
 use Rattle.records.proofs.advance.Reads as advance-reads
 use Rattle.records.proofs.read_head.Reads as read-head-reads
 use Rattle.records.proofs.record_end.Reads as record-end-reads
-use Rattle.typing.proofs.made.put_ranged.Reads as put-ranged-reads
+use Rattle.records.proofs.made.put_made_front.Reads as put-made-front-reads
 use Rattle.typing.proofs.params.child_at.Reads as child-at-reads
 use Rattle.typing.proofs.params.put_fn_front.Reads as put-fn-front-reads
 use Rattle.typing.proofs.params_from.Reads as params-from-reads
@@ -24,7 +24,7 @@ use Rattle.typing.proofs.+array_type+call_type+element_type+expr_to_ts_
 use Rattle.typing.proofs.+array_type+call_type+element_type+expr_to_ts_type+function_type+key_value+named_param+object_type+param_type+pat_to_ts_fn_param+property_type+rest_type+spread_type+tuple_type+unnamed_param.Proof.Base.{function-type-at, param-type-below}
 
 abbrev pub calls : ℕ → function-type-lts.Claims
-calls t = (read-head-reads.Asked, read-head-reads.Learnt, params-from-reads.Asked, params-from-reads.Learnt, child-at-reads.Asked, child-at-reads.Learnt, advance-reads.Asked, advance-reads.Learnt, put-fn-front-reads.Asked, put-fn-front-reads.Learnt, param-type-below t, param-type.Post, record-end-reads.Asked, record-end-reads.Learnt, put-ranged-reads.Asked, put-ranged-reads.Learnt)
+calls t = (read-head-reads.Asked, read-head-reads.Learnt, params-from-reads.Asked, params-from-reads.Learnt, child-at-reads.Asked, child-at-reads.Learnt, advance-reads.Asked, advance-reads.Learnt, put-fn-front-reads.Asked, put-fn-front-reads.Learnt, param-type-below t, param-type.Post, record-end-reads.Asked, record-end-reads.Learnt, put-made-front-reads.Asked, put-made-front-reads.Learnt)
 
 abbrev pub Inv-loop : function-type-lts.InvT-loop
 Inv-loop tree at left scope function out₀ diagnostics₀ s head first n₀ child₀ q next₀ count₀ out diagnostics n child next count = ParamLoop tree (scope .unresolved) function left at out₀ out diagnostics₀ diagnostics next₀ next n child count
@@ -77,14 +77,14 @@ loop-less t c = omega (arith, c .before .before .before .before .before .before 
 pub loop-again : (t : ℕ) → function-type-lts.Need-loop-again (calls t) (function-type-at t) function-type.Post Inv-loop μ-loop
 loop-again t c = rw (c .record-end .ensures) (param-turn (c .before .before .before .before .before .before .before .before .before .before .before .before .before .before .before .before .before .before .before .before .before .before .before .before .args .tree .now) (c .before .before .before .before .before .before .before .before .before .before .before .before .before .before .before .before .before .before .before .before .before .before .before .before .args .scope .unresolved) (c .before .before .before .before .before .before .before .before .before .before .before .before .before .before .before .before .before .before .before .before .before .before .before .before .args .function) (c .before .before .before .before .before .before .before .before .before .before .before .before .before .before .before .before .before .before .before .before .before .before .before .before .args .left) (c .before .before .before .before .before .before .before .before .before .before .before .before .before .before .before .before .before .before .before .before .before .before .before .before .args .at) (c .before .before .before .before .before .before .before .before .before .before .before .loop .inv) (c .before .before .before .before .before .before .before .before .before .before .loop-test .taken) (c .before .before .before .before .before .before .before .param-type .ensures))
 
-pub add-put-ranged : (t : ℕ) → function-type-lts.Need-add-put-ranged (calls t) (function-type-at t) function-type.Post Inv-loop μ-loop
-add-put-ranged t c = omega (arith, c .before .loop .inv .few)
+pub add-put-made-front : (t : ℕ) → function-type-lts.Need-add-put-made-front (calls t) (function-type-at t) function-type.Post Inv-loop μ-loop
+add-put-made-front t c = omega (arith, c .before .loop .inv .few)
 
-pub put-ranged-requires : (t : ℕ) → function-type-lts.Need-put-ranged-requires (calls t) (function-type-at t) function-type.Post Inv-loop μ-loop
-put-ranged-requires t c κs = search needs
+pub put-made-front-requires : (t : ℕ) → function-type-lts.Need-put-made-front-requires (calls t) (function-type-at t) function-type.Post Inv-loop μ-loop
+put-made-front-requires t c κs = search needs
 
 pub returns : (t : ℕ) → function-type-lts.Need-returns (calls t) (function-type-at t) function-type.Post Inv-loop μ-loop
-returns t c = function-done (c .before .before .before .before .before .before .before .before .before .before .before .before .before .before .before .before .before .before .args .tree .now) (c .before .before .before .before .before .before .before .before .before .before .before .before .before .before .before .before .before .before .args .scope .unresolved) (c .before .before .before .before .before .before .before .before .before .before .before .before .before .before .before .before .before .before .args .function) (c .before .before .before .before .before .before .before .before .before .before .before .before .before .before .before .before .before .before .args .left) (c .before .before .before .before .before .before .before .before .before .before .before .before .before .before .before .before .before .before .args .at) (c .before .before .before .before .before .loop .inv) (c .before .before .before .before .before .before .before .before .before .before .before .before .before .before .before .before .before .before .args .s) (c .before .before .before .before .before .before .before .before .before .before .before .before .before .before .before .before .before .shared-slice-known .given) (c .before .before .before .before .before .before .before .before .before .before .before .before .before .before .before .before .before .before .pre .1 .0 .accepted) (omega (arith, c .before .before .before .before .before .before .before .before .before .before .before .before .before .before .before .before .before .before .good)) (c .before .before .before .before .before .before .before .before .before .before .advance .ensures) refl (c .before .before .before .before .before .before .before .before .put-fn-front .ensures) (omega (arith, c .before .before .before .before .loop-test .left)) (c .before .before .before .before .before .before .before .before .before .before .before .before .before .before .read-head .ensures) (c .before .before .put-ranged .ensures)
+returns t c = function-done (c .before .before .before .before .before .before .before .before .before .before .before .before .before .before .before .before .before .before .args .tree .now) (c .before .before .before .before .before .before .before .before .before .before .before .before .before .before .before .before .before .before .args .scope .unresolved) (c .before .before .before .before .before .before .before .before .before .before .before .before .before .before .before .before .before .before .args .function) (c .before .before .before .before .before .before .before .before .before .before .before .before .before .before .before .before .before .before .args .left) (c .before .before .before .before .before .before .before .before .before .before .before .before .before .before .before .before .before .before .args .at) (c .before .before .before .before .before .loop .inv) (c .before .before .before .before .before .before .before .before .before .before .before .before .before .before .before .before .before .before .args .s) (c .before .before .before .before .before .before .before .before .before .before .before .before .before .before .before .before .before .shared-slice-known .given) (c .before .before .before .before .before .before .before .before .before .before .before .before .before .before .before .before .before .before .pre .1 .0 .accepted) (omega (arith, c .before .before .before .before .before .before .before .before .before .before .before .before .before .before .before .before .before .before .good)) (c .before .before .before .before .before .before .before .before .before .before .advance .ensures) refl (c .before .before .before .before .before .before .before .before .put-fn-front .ensures) (omega (arith, c .before .before .before .before .loop-test .left)) (c .before .before .before .before .before .before .before .before .before .before .before .before .before .before .read-head .ensures) (c .before .before .put-made-front .ensures)
 
 pub same-length : (t : ℕ) → function-type-lts.Need-same-length (calls t) (function-type-at t) function-type.Post Inv-loop μ-loop
 same-length t c = returns t c .step .ran .out .same

@@ -12,12 +12,12 @@ use Rattle.records.proofs.advance.Reads as advance-reads
 use Rattle.records.proofs.body_at.Reads as body-at-reads
 use Rattle.records.proofs.read_head.Reads as read-head-reads
 use Rattle.records.proofs.record_end.Reads as record-end-reads
-use Rattle.typing.proofs.made.put_ranged.Reads as put-ranged-reads
+use Rattle.records.proofs.made.put_made_front.Reads as put-made-front-reads
 use Rattle.typing.proofs.+array_type+call_type+element_type+expr_to_ts_type+function_type+key_value+named_param+object_type+param_type+pat_to_ts_fn_param+property_type+rest_type+spread_type+tuple_type+unnamed_param.Lts-object_type as object-type-lts
 use Rattle.typing.proofs.+array_type+call_type+element_type+expr_to_ts_type+function_type+key_value+named_param+object_type+param_type+pat_to_ts_fn_param+property_type+rest_type+spread_type+tuple_type+unnamed_param.Proof.Base.{object-type-at, property-type-below}
 
 abbrev pub calls : ℕ → object-type-lts.Claims
-calls t = (read-head-reads.Asked, read-head-reads.Learnt, body-at-reads.Asked, body-at-reads.Learnt, advance-reads.Asked, advance-reads.Learnt, property-type-below t, property-type.Post, record-end-reads.Asked, record-end-reads.Learnt, put-ranged-reads.Asked, put-ranged-reads.Learnt)
+calls t = (read-head-reads.Asked, read-head-reads.Learnt, body-at-reads.Asked, body-at-reads.Learnt, advance-reads.Asked, advance-reads.Learnt, property-type-below t, property-type.Post, record-end-reads.Asked, record-end-reads.Learnt, put-made-front-reads.Asked, put-made-front-reads.Learnt)
 
 abbrev pub Inv-loop : object-type-lts.InvT-loop
 Inv-loop tree at left mode out₀ diagnostics₀ s head n₀ child₀ next₀ count₀ out diagnostics n child next count = ObjectLoop tree mode left at out₀ out diagnostics₀ diagnostics s next n child count
@@ -61,11 +61,11 @@ loop-less t c = omega (arith, c .before .before .before .before .before .before 
 pub loop-again : (t : ℕ) → object-type-lts.Need-loop-again (calls t) (object-type-at t) object-type.Post Inv-loop μ-loop
 loop-again t c = rw (c .record-end .ensures) (object-turn (c .before .before .before .before .before .before .before .before .before .before .before .before .before .before .before .before .before .before .args .tree .now) (c .before .before .before .before .before .before .before .before .before .before .before .before .before .before .before .before .before .before .args .mode) (c .before .before .before .before .before .before .before .before .before .before .before .before .before .before .before .before .before .before .args .left) (c .before .before .before .before .before .before .before .before .before .before .before .before .before .before .before .before .before .before .args .at) (c .before .before .before .before .before .before .before .before .before .before .before .before .before .before .before .before .before .before .args .s) (c .before .before .before .before .before .before .before .before .before .before .before .loop .inv) (c .before .before .before .before .before .before .before .before .before .before .loop-test .taken) (c .before .before .before .before .before .before .before .property-type .ensures))
 
-pub put-ranged-requires : (t : ℕ) → object-type-lts.Need-put-ranged-requires (calls t) (object-type-at t) object-type.Post Inv-loop μ-loop
-put-ranged-requires t c κs = search needs
+pub put-made-front-requires : (t : ℕ) → object-type-lts.Need-put-made-front-requires (calls t) (object-type-at t) object-type.Post Inv-loop μ-loop
+put-made-front-requires t c κs = search needs
 
 pub returns : (t : ℕ) → object-type-lts.Need-returns (calls t) (object-type-at t) object-type.Post Inv-loop μ-loop
-returns t c = object-done (c .before .before .before .before .before .before .before .before .before .before .before .before .args .tree .now) (c .before .before .before .before .before .before .before .before .before .before .before .before .args .mode) (c .before .before .before .before .before .before .before .before .before .before .before .before .args .left) (c .before .before .before .before .before .before .before .before .before .before .before .before .args .at) (c .before .before .before .before .before .before .before .before .before .before .before .before .args .s) (c .before .before .before .before .before .loop .inv) (omega (arith, c .before .before .before .before .loop-test .left)) (c .before .before .before .before .before .before .before .before .before .before .before .before .pre .1 .1) (c .before .before .before .before .before .before .before .before .read-head .ensures) (c .before .before .put-ranged .ensures)
+returns t c = object-done (c .before .before .before .before .before .before .before .before .before .before .before .before .args .tree .now) (c .before .before .before .before .before .before .before .before .before .before .before .before .args .mode) (c .before .before .before .before .before .before .before .before .before .before .before .before .args .left) (c .before .before .before .before .before .before .before .before .before .before .before .before .args .at) (c .before .before .before .before .before .before .before .before .before .before .before .before .args .s) (c .before .before .before .before .before .loop .inv) (omega (arith, c .before .before .before .before .loop-test .left)) (c .before .before .before .before .before .before .before .before .before .before .before .before .pre .1 .1) (c .before .before .before .before .before .before .before .before .read-head .ensures) (c .before .before .put-made-front .ensures)
 
 pub same-length : (t : ℕ) → object-type-lts.Need-same-length (calls t) (object-type-at t) object-type.Post Inv-loop μ-loop
 same-length t c = returns t c .step .ran .out .same

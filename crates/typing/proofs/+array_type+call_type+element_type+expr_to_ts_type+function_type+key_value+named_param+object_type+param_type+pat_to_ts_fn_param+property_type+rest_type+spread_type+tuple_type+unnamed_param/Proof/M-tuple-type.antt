@@ -14,12 +14,12 @@ use Rattle.records.proofs.body_at.Reads as body-at-reads
 use Rattle.records.proofs.read_head.Reads as read-head-reads
 use Rattle.records.proofs.record_end.Reads as record-end-reads
 use Rattle.typing.proofs.back.Reads as back-reads
-use Rattle.typing.proofs.made.put_ranged.Reads as put-ranged-reads
+use Rattle.records.proofs.made.put_made_front.Reads as put-made-front-reads
 use Rattle.typing.proofs.+array_type+call_type+element_type+expr_to_ts_type+function_type+key_value+named_param+object_type+param_type+pat_to_ts_fn_param+property_type+rest_type+spread_type+tuple_type+unnamed_param.Lts-tuple_type as tuple-type-lts
 use Rattle.typing.proofs.+array_type+call_type+element_type+expr_to_ts_type+function_type+key_value+named_param+object_type+param_type+pat_to_ts_fn_param+property_type+rest_type+spread_type+tuple_type+unnamed_param.Proof.Base.{tuple-type-at, element-type-below}
 
 abbrev pub calls : ℕ → tuple-type-lts.Claims
-calls t = (read-head-reads.Asked, read-head-reads.Learnt, body-at-reads.Asked, body-at-reads.Learnt, advance-reads.Asked, advance-reads.Learnt, element-type-below t, element-type.Post, back-reads.Asked, back-reads.Learnt, record-end-reads.Asked, record-end-reads.Learnt, put-ranged-reads.Asked, put-ranged-reads.Learnt)
+calls t = (read-head-reads.Asked, read-head-reads.Learnt, body-at-reads.Asked, body-at-reads.Learnt, advance-reads.Asked, advance-reads.Learnt, element-type-below t, element-type.Post, back-reads.Asked, back-reads.Learnt, record-end-reads.Asked, record-end-reads.Learnt, put-made-front-reads.Asked, put-made-front-reads.Learnt)
 
 abbrev pub Inv-loop : tuple-type-lts.InvT-loop
 Inv-loop tree at left mode out₀ diagnostics₀ s head n₀ child₀ next₀ count₀ out diagnostics n child next count = TupleLoop tree mode left at out₀ out diagnostics₀ diagnostics s next n child count
@@ -81,11 +81,11 @@ loop-less t c = omega (arith, c .before .before .before .before .before .before 
 pub loop-again : (t : ℕ) → tuple-type-lts.Need-loop-again (calls t) (tuple-type-at t) tuple-type.Post Inv-loop μ-loop
 loop-again t c = rw (c .record-end .ensures) (tuple-turn (c .before .before .before .before .before .before .before .before .before .before .before .before .before .before .before .before .before .before .before .before .before .args .tree .now) (c .before .before .before .before .before .before .before .before .before .before .before .before .before .before .before .before .before .before .before .before .before .args .mode) (c .before .before .before .before .before .before .before .before .before .before .before .before .before .before .before .before .before .before .before .before .before .args .left) (c .before .before .before .before .before .before .before .before .before .before .before .before .before .before .before .before .before .before .before .before .before .args .at) (c .before .before .before .before .before .before .before .before .before .before .before .before .before .before .before .before .before .before .before .before .before .args .s) (c .before .before .before .before .before .before .before .before .before .before .before .before .before .before .loop .inv) (c .before .before .before .before .before .before .before .before .before .before .before .before .before .loop-test .taken) (c .before .before .before .before .before .before .before .before .before .before .element-type .ensures) (c .before .before .before .before .made .given .1))
 
-pub put-ranged-requires : (t : ℕ) → tuple-type-lts.Need-put-ranged-requires (calls t) (tuple-type-at t) tuple-type.Post Inv-loop μ-loop
-put-ranged-requires t c κs = search needs
+pub put-made-front-requires : (t : ℕ) → tuple-type-lts.Need-put-made-front-requires (calls t) (tuple-type-at t) tuple-type.Post Inv-loop μ-loop
+put-made-front-requires t c κs = search needs
 
 pub returns-2 : (t : ℕ) → tuple-type-lts.Need-returns-2 (calls t) (tuple-type-at t) tuple-type.Post Inv-loop μ-loop
-returns-2 t c = tuple-done (c .before .before .before .before .before .before .before .before .before .before .before .before .args .tree .now) (c .before .before .before .before .before .before .before .before .before .before .before .before .args .mode) (c .before .before .before .before .before .before .before .before .before .before .before .before .args .left) (c .before .before .before .before .before .before .before .before .before .before .before .before .args .at) (c .before .before .before .before .before .before .before .before .before .before .before .before .args .s) (c .before .before .before .before .before .loop .inv) (omega (arith, c .before .before .before .before .loop-test .left)) (c .before .before .before .before .before .before .before .before .read-head .ensures) (c .before .before .put-ranged .ensures)
+returns-2 t c = tuple-done (c .before .before .before .before .before .before .before .before .before .before .before .before .args .tree .now) (c .before .before .before .before .before .before .before .before .before .before .before .before .args .mode) (c .before .before .before .before .before .before .before .before .before .before .before .before .args .left) (c .before .before .before .before .before .before .before .before .before .before .before .before .args .at) (c .before .before .before .before .before .before .before .before .before .before .before .before .args .s) (c .before .before .before .before .before .loop .inv) (omega (arith, c .before .before .before .before .loop-test .left)) (c .before .before .before .before .before .before .before .before .read-head .ensures) (c .before .before .put-made-front .ensures)
 
 pub same-length-3 : (t : ℕ) → tuple-type-lts.Need-same-length-3 (calls t) (tuple-type-at t) tuple-type.Post Inv-loop μ-loop
 same-length-3 t c = returns-2 t c .step .ran .out .same

@@ -3,7 +3,7 @@ use mathlib.Core.Path.{sym, ap, _∙_}
 use Prim.Native.Nat.{_-_}
 use native.Mathlib.Omega.{arith}
 use Rattle.definition.specs.Tree.{Rec, encode, endAt, treeAt}
-use Rattle.definition.specs.Record.{kidsOf}
+use Rattle.definition.specs.Record.{kidsOf, dummySp}
 use Rattle.definition.specs.Helpers.{referenceTo}
 use Rattle.definition.proofs.Children.{itself, some-left}
 use Rattle.definition.proofs.Kids.{placed}
@@ -61,7 +61,7 @@ same-length c = search needs
 
 returns-3 : tie.Need-returns-3
 returns-3 c = let k = placed (ne-callee _ _ _ (c .before .before .before .before .before .before .before .before .before .before .before .before .before .before .pre .0 .0) (c .before .before .before .before .before .before .before .before .before .before .before .before .before .before .pre .0 .1)) (c .before .before .before .before .before .before .before .before .before .before .before .body-at .ensures) in
-    maybe-some (put-as (c .before .before .reference-to .ensures) (ap (λ (r : Rec). encode (referenceTo r)) (sym (k .tree))))
+    maybe-some (put-as (c .before .before .reference-to .ensures) (ap (λ (r : Rec). encode (referenceTo dummySp r)) (sym (k .tree))))
     (new-class (idsOf (c .before .before .before .before .before .before .before .before .before .before .before .before .before .before .args .tree .now)) (kidsOf (treeAt (c .before .before .before .before .before .before .before .before .before .before .before .before .before .before .args .left) (c .before .before .before .before .before .before .before .before .before .before .before .before .before .before .args .tree .now) (c .before .before .before .before .before .before .before .before .before .before .before .before .before .before .args .at))) (is-kid k (c .before .before .before .before .before .before .before .before .before .before .mark-at .ensures .0) (c .before .before .before .before .before .before .before .before .before .if1 .left)) (is-kid (placed (ne-types _ _ _ (c .before .before .before .before .before .before .before .before .before .before .before .before .before .before .pre .0 .0) (c .before .before .before .before .before .before .before .before .before .before .before .before .before .before .pre .0 .1)) (c .before .before .before .before .before .before .before .before .record-end .ensures ∙ ap (endAt (c .before .before .before .before .before .before .before .before .before .before .before .before .before .before .args .left - 1) (c .before .before .before .before .before .before .before .before .before .before .before .before .before .before .args .tree .now)) (c .before .before .before .before .before .before .before .before .before .before .before .body-at .ensures))) (c .before .before .before .before .before .before .before .mark-at2 .ensures .0) (c .before .before .before .before .before .before .if2 .left)) (rw (k .tree) (class-test (c .before .before .before .before .before .before .before .before .before .before .before .before .before .before .args .left - 1) (c .before .before .before .before .before .before .before .before .before .before .before .before .before .before .args .tree .now) (c .before .before .before .before .before .before .before .before .before .before .before .body-at .result) (c .before .before .before .before .before .asked .ensures) (c .before .before .before .before .if3 .taken))))
 
 returns-4 : tie.Need-returns-4
