@@ -103,6 +103,7 @@ use Rattle.definition.specs.Transform.{transformBy, transform, done, ref
 use Rattle.definition.specs.Counting.{records, allRecords, below, Within}
 use Rattle.definition.proofs.Converse.{read-accepted}
 use Rattle.definition.proofs.Counting.{records-below, records-bytes, within-pure, within-value, within-wider, within-if, within-more, within-cons, within-own, within-first, within-others, within-orAny, exprToTsType-within}
+use Rattle.definition.proofs.Calls.{length-diagsBytes}
 
 -- ---- children
 
@@ -416,11 +417,6 @@ never-more-diagnostics list ctx r = omega (arith, transform-within list ctx r .d
 
 pub never-more-names : (list : List ℕ) (ctx : ℕ) (r : Rec) → transform list ctx r .2 < records r
 never-more-names list ctx r = omega (arith, transform-within list ctx r .high, records-below r)
-
-length-diagsBytes : (ds : List Diag) → length (diagsBytes ds) ≡ 10 * length ds
-unfolding diagsBytes
-length-diagsBytes [] = refl
-length-diagsBytes (d ∷ ds) = omega (arith, length-diagsBytes ds)
 
 -- for an accepted tree: at most one for each head that the tree has room for; so ten bytes for each fifteen of the tree are enough for them
 pub diagnostics-of-bytes : (tree list : List ℕ) (ctx e : ℕ) → Bytes tree → checkTree tree list ≡ fine e →

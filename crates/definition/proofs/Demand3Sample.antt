@@ -17,12 +17,9 @@ use Rattle.definition.specs.Items.{itemKind, declKind, bodyKind, declara
 use Rattle.definition.specs.Transform.{transformBy, transform, textsFit}
 use Rattle.definition.specs.Demand3.{ExportsIds, AllExportIds, SpacesExportIds, AllSpacesExportIds, output, Supposed}
 use Rattle.definition.proofs.Texts.{written as written-out}
+use Rattle.definition.proofs.Tests.{and-true}
 
 -- ---- the conditions on trees, decided
-
-both : (a b : Bool) → (a && b) ≡ true → (a ≡ true) × (b ≡ true)
-both true b e = (refl, e)
-both false b e = absurd (let z : _≡_ {A = ℕ} 0 1 = cc in omega arith)
 
 cond-true : (a b : Bool) → cond a b true ≡ true → a ≡ true → b ≡ true
 cond-true true b e p = e
@@ -39,12 +36,12 @@ abbrev mutual
 mutual
   exports-ids : (r : Rec) → exportsIds r ≡ true → ExportsIds r
   exports-ids (rec h ks) e =
-      let u = both (cond (eqb (h .mark) (mark "Xe")) (is "Id" (kid 0 ks)) true) (allExportIds ks) e in
+      let u = and-true (cond (eqb (h .mark) (mark "Xe")) (is "Id" (kid 0 ks)) true) (allExportIds ks) e in
       (λ m. eqb-true _ (mark "Id") (cond-true (eqb (h .mark) (mark "Xe")) (is "Id" (kid 0 ks)) (u .0) (eq-eqb (h .mark) (mark "Xe") m)), all-export-ids ks (u .1))
 
   all-export-ids : (rs : Recs) → allExportIds rs ≡ true → AllExportIds rs
   all-export-ids nil e = tt
-  all-export-ids (cons r rs) e = let u = both (exportsIds r) (allExportIds rs) e in (exports-ids r (u .0), all-export-ids rs (u .1))
+  all-export-ids (cons r rs) e = let u = and-true (exportsIds r) (allExportIds rs) e in (exports-ids r (u .0), all-export-ids rs (u .1))
 
 abbrev mutual
   spacesExportIds : Rec → Bool
@@ -57,13 +54,13 @@ abbrev mutual
 mutual
   spaces-export-ids : (r : Rec) → spacesExportIds r ≡ true → SpacesExportIds r
   spaces-export-ids (rec h ks) e =
-      let u = both (cond (eqb (h .mark) (mark "Nb")) (allExportIds ks) true) (allSpacesExportIds ks) e in
+      let u = and-true (cond (eqb (h .mark) (mark "Nb")) (allExportIds ks) true) (allSpacesExportIds ks) e in
       (λ m. all-export-ids ks (cond-true (eqb (h .mark) (mark "Nb")) (allExportIds ks) (u .0) (eq-eqb (h .mark) (mark "Nb") m)), all-spaces-export-ids ks (u .1))
 
   all-spaces-export-ids : (rs : Recs) → allSpacesExportIds rs ≡ true → AllSpacesExportIds rs
   all-spaces-export-ids nil e = tt
   all-spaces-export-ids (cons r rs) e =
-      let u = both (spacesExportIds r) (allSpacesExportIds rs) e in (spaces-export-ids r (u .0), all-spaces-export-ids rs (u .1))
+      let u = and-true (spacesExportIds r) (allSpacesExportIds rs) e in (spaces-export-ids r (u .0), all-spaces-export-ids rs (u .1))
 
 -- ---- the sample
 

@@ -81,6 +81,7 @@ use Rattle.definition.specs.Handbook.{
   widenedType,
   variableType,
 }
+use Rattle.definition.proofs.Tests.{and-true}
 
 -- ---- the marks of the fragment
 
@@ -185,10 +186,6 @@ minus-widened l t e = go (is "Nu" l) (is "Bi" l) refl refl
     go false false p q = no-some (rw (p, q) at e)
 
 -- ---- templates
-
-pub and-true : (a b : Bool) → (a && b) ≡ true → (a ≡ true) × (b ≡ true)
-and-true true b e = (refl, e)
-and-true false b e = absurd (let z : _≡_ {A = ℕ} 0 1 = cc in omega arith)
 
 ops-no-exprs : (rs : Recs) → onlyOps rs ≡ true → noExprs rs ≡ true
 unfolding onlyOps noExprs

@@ -11,7 +11,7 @@ use Rattle.definition.specs.Grammar.{mark, marks, member}
 use Rattle.definition.specs.Record.{one, Typing, onValue}
 use Rattle.definition.specs.Enums.{initKind, validBy, validEnumInitExpr, validFirst, validBoth, validAll}
 use Rattle.definition.specs.Items.{iDecl, itemKind, dModule, declKind, bBlock, bNested, bodyKind, declared, declToTypeDecl, transformModuleStmt, exportDecl, itemBy, bodyBy, transformModuleItems, transformModuleItem}
-use Rattle.definition.proofs.Handbook.{and-true}
+use Rattle.definition.proofs.Tests.{and-true}
 use Rattle.definition.proofs.SilenceModule.{item-ed}
 use Rattle.definition.specs.Handbook.{
   enumKind,

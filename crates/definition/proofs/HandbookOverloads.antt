@@ -26,7 +26,7 @@ use Rattle.definition.specs.Items.{
   transformModuleItems,
   transformModuleItem,
 }
-use Rattle.definition.proofs.Handbook.{and-true}
+use Rattle.definition.proofs.Tests.{and-true}
 use Rattle.definition.proofs.HandbookDeclarations.{item-xd, default-fx}
 use Rattle.definition.proofs.SilenceModule.{member-co, member-me, item-ed}
 use Rattle.definition.specs.Handbook.{functionIn, bodyOf, sameName, implements, implementsMethod, implementsConstructor, implementsMember, visible, Names}

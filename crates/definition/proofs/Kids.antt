@@ -20,6 +20,7 @@ use Rattle.definition.specs.Record.{headOf, kidsOf, markOf, textOf, abse
 use Rattle.definition.proofs.Places.{part-length}
 use Rattle.definition.proofs.Accepted.{Accepted, accepted, child-accepted, slotsAt}
 use Rattle.definition.proofs.Children.{some-left, itself, tree-is, children, others}
+use Rattle.definition.proofs.Tests.{and-true}
 
 -- ---- sets of marks
 
@@ -46,17 +47,13 @@ abbrev pub contained : List ℕ → List ℕ → Bool
 contained [] ys = true
 contained (x ∷ xs) ys = member x ys && contained xs ys
 
-both : (a b : Bool) → (a && b) ≡ true → (a ≡ true) × (b ≡ true)
-both true b e = (refl, e)
-both false b e = absurd (let z : _≡_ {A = ℕ} 0 1 = cc in omega arith)
-
 pub member-wider : (m : ℕ) (xs ys : List ℕ) → contained xs ys ≡ true → member m xs ≡ true → member m ys ≡ true
 unfolding member
 member-wider m [] ys c e = absurd (let z : _≡_ {A = ℕ} 0 1 = cc in omega arith)
-member-wider m (x ∷ xs) ys c e = go (eqb m x) refl (member-wider m xs ys (both (member x ys) (contained xs ys) c .1)) e
+member-wider m (x ∷ xs) ys c e = go (eqb m x) refl (member-wider m xs ys (and-true (member x ys) (contained xs ys) c .1)) e
   where
     go : (b : Bool) → eqb m x ≡ b → (member m xs ≡ true → member m ys ≡ true) → (b || member m xs) ≡ true → member m ys ≡ true
-    go true q f h = rw (eqb-true m x q) (both (member x ys) (contained xs ys) c .0)
+    go true q f h = rw (eqb-true m x q) (and-true (member x ys) (contained xs ys) c .0)
     go false q f h = f h
 
 -- ---- the head of the tree that stands at an offset, accepted or not

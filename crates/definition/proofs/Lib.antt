@@ -1,3 +1,4 @@
+pub mod Tests
 pub mod Places
 pub mod Round
 pub mod Accepted

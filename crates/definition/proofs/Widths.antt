@@ -23,6 +23,7 @@ use Rattle.definition.proofs.There.{nothing-typed}
 use Rattle.definition.proofs.Fit.{Sound, Fit, FitAll, Keys, AllKeys}
 use Rattle.definition.proofs.FitTyping.{expr-makes}
 use Rattle.definition.proofs.FitItems.{transformBy-fits}
+use Rattle.definition.proofs.Tests.{and-true}
 
 -- ---- what is read
 
@@ -74,21 +75,17 @@ mutual
   fit-all nil g = tt
   fit-all (cons r rs) g = (fit-fits r (g .0), fit-all rs (g .1))
 
-both : (a b : Bool) → (a && b) ≡ true → (a ≡ true) × (b ≡ true)
-both true b e = (refl, e)
-both false b e = absurd (let z : _≡_ {A = ℕ} 0 1 = cc in omega arith)
-
 mutual
   unfolding textsFit
 
   texts-fits : (r : Rec) (x : ℕ) → Fit x r → textsFit r ≡ true → Fits r
   texts-fits (rec h ks) x g t =
-      let u = both (ltb (length (h .text)) 65536) (allTextsFit ks) t in
+      let u = and-true (ltb (length (h .text)) 65536) (allTextsFit ks) t in
       (head-fits x h (count ks) (g .0) (ltb-true _ _ (u .0)), all-texts ks x (g .1) (u .1))
 
   all-texts : (rs : Recs) (x : ℕ) → FitAll x rs → allTextsFit rs ≡ true → FitsAll rs
   all-texts nil x g t = tt
-  all-texts (cons r rs) x g t = let u = both (textsFit r) (allTextsFit rs) t in (texts-fits r x (g .0) (u .0), all-texts rs x (g .1) (u .1))
+  all-texts (cons r rs) x g t = let u = and-true (textsFit r) (allTextsFit rs) t in (texts-fits r x (g .0) (u .0), all-texts rs x (g .1) (u .1))
 
 mutual
   unfolding textsFit
@@ -128,7 +125,7 @@ module _ (tree list : List ℕ) (ctx e : ℕ) (bytes : Bytes tree) (accepted : c
   pub output-fits-but : KeysUpTo 65531 (treeAt deepest tree 0) → Fits made
   output-fits-but q = fit-fits made (transform-fits 0 list ctx (treeAt deepest tree 0) (fits-fit (treeAt deepest tree 0) 0 fits-read) q short)
 
-  -- so for such a tree buffers are long enough once both lengths fit in them, and the call succeeds
+  -- so for such a tree buffers are long enough once and-true lengths fit in them, and the call succeeds
   pub call-succeeds : KeysUpTo 65531 (treeAt deepest tree 0) → (out diags : List ℕ) → length (encode made) ≤ length out →
       length (diagsBytes (transform list ctx (treeAt deepest tree 0) .1)) ≤ length diags →
       call tree list ctx out diags .answer ≡ done (length (encode made)) (length (transform list ctx (treeAt deepest tree 0) .1))

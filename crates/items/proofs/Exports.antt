@@ -42,14 +42,12 @@ use Rattle.parts.proofs.Kept.{head-short, front-as}
 use Rattle.parts.proofs.Kids.{One, kids-one}
 use Rattle.parts.proofs.Makes.{makes-as, makes-keeps, gives-one, gives-none}
 use Rattle.parts.proofs.Ready.{ready-at}
+use Rattle.typing.proofs.Whole.{gives-as}
 use Rattle.classes.specs.Typings.{typingOf}
 use Rattle.items.specs.Steps.{constFront, readonlyMode, withClass, defaultFn, defaultDeclOf, defaultExprOf}
 use Rattle.items.proofs.Begun.{keeps-first, makes-first, each-silent}
 
 -- ---- records as the only ones
-
-pub gives-as : {o o' g g' : List ℕ} {s : State} {r : Counted} {x y : Out Recs} → Gives o o' g g' s r x → x ≡ y → Gives o o' g g' s r y
-gives-as {o} {o'} {g} {g'} {s} {r} w e = subst (λ (z : Out Recs). Gives o o' g g' s r z) e w
 
 pub gives-kept : {o o' : List ℕ} (g : List ℕ) {s s' : State} {t : Rec} → Keeps o o' s s' t → s .d ≤ top → Gives o o' g g s (record { s = s'; count = 1 }) (pure (one t) (s .n))
 gives-kept g w d = gives-one (makes-keeps g w d)

@@ -45,7 +45,9 @@ use Rattle.typing.proofs.Loops.{rest, join-nil, join-assoc, count-join}
 use Rattle.typing.proofs.Steps.{step-puts, step-marks, step-then, step-as, step-back, did-some, did-none, did-as, IsSome, IsNone, is-some, is-none}
 use Rattle.typing.proofs.Written.{puts-counter}
 use Rattle.parts.specs.Makes.{frontBytes, Keeps, KeepsAll, Makes, MakesAll}
-use Rattle.parts.proofs.Each.{both, gives-all}
+use Rattle.typing.proofs.Whole.{gives-as}
+use Rattle.typing.proofs.Objects.{few-if}
+use Rattle.parts.proofs.Each.{both, both-assoc, gives-all}
 use Rattle.parts.proofs.Kept.{head-short, kept-as, front-as, front-flags}
 use Rattle.parts.proofs.Kids.{One, Two, kids-one, kids-two}
 use Rattle.parts.proofs.Makes.{makes, makes-as, makes-keeps, makes-front, makes-front-last, all-rest, all-join, gives-one}
@@ -53,7 +55,7 @@ use Rattle.classes.specs.Typings.{typingOf, ReadyAll}
 use Rattle.items.specs.Steps.{recordsAt, withClass, withFunction, withDeclarators, withMembers, withBody, declOf, stmtOf, exportOf, defaultDeclOf, defaultExprOf, itemOf, itemsOf, bodyOf, scopeAt}
 use Rattle.items.proofs.Begun.{makes-second, each-silent}
 use Rattle.items.proofs.Inits.{member-silent}
-use Rattle.items.proofs.Exports.{gives-as, whole}
+use Rattle.items.proofs.Exports.{whole}
 
 -- ---- the scope of an item
 
@@ -597,10 +599,6 @@ block-made list tree scope left at a known m {o} {o1} {o2} {g} {g'} s {s2} {made
 
 -- ---- an item gives at most two records
 
-few-if : (b : Bool) (f g : ℕ → Out Recs) (n : ℕ) → count (f n .0) ≤ 2 → count (g n .0) ≤ 2 → count (ifM b f g n .0) ≤ 2
-few-if true f g n p q = p
-few-if false f g n p q = q
-
 few-export : (h : Head) (ops : Recs) (o : Out (Option Rec)) → count (exportWith h ops o .0) ≤ 2
 few-export h ops o = go (o .0)
   where
@@ -623,7 +621,7 @@ few-typed h ks i (some t) = omega arith
 module _ (list : List ℕ) (ctx : ℕ) (ty : Typing) where
   few-decl : (k : Decl) (h : Head) (ks : Recs) (top : Bool) (ns : ℕ → Out Recs) (n : ℕ) → count (transformModuleStmt list ctx ty k h ks top ns n .0) ≤ 2
   unfolding transformModuleStmt
-  few-decl dFn h ks top ns n = few-if (listed list h) _ _ n (omega arith) (few-stmt h (declToTypeDecl list ctx ty dFn h ks top ns n))
+  few-decl dFn h ks top ns n = few-if 2 (listed list h) _ _ n (omega arith) (few-stmt h (declToTypeDecl list ctx ty dFn h ks top ns n))
   few-decl dClass h ks top ns n = few-stmt h (declToTypeDecl list ctx ty dClass h ks top ns n)
   few-decl dVar h ks top ns n = few-stmt h (declToTypeDecl list ctx ty dVar h ks top ns n)
   few-decl dEnum h ks top ns n = few-stmt h (declToTypeDecl list ctx ty dEnum h ks top ns n)
@@ -633,7 +631,7 @@ module _ (list : List ℕ) (ctx : ℕ) (ty : Typing) where
 
   few-exported : (k : Decl) (h dh : Head) (ks ops : Recs) (top : Bool) (ns : ℕ → Out Recs) (n : ℕ) → count (exportDecl list ctx ty k h dh ks ops top ns n .0) ≤ 2
   unfolding exportDecl
-  few-exported dFn h dh ks ops top ns n = few-if (listed list h) _ _ n (omega arith) (few-export h ops (declToTypeDecl list ctx ty dFn dh ks top ns n))
+  few-exported dFn h dh ks ops top ns n = few-if 2 (listed list h) _ _ n (omega arith) (few-export h ops (declToTypeDecl list ctx ty dFn dh ks top ns n))
   few-exported dClass h dh ks ops top ns n = few-export h ops (declToTypeDecl list ctx ty dClass dh ks top ns n)
   few-exported dVar h dh ks ops top ns n = few-export h ops (declToTypeDecl list ctx ty dVar dh ks top ns n)
   few-exported dEnum h dh ks ops top ns n = few-export h ops (declToTypeDecl list ctx ty dEnum dh ks top ns n)
@@ -644,12 +642,12 @@ module _ (list : List ℕ) (ctx : ℕ) (ty : Typing) where
   few-default : (k : Default) (h : Head) (ks : Recs) (n : ℕ) → count (exportDefaultDecl list ctx ty k h ks n .0) ≤ 2
   unfolding exportDefaultDecl
   few-default xClass h ks n = omega arith
-  few-default xFn h ks n = few-if (listed list h) _ _ n (omega arith) (omega arith)
+  few-default xFn h ks n = few-if 2 (listed list h) _ _ n (omega arith) (omega arith)
   few-default xOther h ks n = omega arith
 
   few-expr : (h : Head) (ks : Recs) (n : ℕ) → count (exportDefaultExpr list ctx ty h ks n .0) ≤ 2
   unfolding exportDefaultExpr
-  few-expr h ks n = few-if (is "Id" (kid 0 ks)) _ _ n (omega arith) (few-typed h ks (suc n) (ty (kid 0 ks) false true (suc n) .0))
+  few-expr h ks n = few-if 2 (is "Id" (kid 0 ks)) _ _ n (omega arith) (few-typed h ks (suc n) (ty (kid 0 ks) false true (suc n) .0))
 
   few-kids : (ks : Recs) (h : Head) (top : Bool) (n : ℕ) → count (exported list ctx ty ks h top n .0) ≤ 2
   unfolding exported
@@ -670,9 +668,6 @@ module _ (list : List ℕ) (ctx : ℕ) (ty : Typing) where
   few-item (rec h ks) top n = few-by (itemKind (h .mark)) h ks top _ _ n (few-kids ks h top n)
 
 -- ---- the items, one after the other
-
-both-assoc : (x y z : Out Recs) → both x (both y z) ≡ both (both x y) z
-both-assoc x y z = λ i. (sym (join-assoc (x .0) (y .0) (z .0)) i, sym (append-assoc (x .1) (y .1) (z .1)) i, z .2)
 
 -- k are left from c on, of the n from `at` on, and `many` records were made
 pub record Itemizing (list tree : List ℕ) (scope : Scope) (top : Bool) (left n at : ℕ) (o0 o g0 g : List ℕ) (s0 s : State) (k c many : ℕ) : Type 0 where

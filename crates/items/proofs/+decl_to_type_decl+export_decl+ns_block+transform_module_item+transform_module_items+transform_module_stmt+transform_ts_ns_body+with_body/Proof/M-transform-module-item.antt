@@ -5,7 +5,7 @@ use Rattle.definition.specs.Tree.{treeAt}
 use Rattle.definition.proofs.Children.{itself}
 use Rattle.typing.proofs.Props.{gives-none}
 use Rattle.items.proofs.Inits.{told, told-not}
-use Rattle.items.proofs.Exports.{gives-as}
+use Rattle.typing.proofs.Whole.{gives-as}
 use Rattle.items.proofs.Items.{mark-of, told-in, told-out, Kept, kept-gives, item-kept, item-dropped, item-export, item-default, item-expr, item-decl}
 use Rattle.items.proofs.transform_module_item.Reads as transform-module-item
 use Rattle.items.proofs.export_decl.Reads as export-decl
