@@ -11,6 +11,7 @@ use Rattle.definition.specs.Record.{headOf, kidsOf, markOf, is, isNo, du
 use Rattle.definition.specs.Helpers.{anyTypeAnn}
 use Rattle.definition.specs.Names.{validPropName}
 use Rattle.definition.specs.Typing.{orAny}
+use Rattle.definition.specs.ChildNames.{paPattern, meKey, meFunction, cpKey, cpType, cpValue, bdName, bdType, pbType, agLeft, agRight}
 
 -- the flags of a Cp without its named ones, 1 and 2: "Value, declare, definite go"
 abbrev pub propFlags : ℕ → ℕ
@@ -24,7 +25,7 @@ typeOr f t n = ifM (isNo t) f (pure t) n
 
 -- `handle_func_param_ident`: "A Bd parameter without type: any, d2 at it"
 unfoldable pub handleFuncParamIdent : Rec → ℕ → Out Rec
-handleFuncParamIdent p n = wrap (headOf p) (atKid 1 (typeOr (λ n. (anyTypeAnn dummySp, diag "d2" (headOf p) ∷ [], n))) (kidsOf p) n)
+handleFuncParamIdent p n = wrap (headOf p) (atKid bdType (typeOr (λ n. (anyTypeAnn dummySp, diag "d2" (headOf p) ∷ [], n))) (kidsOf p) n)
 
 -- patterns, as far as parameters tell them apart
 pub data Pattern : Type 0 where
@@ -43,9 +44,9 @@ module _ (ty : Typing) where
   -- `handle_func_param_assign`: "Ag over Bd, Pb, Po becomes the left side, optional"; any other Ag stays as it is. Optional are a Bd's Id, a Pb, a Po
   unfoldable pub handleFuncParamAssign : Pattern → Rec → Rec → Rec → ℕ → Out Rec
   handleFuncParamAssign pIdent left right whole n =
-      onValue (λ (ks : Recs). rec (headOf left) (setKid 0 (flagged (kid 0 ks)) ks)) (atKid 1 (typeOr (inferExprFallbackAny right)) (kidsOf left) n)
+      onValue (λ (ks : Recs). rec (headOf left) (setKid bdName (flagged (kid bdName ks)) ks)) (atKid bdType (typeOr (inferExprFallbackAny right)) (kidsOf left) n)
   handleFuncParamAssign pBox left right whole n =
-      wrap (headOf (flagged left)) (atKid 0 (typeOr (inferExprFallbackAny right)) (kidsOf left) n)
+      wrap (headOf (flagged left)) (atKid pbType (typeOr (inferExprFallbackAny right)) (kidsOf left) n)
   handleFuncParamAssign pAssign left right whole n = pure whole n
   handleFuncParamAssign pOther left right whole n = pure whole n
 
@@ -53,8 +54,8 @@ module _ (ty : Typing) where
   unfoldable pub handlePatternBy : Pattern → Rec → ℕ → Out Rec
   handlePatternBy pIdent p n = handleFuncParamIdent p n
   handlePatternBy pAssign p n =
-      let left : Rec = kid 0 (kidsOf p) in
-      handleFuncParamAssign (patternKind (markOf left)) left (kid 1 (kidsOf p)) p n
+      let left : Rec = kid agLeft (kidsOf p) in
+      handleFuncParamAssign (patternKind (markOf left)) left (kid agRight (kidsOf p)) p n
   handlePatternBy pBox p n = pure p n
   handlePatternBy pOther p n = pure p n
 
@@ -63,7 +64,7 @@ module _ (ty : Typing) where
 
   -- `handle_func_param`, and `handle_ts_param_props` for a Pp; an Op is left as it is
   unfoldable pub handleFuncParam : Rec → ℕ → Out Rec
-  handleFuncParam p n = ifM (is "Pa" p || is "Pp" p) (λ n. wrap (headOf p) (atKid 0 handlePattern (kidsOf p) n)) (pure p) n
+  handleFuncParam p n = ifM (is "Pa" p || is "Pp" p) (λ n. wrap (headOf p) (atKid paPattern handlePattern (kidsOf p) n)) (pure p) n
 
   -- "`Fu` (flags 1 async, 2 generator) Op? type? Op? Pa*: type parameters, return type, body": "Bodies go. Setters lose the return type"
   unfoldable pub functionPart : Bool → ℕ → Rec → ℕ → Out Rec
@@ -89,7 +90,7 @@ module _ (ty : Typing) where
   unfoldable pub method : Rec → Option Rec → ℕ → Out Recs
   method r none n = pure nil n
   method r (some key) n =
-      onValue (λ (ks : Recs). one (rec (headOf r) (setKid 0 key ks))) (atKid 1 (handleFunction (has1 (headOf r))) (kidsOf r) n)
+      onValue (λ (ks : Recs). one (rec (headOf r) (setKid meKey key ks))) (atKid meFunction (handleFunction (has1 (headOf r))) (kidsOf r) n)
 
   -- "Cp without type but with value: typed (off, off), else any with no diagnostic of its own"
   abbrev pub propType : Rec → Rec → ℕ → Out Rec
@@ -99,10 +100,10 @@ module _ (ty : Typing) where
   unfoldable pub classProp : Rec → Option Rec → ℕ → Out Recs
   classProp r none n = pure nil n
   classProp r (some key) n =
-      let value : Rec = kid 2 (kidsOf r) in
+      let value : Rec = kid cpValue (kidsOf r) in
       onValue
-      (λ (ks : Recs). one (rec (withFlags (headOf r) (propFlags (headOf r .flags))) (setKid 0 key (setKid 2 (gone value) ks))))
-      (atKid 1 (propType value) (kidsOf r) n)
+      (λ (ks : Recs). one (rec (withFlags (headOf r) (propFlags (headOf r .flags))) (setKid cpKey key (setKid cpValue (gone value) ks))))
+      (atKid cpType (propType value) (kidsOf r) n)
 
 -- ---- `class_body_to_type`
 
@@ -119,8 +120,8 @@ module _ (list : List ℕ) (ctx : ℕ) (ty : Typing) where
   -- "Co and Me whose range is listed go, then Dm and Me|Cp without a valid key, silently"
   unfoldable pub memberBy : Member → Rec → ℕ → Out Recs
   memberBy mConstructor r n = ifM (listed list (headOf r)) (pure nil) (constructor ty r) n
-  memberBy mMethod r n = ifM (listed list (headOf r)) (pure nil) (method ty r (validPropName ctx (kid 0 (kidsOf r)))) n
-  memberBy mProp r n = classProp ty r (validPropName ctx (kid 0 (kidsOf r))) n
+  memberBy mMethod r n = ifM (listed list (headOf r)) (pure nil) (method ty r (validPropName ctx (kid meKey (kidsOf r)))) n
+  memberBy mProp r n = classProp ty r (validPropName ctx (kid cpKey (kidsOf r))) n
   memberBy mDropped r n = pure nil n
   memberBy mKept r n = pure (one r) n
 

@@ -9,11 +9,12 @@ use Rattle.definition.specs.Grammar.{mark}
 use Rattle.definition.specs.Check.{fine, deepest, checkTree}
 use Rattle.definition.specs.Record.{markOf, kid, diagsBytes}
 use Rattle.definition.specs.Transform.{transform, done, textsFit, call}
+use Rattle.definition.specs.ChildNames.{xeExpression}
 
 -- "An expression exported as default is what an Xe holds, at any depth": every one in a tree is an Id
 abbrev mutual
   pub ExportsIds : Rec → Type 0
-  ExportsIds (rec h ks) = (h .mark ≡ mark "Xe" → markOf (kid 0 ks) ≡ mark "Id") × AllExportIds ks
+  ExportsIds (rec h ks) = (h .mark ≡ mark "Xe" → markOf (kid xeExpression ks) ≡ mark "Id") × AllExportIds ks
 
   pub AllExportIds : Recs → Type 0
   AllExportIds nil = Unit {0}

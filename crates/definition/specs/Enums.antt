@@ -5,6 +5,7 @@ use lib.Dec.{eqb}
 use Rattle.definition.specs.Tree.{Rec, Recs, rec, nil, cons}
 use Rattle.definition.specs.Grammar.{mark}
 use Rattle.definition.specs.Record.{kidsOf, is, isNo, absent, kid, Out, pure, ifM, second}
+use Rattle.definition.specs.ChildNames.{ocMember, asType, tlLiteral}
 
 -- "An Em init stays only if it is Id, Nu, Ss, Mb over a valid one, Oc of such Mb, Bn of two valid, Te of all valid, Pr of valid, or As|Ta with a
 -- number literal type"
@@ -21,16 +22,16 @@ initKind m =
 
 -- `valid_enum_ts_type`: `TsLit::Number`
 abbrev pub validEnumTsType : Rec → Bool
-validEnumTsType t = is "Tl" t && is "Nu" (kid 0 (kidsOf t))
+validEnumTsType t = is "Tl" t && is "Nu" (kid tlLiteral (kidsOf t))
 
 -- `first`, `both` and `all` say whether the first child, the first two and all expressions are valid
 unfoldable pub validBy : Init → Recs → Bool → Bool → Bool → Bool
 validBy iBin ks first both all = both
 validBy iOver ks first both all = first
-validBy iOptChain ks first both all = is "Mb" (kid 0 ks) && first
+validBy iOptChain ks first both all = is "Mb" (kid ocMember ks) && first
 validBy iValid ks first both all = true
 validBy iTpl ks first both all = all
-validBy iTyped ks first both all = validEnumTsType (kid 1 ks)
+validBy iTyped ks first both all = validEnumTsType (kid asType ks)
 validBy iOther ks first both all = false
 
 unfoldable mutual

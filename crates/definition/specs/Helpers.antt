@@ -8,6 +8,7 @@ use lib.Dec.{eqb}
 use Rattle.definition.specs.Tree.{Rec, Recs, rec, nil, cons}
 use Rattle.definition.specs.Grammar.{mark}
 use Rattle.definition.specs.Record.{text, sameText, headOf, kidsOf, textOf, is, contextOf, symbolOf, Range, dummySp, made, fresh, absent, ident, has1, kid, one, ends}
+use Rattle.definition.specs.ChildNames.{mbObject, mbProperty}
 
 -- ---- small types; each is made with a range, which is its first argument
 
@@ -59,8 +60,8 @@ objectFreezeCallArg ctx nil = false
 objectFreezeCallArg ctx (cons callee nil) = false
 objectFreezeCallArg ctx (cons callee (cons arg rest)) =
     is "Mb" callee && (
-    isGlobal ctx "Object" (kid 0 (kidsOf callee)) && (
-    (is "Ki" (kid 1 (kidsOf callee)) && sameText (textOf (kid 1 (kidsOf callee))) (text "freeze")) && (
+    isGlobal ctx "Object" (kid mbObject (kidsOf callee)) && (
+    (is "Ki" (kid mbProperty (kidsOf callee)) && sameText (textOf (kid mbProperty (kidsOf callee))) (text "freeze")) && (
     not (is "Op" arg) && (ends rest && not (is "Sp" arg)))))
 
 -- ---- `tpl_to_ts_type`

@@ -13,6 +13,7 @@ use Rattle.definition.specs.Names.{genUniqueName}
 use Rattle.definition.specs.Typing.{orAny}
 use Rattle.definition.specs.Classes.{typeOr, handleFunction, class}
 use Rattle.definition.specs.Enums.{enumMember}
+use Rattle.definition.specs.ChildNames.{xdDeclaration, xeExpression, fdFunction, cdClass, vrPattern, vrInit, fuBody, bdType}
 
 -- ---- kinds
 
@@ -61,19 +62,20 @@ module _ (ty : Typing) where
   -- the pattern of a Vr at h: "Other patterns give d1 at Vr"
   unfoldable pub declaratorPattern : Head → Rec → Rec → ℕ → Out Rec
   declaratorPattern h init p n =
-      ifM (is "Bd" p) (λ n. wrap (headOf p) (atKid 1 (typeOr (declaratorType (headOf p) init)) (kidsOf p) n)) (λ n. (p, diag "d1" h ∷ [], n)) n
+      ifM (is "Bd" p) (λ n. wrap (headOf p) (atKid bdType (typeOr (declaratorType (headOf p) init)) (kidsOf p) n)) (λ n. (p, diag "d1" h ∷ [], n)) n
 
   -- a Vr: "Every init goes"; an Op is left as it is
   unfoldable pub declarator : Rec → ℕ → Out Rec
   declarator r n =
-      let init : Rec = kid 1 (kidsOf r) in
+      let init : Rec = kid vrInit (kidsOf r) in
       ifM (is "Vr" r)
-      (λ n. onValue (λ (ks : Recs). rec (headOf r) (setKid 1 (gone init) ks)) (atKid 0 (declaratorPattern (headOf r) init) (kidsOf r) n))
+      (λ n. onValue (λ (ks : Recs). rec (headOf r) (setKid vrInit (gone init) ks)) (atKid vrPattern (declaratorPattern (headOf r) init) (kidsOf r) n))
       (pure r)
       n
 
 -- ---- `ExportDefaultDecl`: "Xd functions lose the body only; their parameters are untouched"
 
+-- the part of a Fu at each place: only that at `fuBody` goes
 abbrev pub bodyPart : ℕ → Rec → ℕ → Out Rec
 bodyPart zero r n = pure r n
 bodyPart (suc zero) r n = pure r n
@@ -92,7 +94,7 @@ constOf i t =
 -- an Xe with the type of its expression, and the number of the name: "Untyped: kept whole, no diagnostic of its own"
 unfoldable pub defaultTyped : Head → Recs → ℕ → Option Rec → Recs
 defaultTyped h ks i none = one (rec h ks)
-defaultTyped h ks i (some t) = cons (constOf i t) (one (rec h (setKid 0 (ident dummySp (genUniqueName i)) ks)))
+defaultTyped h ks i (some t) = cons (constOf i t) (one (rec h (setKid xeExpression (ident dummySp (genUniqueName i)) ks)))
 
 -- "get declare at module level and lose it inside Nb"
 abbrev pub declared : Bool → Head → Head
@@ -109,8 +111,8 @@ stmtOf h o = given (o .0) (nil, o .1 ++ (diag "d1" h ∷ []), o .2) (λ d. (one 
 module _ (list : List ℕ) (ctx : ℕ) (ty : Typing) where
   -- `decl_to_type_decl`; `ns` transforms the children of an Ns. "Exported Us gives d5 at Us"
   unfoldable pub declToTypeDecl : Decl → Head → Recs → Bool → (ℕ → Out Recs) → ℕ → Out (Option Rec)
-  declToTypeDecl dClass h ks top ns n = onValue some (wrap (declared top h) (atKid 1 (class list ctx ty) ks n))
-  declToTypeDecl dFn h ks top ns n = onValue some (wrap (declared top h) (atKid 1 (handleFunction ty false) ks n))
+  declToTypeDecl dClass h ks top ns n = onValue some (wrap (declared top h) (atKid cdClass (class list ctx ty) ks n))
+  declToTypeDecl dFn h ks top ns n = onValue some (wrap (declared top h) (atKid fdFunction (handleFunction ty false) ks n))
   declToTypeDecl dVar h ks top ns n = onValue some (wrap (declared top h) (each (λ i. declarator ty) 0 ks n))
   declToTypeDecl dEnum h ks top ns n = onValue some (wrap (declared top h) (each (λ i. enumMember) 0 ks n))
   declToTypeDecl dModule h ks top ns n = onValue some (wrap (declared top h) (ns n))
@@ -141,21 +143,21 @@ module _ (list : List ℕ) (ctx : ℕ) (ty : Typing) where
 
   -- `ModuleDecl::ExportDefaultDecl`: "Xd with Fx, goes if the range .. is in the overload list"
   unfoldable pub exportDefaultDecl : Default → Head → Recs → ℕ → Out Recs
-  exportDefaultDecl xClass h ks n = single (wrap h (atKid 0 (second (class list ctx ty)) ks n))
-  exportDefaultDecl xFn h ks n = ifM (listed list h) (pure nil) (λ n. single (wrap h (atKid 0 (second withoutBody) ks n))) n
+  exportDefaultDecl xClass h ks n = single (wrap h (atKid xdDeclaration (second (class list ctx ty)) ks n))
+  exportDefaultDecl xFn h ks n = ifM (listed list h) (pure nil) (λ n. single (wrap h (atKid xdDeclaration (second withoutBody) ks n))) n
   exportDefaultDecl xOther h ks n = pure (one (rec h ks)) n
 
   -- `ModuleDecl::ExportDefaultExpr`: "Xe of Id passes. Else the name counter rises (1 first)" and the expression is typed "(off, on)"
   unfoldable pub exportDefaultExpr : Head → Recs → ℕ → Out Recs
   exportDefaultExpr h ks n =
-      ifM (is "Id" (kid 0 ks)) (pure (one (rec h ks))) (λ n. onValue (defaultTyped h ks (suc n)) (ty (kid 0 ks) false true (suc n))) n
+      ifM (is "Id" (kid xeExpression ks)) (pure (one (rec h ks))) (λ n. onValue (defaultTyped h ks (suc n)) (ty (kid xeExpression ks) false true (suc n))) n
 
   -- the arms of `transform_module_items`; `ns` transforms the children of an Ns, `export` those of an Ed
   unfoldable pub itemBy : Item → Head → Recs → Bool → (ℕ → Out Recs) → (ℕ → Out Recs) → ℕ → Out Recs
   itemBy iKept h ks top ns export n = pure (one (rec h ks)) n
   itemBy iDropped h ks top ns export n = pure nil n
   itemBy iExport h ks top ns export n = export n
-  itemBy iDefault h ks top ns export n = exportDefaultDecl (defaultKind (markOf (kid 0 ks))) h ks n
+  itemBy iDefault h ks top ns export n = exportDefaultDecl (defaultKind (markOf (kid xdDeclaration ks))) h ks n
   itemBy iDefaultExpr h ks top ns export n = exportDefaultExpr h ks n
   itemBy iDecl h ks top ns export n = transformModuleStmt (declKind (h .mark)) h ks top ns n
 

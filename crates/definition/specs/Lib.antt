@@ -3,6 +3,7 @@ pub mod Grammar
 pub mod Check
 pub mod Children
 pub mod Record
+pub mod ChildNames
 pub mod Counting
 pub mod Helpers
 pub mod Prescan

@@ -10,6 +10,7 @@ use Rattle.definition.specs.Tree.{Rec, Recs, rec, nil, cons}
 use Rattle.definition.specs.Grammar.{mark}
 use Rattle.definition.specs.Record.{text, sameText, headOf, kidsOf, textOf, is, ranged, kid, one, ends}
 use Rattle.definition.specs.Helpers.{isGlobal}
+use Rattle.definition.specs.ChildNames.{mbObject, mbProperty}
 
 -- ---- `gen_unique_name`
 
@@ -61,7 +62,7 @@ anyText (n ∷ ns) t = sameText n t || anyText ns t
 -- "Mb of unresolved `Symbol` with one of the 16 names": of an Mb with these children
 unfoldable pub isWellKnownSymbolExpr : ℕ → Recs → Bool
 isWellKnownSymbolExpr ctx ks =
-    isGlobal ctx "Symbol" (kid 0 ks) && (is "Ki" (kid 1 ks) && anyText wellKnownSymbolNames (textOf (kid 1 ks)))
+    isGlobal ctx "Symbol" (kid mbObject ks) && (is "Ki" (kid mbProperty ks) && anyText wellKnownSymbolNames (textOf (kid mbProperty ks)))
 
 -- ---- `prop_name_from_expr`
 

@@ -6,6 +6,7 @@ use lib.Dec.{eqb}
 use Rattle.definition.specs.Tree.{Rec, Recs, rec, nil, cons}
 use Rattle.definition.specs.Grammar.{mark}
 use Rattle.definition.specs.Record.{text, sameText, headOf, kidsOf, markOf, textOf, is, isNo, symbolOf, has2, kid}
+use Rattle.definition.specs.ChildNames.{edDeclaration, fdName, cdName, cdClass, vrPattern, vrInit, clTypeParams, bdName, bdType, asType, rfName}
 
 -- ---- `is_array_type`
 
@@ -25,7 +26,7 @@ refersToArray i = is "Id" i && (sameText (symbolOf i) (text "Array") || sameText
 unfoldable pub isArrayTypeBy : ArrayType → Recs → Bool → Bool
 isArrayTypeBy aArray ks below = true
 isArrayTypeBy aReadonly ks below = below
-isArrayTypeBy aRef ks below = refersToArray (kid 0 ks)
+isArrayTypeBy aRef ks below = refersToArray (kid rfName ks)
 isArrayTypeBy aOther ks below = false
 
 unfoldable mutual
@@ -50,7 +51,7 @@ arrayInitKind m =
 unfoldable pub isArrayLitInitBy : ArrayInit → Recs → Bool → Bool
 isArrayLitInitBy iArray ks below = true
 isArrayLitInitBy iThrough ks below = below
-isArrayLitInitBy iAs ks below = isArrayType (kid 1 ks)
+isArrayLitInitBy iAs ks below = isArrayType (kid asType ks)
 isArrayLitInitBy iOther ks below = false
 
 unfoldable mutual
@@ -75,7 +76,7 @@ addFn arrayTyped = false
 -- `add_class`: a Cl, without type parameters for the second set
 abbrev pub addClass : Question → Rec → Bool
 addClass typeofSafe cl = true
-addClass nonGenericClass cl = isNo (kid 0 (kidsOf cl))
+addClass nonGenericClass cl = isNo (kid clTypeParams (kidsOf cl))
 addClass arrayTyped cl = false
 
 -- `Decl::Var`, a const with the type t and the init v: typed, or a function; an array by its type, or by its init where it has none
@@ -91,8 +92,8 @@ named name i = is "Id" i && sameText (textOf i) name
 -- a Vr whose pattern is a Bd
 unfoldable pub addDeclarator : Question → List ℕ → Rec → Bool
 addDeclarator q name r =
-    let p : Rec = kid 0 (kidsOf r) in
-    (is "Vr" r && is "Bd" p) && (named name (kid 0 (kidsOf p)) && addConst q (kid 1 (kidsOf p)) (kid 1 (kidsOf r)))
+    let p : Rec = kid vrPattern (kidsOf r) in
+    (is "Vr" r && is "Bd" p) && (named name (kid bdName (kidsOf p)) && addConst q (kid bdType (kidsOf p)) (kid vrInit (kidsOf r)))
 
 unfoldable pub addDeclarators : Question → List ℕ → Recs → Bool
 addDeclarators q name nil = false
@@ -108,8 +109,8 @@ declaredKind m =
     (cond (eqb m (mark "Cd") || eqb m (mark "Cx")) dClass (cond (eqb m (mark "Vd")) dVar dOther))
 
 unfoldable pub addDeclBy : Declared → Question → List ℕ → Rec → Bool
-addDeclBy dFn q name r = named name (kid 0 (kidsOf r)) && addFn q
-addDeclBy dClass q name r = named name (kid 0 (kidsOf r)) && addClass q (kid 1 (kidsOf r))
+addDeclBy dFn q name r = named name (kid fdName (kidsOf r)) && addFn q
+addDeclBy dClass q name r = named name (kid cdName (kidsOf r)) && addClass q (kid cdClass (kidsOf r))
 addDeclBy dVar q name r = has2 (headOf r) && addDeclarators q name (kidsOf r)
 addDeclBy dOther q name r = false
 
@@ -118,7 +119,7 @@ addDecl q name r = addDeclBy (declaredKind (markOf r)) q name r
 
 -- an item: a declaration, or what an Ed or an Xd holds
 abbrev pub addItem : Question → List ℕ → Rec → Bool
-addItem q name r = addDecl q name (cond (is "Ed" r || is "Xd" r) (kid 0 (kidsOf r)) r)
+addItem q name r = addDecl q name (cond (is "Ed" r || is "Xd" r) (kid edDeclaration (kidsOf r)) r)
 
 -- ---- "The prescan sees module-level names only"
 

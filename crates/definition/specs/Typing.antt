@@ -11,6 +11,7 @@ use Rattle.definition.specs.Record.{text, sameText, headOf, kidsOf, mark
 use Rattle.definition.specs.Helpers.{tsKeywordType, anyTypeAnn, tsReadonly, referenceTo, tsLitType, tsTupleElement, tsTypeQuery, objectFreezeCallArg, tplToTsType, Lit, lStr, lBool, lNull, lNum, lBigInt, lRegex, lJsxText, litKind, maybeLitToTsType}
 use Rattle.definition.specs.Prescan.{PrescannedModuleIds}
 use Rattle.definition.specs.Names.{digit, genUniqueName}
+use Rattle.definition.specs.ChildNames.{bdName, agLeft, peExpression, kcExpression, kvKey, kvValue, shName, awTypeParams, awReturnType, miOperand, neClass, neTypeArguments, asType}
 
 -- ---- `readonly_of`
 
@@ -129,7 +130,7 @@ unfoldable pub keyExpr : Key → Rec → Rec
 keyExpr kIdent k = identAt (headOf k) (textOf k)
 keyExpr kStr k = k
 keyExpr kNum k = k
-keyExpr kComputed k = kid 0 (kidsOf k)
+keyExpr kComputed k = kid kcExpression (kidsOf k)
 
 -- "`Ps` (1 readonly, 2 computed, 4 optional)"
 abbrev pub keyFlag : Key → ℕ
@@ -153,8 +154,8 @@ propKind m =
 -- `Prop::KeyValue`, with the type of its value: "untyped value any, d2 at it"
 abbrev pub keyValue : Recs → Bool → Out (Option Rec) → Out Recs
 keyValue ks r o =
-    let k : Rec = kid 0 ks in
-    let v : Out Rec = orAny o (diag "d2" (headOf (kid 1 ks)) ∷ []) in
+    let k : Rec = kid kvKey ks in
+    let v : Out Rec = orAny o (diag "d2" (headOf (kid kvValue ks)) ∷ []) in
     onValue (λ t. one (propertySignature (keyExpr (keyKind (markOf k)) k) r (keyFlag (keyKind (markOf k))) t)) v
 
 -- `Prop::Shorthand` at h, with the type of its Id i: "untyped Sh .. skipped, d3 at it" (reading 10)
@@ -179,7 +180,7 @@ bindingIdent h name t = rec (ranged "Bd" h []) (cons (identAt h name) (one t))
 -- a typed default of the pattern `left`: the name is its own, or is made after the default has been typed
 unfoldable pub defaultParam : Head → Rec → Rec → List Diag → ℕ → Out Recs
 defaultParam h left t ds n =
-    cond (is "Bd" left) (one (bindingIdent h (symbolOf (kid 0 (kidsOf left))) t), ds, n)
+    cond (is "Bd" left) (one (bindingIdent h (symbolOf (kid bdName (kidsOf left))) t), ds, n)
     (one (bindingIdent h (genUniqueName (suc n)) t), ds, suc n)
 
 -- "a parameter whose default is untyped is left out"; `right` types the default
@@ -187,8 +188,8 @@ unfoldable pub paramBy : Param → Head → Recs → (ℕ → Out (Option Rec)) 
 paramBy qKeep h ks right n = pure (one (rec h ks)) n
 paramBy qAssign h ks right n =
     let o : Out (Option Rec) = right n in
-    given (o .0) (nil, o .1, o .2) (λ t. defaultParam h (kid 0 ks) t (o .1) (o .2))
-paramBy qExpr h ks right n = (nil, diag "d1" (headOf (kid 0 ks)) ∷ [], n)
+    given (o .0) (nil, o .1, o .2) (λ t. defaultParam h (kid agLeft ks) t (o .1) (o .2))
+paramBy qExpr h ks right n = (nil, diag "d1" (headOf (kid peExpression ks)) ∷ [], n)
 paramBy qOther h ks right n = pure nil n
 
 -- ---- `Expr::Fn` and `Expr::Arrow`
@@ -196,7 +197,7 @@ paramBy qOther h ks right n = pure nil n
 -- "`Ft` (function) Op? type pattern*", from the head and the children of a Fu or an Aw, which begin with the type parameters and the return type
 abbrev pub fnType : Head → Recs → Recs → Rec
 fnType h ks params =
-    rec (ranged "Ft" h []) (cons (kid 0 ks) (cons (given (present (kid 1 ks)) (anyTypeAnn dummySp) (λ t. t)) params))
+    rec (ranged "Ft" h []) (cons (kid awTypeParams ks) (cons (given (present (kid awReturnType ks)) (anyTypeAnn dummySp) (λ t. t)) params))
 
 -- ---- `expr_to_ts_type`
 
@@ -243,8 +244,8 @@ module _ (ids : PrescannedModuleIds) (ctx : ℕ) where
   -- `Expr::New`: "of a non-generic class declared in this module", without type arguments
   unfoldable pub newType : Recs → Option Rec
   newType ks =
-      let i : Rec = kid 0 ks in
-      cond (is "Id" i && (isNo (kid 1 ks) && ids .nonGenericClasses (textOf i))) (some (referenceTo dummySp i)) none
+      let i : Rec = kid neClass ks in
+      cond (is "Id" i && (isNo (kid neTypeArguments ks) && ids .nonGenericClasses (textOf i))) (some (referenceTo dummySp i)) none
 
   -- "A spread of an array-typed Id or of an Ar (r off) is Rt; any other fails the array"; `typed` types the Ar
   unfoldable pub spreadBy : Spread → Rec → (ℕ → Out (Option Rec)) → ℕ → Out (Option Rec)
@@ -255,7 +256,7 @@ module _ (ids : PrescannedModuleIds) (ctx : ℕ) where
   -- a property by its kind; `value` types its second child
   unfoldable pub propBy : Prop → Head → Recs → Bool → Bool → (ℕ → Out (Option Rec)) → ℕ → Out Recs
   propBy pKeyValue h ks c r value n = keyValue ks r (value n)
-  propBy pShorthand h ks c r value n = shorthand h (kid 0 ks) r (identToTsType (kid 0 ks) c) n
+  propBy pShorthand h ks c r value n = shorthand h (kid shName ks) r (identToTsType (kid shName ks) c) n
   propBy pSpread h ks c r value n = (nil, diag "d4" h ∷ [], n)
   propBy pOther h ks c r value n = (nil, diag "d3" h ∷ [], n)
   propBy pOp h ks c r value n = pure nil n
@@ -272,12 +273,12 @@ module _ (ids : PrescannedModuleIds) (ctx : ℕ) where
   exprBy xLit h ks c r below n = pure (maybeLitToTsType (litKind (h .mark)) (rec h ks) c) n
   exprBy xConst h ks c r below n = below .first true true n
   exprBy xSatisfies h ks c r below n = below .first c r n
-  exprBy xAs h ks c r below n = pure (present (kid 1 ks)) n
+  exprBy xAs h ks c r below n = pure (present (kid asType ks)) n
   exprBy xFn h ks c r below n = below .fn n
   exprBy xArrow h ks c r below n = onValue (λ (ps : Recs). some (fnType h ks ps)) (below .params n)
   exprBy xTpl h ks c r below n = pure (some (tplToTsType ks c)) n
   exprBy xIdent h ks c r below n = pure (identToTsType (rec h ks) c) n
-  exprBy xUnary h ks c r below n = pure (minusBy (litKind (markOf (kid 0 ks))) (kid 0 ks) c) n
+  exprBy xUnary h ks c r below n = pure (minusBy (litKind (markOf (kid miOperand ks))) (kid miOperand ks) c) n
   exprBy xCall h ks c r below n = ifM (objectFreezeCallArg ctx ks) (λ n. frozen (below .second c r n)) (pure none) n
   exprBy xNew h ks c r below n = pure (newType ks) n
   exprBy xOther h ks c r below n = pure none n
