@@ -22,6 +22,45 @@ use Rattle.definition.proofs.Accepted.{Accepted, accepted, child-accept
 use Rattle.definition.proofs.Children.{some-left, itself, tree-is, children, others}
 use Rattle.definition.proofs.Tests.{and-true}
 
+-- ---- how many children there are at least
+
+-- the marks that are asked about, each with its number
+abbrev leastTable : List (ℕ × ℕ)
+leastTable =
+    (mark "Ed", 1) ∷ (mark "Xd", 1) ∷ (mark "Xe", 1) ∷ (mark "Fd", 2) ∷ (mark "Cd", 2) ∷ (mark "Ns", 2) ∷ (mark "Nd", 2) ∷ (mark "Vr", 2) ∷ (mark "Em", 2) ∷
+    (mark "Fu", 3) ∷ (mark "Cl", 1) ∷ (mark "Co", 1) ∷ (mark "Me", 2) ∷ (mark "Cp", 3) ∷ (mark "Pa", 1) ∷ (mark "Pp", 1) ∷
+    (mark "Bd", 2) ∷ (mark "Pb", 1) ∷ (mark "Po", 1) ∷ (mark "Ag", 2) ∷
+    (mark "Fx", 2) ∷ (mark "Cx", 2) ∷ (mark "Aw", 2) ∷ (mark "Ca", 1) ∷ (mark "Mb", 2) ∷ (mark "Bn", 2) ∷ (mark "Oc", 1) ∷ (mark "Pr", 1) ∷
+    (mark "As", 2) ∷ (mark "Ta", 2) ∷ (mark "Tl", 1) ∷
+    []
+
+abbrev leastIn : List (ℕ × ℕ) → ℕ → ℕ
+leastIn [] m = 0
+leastIn (x ∷ xs) m = cond (eqb (x .0) m) (x .1) (leastIn xs m)
+
+-- the number of a mark, and 0 for one that is not asked about
+abbrev pub leastOf : ℕ → ℕ
+leastOf m = leastIn leastTable m
+
+-- each is what the grammar's row asks
+abbrev asked : List (ℕ × ℕ) → Bool
+asked [] = true
+asked (x ∷ xs) = eqb (least (slotsOf (x .0))) (x .1) && asked xs
+
+all-asked : asked leastTable ≡ true
+unfolding grammar known slots place least
+all-asked = refl
+
+least-first : (x : ℕ × ℕ) (k m : ℕ) → eqb (least (slotsOf (x .0))) (x .1) ≡ true → k ≤ least (slotsOf m) → (b : Bool) → eqb (x .0) m ≡ b → cond b (x .1) k ≤ least (slotsOf m)
+least-first x k m e h true p = omega (arith, eqb-true (least (slotsOf (x .0))) (x .1) e, ap (λ (i : ℕ). least (slotsOf i)) (eqb-true (x .0) m p))
+least-first x k m e h false p = h
+
+least-in : (xs : List (ℕ × ℕ)) → asked xs ≡ true → (m : ℕ) → leastIn xs m ≤ least (slotsOf m)
+least-in [] e m = omega arith
+least-in (x ∷ xs) e m =
+    let b = and-true (eqb (least (slotsOf (x .0))) (x .1)) (asked xs) e in
+    least-first x (leastIn xs m) m (b .0) (least-in xs (b .1) m) (eqb (x .0) m) refl
+
 -- ---- sets of marks
 
 -- a mark in a set that is not its first is one of the others
@@ -191,9 +230,12 @@ module _ (left : ℕ) (s : List ℕ) (at : ℕ) (a : AcceptedAt left s at) where
   pub kid-none : (i : ℕ) → countAt s at ≤ i → kid i (kidsOf (treeAt left s at)) ≡ absent
   kid-none i h = ap (kid i) kids-are ∙ kid-read-none (treeAt (left - 1) s) (endAt (left - 1) s) (countAt s at) (bodyAt s at) i h
 
-  -- a record with the mark m has as many children as its row asks: `at-least m e n refl`
-  pub at-least : (m : ℕ) → markAt s at ≡ m → (n : ℕ) → least (slotsOf m) ≡ n → n ≤ countAt s at
+  -- a record with the mark m has as many children as its row asks
+  at-least : (m : ℕ) → markAt s at ≡ m → (n : ℕ) → least (slotsOf m) ≡ n → n ≤ countAt s at
   at-least m e n l = let z : least (slotsOf (markAt s at)) ≡ n = rw e l in omega (arith, itself left s at a .enough, z)
+
+  has-least : (m : ℕ) → markAt s at ≡ m → leastOf m ≤ countAt s at
+  has-least m e = let z = least-in leastTable all-asked m in let k = at-least m e (least (slotsOf m)) refl in omega arith
 
   apart : Accepted (left - 1) s at (a .slots) (a .past)
   apart = accepted (left - 1) s at (a .slots) (a .past) (subst (λ (k : ℕ). checkAt k s at (a .slots) ≡ fine (a .past)) (some-left left s at a) (a .checked))
@@ -279,3 +321,7 @@ module _ (left : ℕ) (s : List ℕ) (at : ℕ) (a : AcceptedAt left s at) where
   pub bi-text : markAt s at ≡ mark "Bi" → isInteger (textAt s at) ≡ true
   unfolding grammar known forms place hasForm
   bi-text e = form-is (mark "Bi") e integer refl
+
+-- a record with the mark m has as many children as its row asks: `has (mark "Fu") _ _ _ a e : 3 ≤ countAt s at`
+pub has : (m : ℕ) (left : ℕ) (s : List ℕ) (at : ℕ) → AcceptedAt left s at → markAt s at ≡ m → leastOf m ≤ countAt s at
+has m left s at a e = has-least left s at a m e

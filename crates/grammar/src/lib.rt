@@ -2,6 +2,7 @@
 ghost use mathlib.Core.Path.{_≡_};
 ghost use Rattle.definition.specs.Check.{checkTree};
 ghost use Rattle.grammar.specs.Answers.{checked, number};
+use records::DEEPEST;
 
 pub mod overloads;
 mod record;
@@ -30,9 +31,6 @@ pub enum Checked {
 
 // "tree over 524,288 bytes"
 const LONGEST_TREE: usize = 524288;
-
-// "depth over 64 (root is 1)"
-const DEEPEST: usize = 64;
 
 // Refusals 1 to 8 of a tree and an overload list, for every two byte strings.
 pub fn check_tree(tree: &[u8], list: &[u8]) -> Checked

@@ -1,12 +1,12 @@
 // The check of an overload list: document 01's refusal 2.
 ghost use mathlib.Core.Path.{_≡_};
 ghost use Rattle.definition.specs.Check.{listFine};
+use records::ENTRY_END;
+use records::ENTRY_SIZE;
+use records::ENTRY_START;
 
 // "list over 40,960 bytes"
 const LONGEST_LIST: usize = 40960;
-
-// "10-byte entries `ov`, start, end"
-pub const ENTRY_SIZE: usize = 10;
 
 // "ov"
 const OV: u16 = 0x766f;
@@ -27,7 +27,9 @@ pub fn list_fine(list: &[u8]) -> bool
         if records::u16_at(list, ENTRY_SIZE * i) != OV {
             return false;
         }
-        if records::u32_at(list, ENTRY_SIZE * i + 6) < records::u32_at(list, ENTRY_SIZE * i + 2) {
+        if records::u32_at(list, ENTRY_SIZE * i + ENTRY_END)
+            < records::u32_at(list, ENTRY_SIZE * i + ENTRY_START)
+        {
             return false;
         }
         i += 1;

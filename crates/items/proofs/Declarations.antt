@@ -15,7 +15,7 @@ use Rattle.definition.specs.Enums.{enumMember}
 use Rattle.definition.specs.Items.{declarator, bodyPart, withoutBody}
 use Rattle.definition.proofs.Children.{tree-is, children}
 use Rattle.definition.proofs.Converse.{count-readAll}
-use Rattle.definition.proofs.Kids.{head-is, fixed, placed, member-one, at-least, second-in}
+use Rattle.definition.proofs.Kids.{head-is, fixed, placed, member-one, second-in, has}
 use Rattle.records.specs.declared.Head.{Head as Fields}
 use Rattle.records.specs.Fields.{fieldsAt}
 use Rattle.records.specs.Wrote.{top}
@@ -79,19 +79,11 @@ module _ (left : ℕ) (s : List ℕ) (at : ℕ) (a : AcceptedAt left s at) where
 
   -- ---- a function without its body
 
-  pub fu-three : markAt s at ≡ mark "Fu" → 3 ≤ countAt s at
-  unfolding grammar known slots place least
-  fu-three e = at-least left s at a (mark "Fu") e 3 refl
-
-  pub fx-two : markAt s at ≡ mark "Fx" → 2 ≤ countAt s at
-  unfolding grammar known slots place least
-  fx-two e = at-least left s at a (mark "Fx") e 2 refl
-
   pub fu-kids : markAt s at ≡ mark "Fu" → {p0 p1 p2 p3 : ℕ} → p0 ≡ bodyAt s at → p1 ≡ endAt (left - 1) s p0 → p2 ≡ endAt (left - 1) s p1 → p3 ≡ endAt (left - 1) s p2 → Three left s at p0 p1 p2 p3
-  fu-kids m e f g h = kids-three left s at a (fu-three m) e f g h
+  fu-kids m e f g h = kids-three left s at a (has (mark "Fu") left s at a m) e f g h
 
   pub fx-kids : markAt s at ≡ mark "Fx" → {p0 p1 p2 : ℕ} → p0 ≡ bodyAt s at → p1 ≡ endAt (left - 1) s p0 → p2 ≡ endAt (left - 1) s p1 → Two left s at p0 p1 p2
-  fx-kids m e f g = kids-two left s at a (fx-two m) e f g
+  fx-kids m e f g = kids-two left s at a (has (mark "Fx") left s at a m) e f g
 
   pub fx-fu : markAt s at ≡ mark "Fx" → {p0 p1 : ℕ} → p0 ≡ bodyAt s at → p1 ≡ endAt (left - 1) s p0 → markAt s p1 ≡ mark "Fu"
   unfolding marks
@@ -115,7 +107,7 @@ module _ (left : ℕ) (s : List ℕ) (at : ℕ) (a : AcceptedAt left s at) where
 
   pub class-two : (markAt s at ≡ mark "Cd") ⊎ (markAt s at ≡ mark "Cx") → 2 ≤ countAt s at
   unfolding grammar known slots place least
-  class-two = ⊎-elim (λ e. at-least left s at a (mark "Cd") e 2 refl) (λ e. at-least left s at a (mark "Cx") e 2 refl)
+  class-two = ⊎-elim (λ e. has (mark "Cd") left s at a e) (λ e. has (mark "Cx") left s at a e)
 
   pub class-kids : (markAt s at ≡ mark "Cd") ⊎ (markAt s at ≡ mark "Cx") → {p0 p1 p2 : ℕ} → p0 ≡ bodyAt s at → p1 ≡ endAt (left - 1) s p0 → p2 ≡ endAt (left - 1) s p1 → Two left s at p0 p1 p2
   class-kids m e f g = kids-two left s at a (class-two m) e f g
@@ -126,12 +118,8 @@ module _ (left : ℕ) (s : List ℕ) (at : ℕ) (a : AcceptedAt left s at) where
       ⊎-elim (λ q. member-one (markAt s p1) (mark "Cl") (placed (second-in left s at a (mark "Cd") q refl "Cl" refl) (f ∙ ap (endAt (left - 1) s) e) .marks))
       (λ q. member-one (markAt s p1) (mark "Cl") (placed (second-in left s at a (mark "Cx") q refl "Cl" refl) (f ∙ ap (endAt (left - 1) s) e) .marks)) m
 
-  pub fd-two : markAt s at ≡ mark "Fd" → 2 ≤ countAt s at
-  unfolding grammar known slots place least
-  fd-two e = at-least left s at a (mark "Fd") e 2 refl
-
   pub fd-kids : markAt s at ≡ mark "Fd" → {p0 p1 p2 : ℕ} → p0 ≡ bodyAt s at → p1 ≡ endAt (left - 1) s p0 → p2 ≡ endAt (left - 1) s p1 → Two left s at p0 p1 p2
-  fd-kids m e f g = kids-two left s at a (fd-two m) e f g
+  fd-kids m e f g = kids-two left s at a (has (mark "Fd") left s at a m) e f g
 
   pub fd-fu : markAt s at ≡ mark "Fd" → {p0 p1 : ℕ} → p0 ≡ bodyAt s at → p1 ≡ endAt (left - 1) s p0 → markAt s p1 ≡ mark "Fu"
   unfolding grammar known slots place fixed marks

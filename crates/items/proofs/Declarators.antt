@@ -18,7 +18,7 @@ use Rattle.definition.specs.Items.{declaratorType, declaratorPattern, declarato
 use Rattle.definition.proofs.Children.{children}
 use Rattle.definition.proofs.CountingItems.{declarator-within}
 use Rattle.definition.proofs.Counting.{exprToTsType-within}
-use Rattle.definition.proofs.Kids.{head-is, is-mark, not-mark, at-least}
+use Rattle.definition.proofs.Kids.{head-is, is-mark, not-mark, has}
 use Rattle.records.specs.declared.Head.{Head as Fields}
 use Rattle.records.specs.Fields.{fieldsAt}
 use Rattle.records.specs.Wrote.{top}
@@ -45,19 +45,11 @@ pub ready-mode : {left : ℕ} {tree : List ℕ} {at n : ℕ} {scope : Scope} {m 
 ready-mode e r = rw e r
 
 module _ (left : ℕ) (s : List ℕ) (at : ℕ) (a : AcceptedAt left s at) where
-  pub vr-two : markAt s at ≡ mark "Vr" → 2 ≤ countAt s at
-  unfolding grammar known slots place least
-  vr-two e = at-least left s at a (mark "Vr") e 2 refl
-
-  pub bd-two : markAt s at ≡ mark "Bd" → 2 ≤ countAt s at
-  unfolding grammar known slots place least
-  bd-two e = at-least left s at a (mark "Bd") e 2 refl
-
   pub vr-kids : markAt s at ≡ mark "Vr" → {p0 p1 p2 : ℕ} → p0 ≡ bodyAt s at → p1 ≡ endAt (left - 1) s p0 → p2 ≡ endAt (left - 1) s p1 → Two left s at p0 p1 p2
-  vr-kids m e f g = kids-two left s at a (vr-two m) e f g
+  vr-kids m e f g = kids-two left s at a (has (mark "Vr") left s at a m) e f g
 
   pub bd-kids : markAt s at ≡ mark "Bd" → {p0 p1 p2 : ℕ} → p0 ≡ bodyAt s at → p1 ≡ endAt (left - 1) s p0 → p2 ≡ endAt (left - 1) s p1 → Two left s at p0 p1 p2
-  bd-kids m e f g = kids-two left s at a (bd-two m) e f g
+  bd-kids m e f g = kids-two left s at a (has (mark "Bd") left s at a m) e f g
 
 -- ---- the type of a Bd that has none
 

@@ -19,7 +19,7 @@ use Rattle.definition.specs.Classes.{class}
 use Rattle.definition.specs.Items.{Default, xClass, xFn, xOther, defaultKind, bodyPart, withoutBody, constOf, defaultTyped, exportDefaultDecl, exportDefaultExpr}
 use Rattle.definition.specs.Transform.{textsFit, allTextsFit}
 use Rattle.definition.proofs.Children.{child-1}
-use Rattle.definition.proofs.Kids.{head-is, mark-is, flags-is, is-mark, not-mark, at-least}
+use Rattle.definition.proofs.Kids.{head-is, mark-is, flags-is, is-mark, not-mark, has}
 use Rattle.records.specs.declared.Head.{Head as Fields}
 use Rattle.records.specs.Fields.{fieldsAt}
 use Rattle.records.specs.Wrote.{top, Put}
@@ -55,19 +55,11 @@ gives-kept g w d = gives-one (makes-keeps g w d)
 -- ---- the children
 
 module _ (left : ℕ) (s : List ℕ) (at : ℕ) (a : AcceptedAt left s at) where
-  pub xd-one : markAt s at ≡ mark "Xd" → 1 ≤ countAt s at
-  unfolding grammar known slots place least
-  xd-one e = at-least left s at a (mark "Xd") e 1 refl
-
-  pub xe-one : markAt s at ≡ mark "Xe" → 1 ≤ countAt s at
-  unfolding grammar known slots place least
-  xe-one e = at-least left s at a (mark "Xe") e 1 refl
-
   pub xd-kids : markAt s at ≡ mark "Xd" → {p0 p1 : ℕ} → p0 ≡ bodyAt s at → p1 ≡ endAt (left - 1) s p0 → One left s at p0 p1
-  xd-kids m e f = kids-one left s at a (xd-one m) e f
+  xd-kids m e f = kids-one left s at a (has (mark "Xd") left s at a m) e f
 
   pub xe-kids : markAt s at ≡ mark "Xe" → {p0 p1 : ℕ} → p0 ≡ bodyAt s at → p1 ≡ endAt (left - 1) s p0 → One left s at p0 p1
-  xe-kids m e f = kids-one left s at a (xe-one m) e f
+  xe-kids m e f = kids-one left s at a (has (mark "Xe") left s at a m) e f
 
 -- the mark of the first child, at the place that the code computed
 pub mark-there : (s : List ℕ) (at : ℕ) {p n : ℕ} → p ≡ bodyAt s at → markAt s (bodyAt s at) ≡ n → markAt s p ≡ n

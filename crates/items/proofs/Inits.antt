@@ -17,7 +17,7 @@ use Rattle.definition.specs.Record.{kidsOf, is, absent, one, join, kid, Out, pu
 use Rattle.definition.specs.Enums.{Init, iBin, iOver, iOptChain, iValid, iTpl, iTyped, iOther, initKind, validEnumTsType, validBy, validEnumInitExpr, validFirst, validBoth, validAll, enumInit, enumMember}
 use Rattle.definition.specs.Transform.{allTextsFit}
 use Rattle.definition.proofs.Children.{tree-is, children, first-one, others, readAll-more, readAll-none}
-use Rattle.definition.proofs.Kids.{is-mark, not-mark, mark-is, kids-are, at-least}
+use Rattle.definition.proofs.Kids.{is-mark, not-mark, mark-is, kids-are, has}
 use Rattle.records.specs.Whole.{Whole}
 use Rattle.records.specs.Wrote.{top}
 use Rattle.swc_helpers.proofs.Made.{is-whole}
@@ -34,29 +34,13 @@ use Rattle.items.specs.Steps.{recordsAt}
 -- ---- how many children there are
 
 module _ (left : ℕ) (s : List ℕ) (at : ℕ) (a : AcceptedAt left s at) where
-  pub tl-one : markAt s at ≡ mark "Tl" → 1 ≤ countAt s at
-  unfolding grammar known slots place least
-  tl-one e = at-least left s at a (mark "Tl") e 1 refl
-
-  pub bn-two : markAt s at ≡ mark "Bn" → 2 ≤ countAt s at
-  unfolding grammar known slots place least
-  bn-two e = at-least left s at a (mark "Bn") e 2 refl
-
   pub over-one : (markAt s at ≡ mark "Mb") ⊎ (markAt s at ≡ mark "Pr") → 1 ≤ countAt s at
   unfolding grammar known slots place least
-  over-one = ⊎-elim (λ e. let z = at-least left s at a (mark "Mb") e 2 refl in omega arith) (λ e. at-least left s at a (mark "Pr") e 1 refl)
-
-  pub oc-one : markAt s at ≡ mark "Oc" → 1 ≤ countAt s at
-  unfolding grammar known slots place least
-  oc-one e = at-least left s at a (mark "Oc") e 1 refl
+  over-one = ⊎-elim (λ e. let z = has (mark "Mb") left s at a e in omega arith) (λ e. has (mark "Pr") left s at a e)
 
   pub typed-two : (markAt s at ≡ mark "Ta") ⊎ (markAt s at ≡ mark "As") → 2 ≤ countAt s at
   unfolding grammar known slots place least
-  typed-two = ⊎-elim (λ e. at-least left s at a (mark "Ta") e 2 refl) (λ e. at-least left s at a (mark "As") e 2 refl)
-
-  pub em-two : markAt s at ≡ mark "Em" → 2 ≤ countAt s at
-  unfolding grammar known slots place least
-  em-two e = at-least left s at a (mark "Em") e 2 refl
+  typed-two = ⊎-elim (λ e. has (mark "Ta") left s at a e) (λ e. has (mark "As") left s at a e)
 
 -- a test of the code tells the mark
 pub told : {m x n : ℕ} → m ≡ x → m ≡ n → x ≡ n
@@ -135,7 +119,7 @@ module _ (left : ℕ) (s : List ℕ) (at : ℕ) (a : AcceptedAt left s at) where
   -- Bn
   module _ (m : markAt s at ≡ mark "Bn") {p : ℕ} (e : p ≡ bodyAt s at) where
     bn-kids : {q : ℕ} → q ≡ endAt (left - 1) s p → Two left s at p q (endAt (left - 1) s q)
-    bn-kids f = kids-two left s at a (bn-two left s at a m) e f refl
+    bn-kids f = kids-two left s at a (has (mark "Bn") left s at a m) e f refl
 
     pub bn-first : AcceptedAt (left - 1) s p
     bn-first = bn-kids refl .first
@@ -169,7 +153,7 @@ module _ (left : ℕ) (s : List ℕ) (at : ℕ) (a : AcceptedAt left s at) where
   -- Oc
   module _ (m : markAt s at ≡ mark "Oc") {p : ℕ} (e : p ≡ bodyAt s at) where
     oc-kids : One left s at p (endAt (left - 1) s p)
-    oc-kids = kids-one left s at a (oc-one left s at a m) e refl
+    oc-kids = kids-one left s at a (has (mark "Oc") left s at a m) e refl
 
     pub oc-first : AcceptedAt (left - 1) s p
     oc-first = oc-kids .first
@@ -219,7 +203,7 @@ module _ (left : ℕ) (s : List ℕ) (at : ℕ) (a : AcceptedAt left s at) where
   type-false n = and-stop (is "Nu" (kid 0 (kidsOf (treeAt left s at)))) refl refl (not-mark left s at (mark "Tl") n)
 
   pub type-kids : markAt s at ≡ mark "Tl" → {p : ℕ} → p ≡ bodyAt s at → One left s at p (endAt (left - 1) s p)
-  type-kids m e = kids-one left s at a (tl-one left s at a m) e refl
+  type-kids m e = kids-one left s at a (has (mark "Tl") left s at a m) e refl
 
   pub type-whole : markAt s at ≡ mark "Tl" → Whole (left - 1) s (bodyAt s at)
   type-whole m = is-whole (left - 1) s (bodyAt s at) (type-kids m refl .first)
@@ -299,7 +283,7 @@ module _ (left : ℕ) (s : List ℕ) (at n : ℕ) where
   member-is m = rw (is-mark left s at (mark "Em") m)
 
 pub em-kids : (left : ℕ) (s : List ℕ) (at : ℕ) → AcceptedAt left s at → markAt s at ≡ mark "Em" → {p0 p1 : ℕ} → p0 ≡ bodyAt s at → p1 ≡ endAt (left - 1) s p0 → {p2 : ℕ} → p2 ≡ endAt (left - 1) s p1 → Two left s at p0 p1 p2
-em-kids left s at a m e f g = kids-two left s at a (em-two left s at a m) e f g
+em-kids left s at a m e f g = kids-two left s at a (has (mark "Em") left s at a m) e f g
 
 -- ---- the members, one after the other
 

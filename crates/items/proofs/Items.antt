@@ -24,7 +24,7 @@ use Rattle.definition.specs.Transform.{allTextsFit}
 use Rattle.definition.proofs.Children.{tree-is, first-one, others, readAll-more, readAll-none}
 use Rattle.definition.proofs.Counting.{exprToTsType-within}
 use Rattle.definition.proofs.CountingItems.{item-within}
-use Rattle.definition.proofs.Kids.{head-is, mark-is, flags-is, at-least, text-length}
+use Rattle.definition.proofs.Kids.{head-is, mark-is, flags-is, text-length, has}
 use Rattle.definition.proofs.Places.{count-small as head-count-small}
 use Rattle.records.specs.declared.Head.{Head as Fields}
 use Rattle.records.specs.Fields.{fieldsAt}
@@ -92,26 +92,14 @@ module _ (scope : Scope) (left at end : ℕ) where
 -- ---- the children
 
 module _ (left : ℕ) (s : List ℕ) (at : ℕ) (a : AcceptedAt left s at) where
-  pub ed-one : markAt s at ≡ mark "Ed" → 1 ≤ countAt s at
-  unfolding grammar known slots place least
-  ed-one e = at-least left s at a (mark "Ed") e 1 refl
-
-  pub ns-two : markAt s at ≡ mark "Ns" → 2 ≤ countAt s at
-  unfolding grammar known slots place least
-  ns-two e = at-least left s at a (mark "Ns") e 2 refl
-
-  pub nd-two : markAt s at ≡ mark "Nd" → 2 ≤ countAt s at
-  unfolding grammar known slots place least
-  nd-two e = at-least left s at a (mark "Nd") e 2 refl
-
   pub ed-kids : markAt s at ≡ mark "Ed" → {p0 p1 : ℕ} → p0 ≡ bodyAt s at → p1 ≡ endAt (left - 1) s p0 → One left s at p0 p1
-  ed-kids m e f = kids-one left s at a (ed-one m) e f
+  ed-kids m e f = kids-one left s at a (has (mark "Ed") left s at a m) e f
 
   pub ns-kids : markAt s at ≡ mark "Ns" → {p0 p1 p2 : ℕ} → p0 ≡ bodyAt s at → p1 ≡ endAt (left - 1) s p0 → p2 ≡ endAt (left - 1) s p1 → Two left s at p0 p1 p2
-  ns-kids m e f g = kids-two left s at a (ns-two m) e f g
+  ns-kids m e f g = kids-two left s at a (has (mark "Ns") left s at a m) e f g
 
   pub nd-kids : markAt s at ≡ mark "Nd" → {p0 p1 p2 : ℕ} → p0 ≡ bodyAt s at → p1 ≡ endAt (left - 1) s p0 → p2 ≡ endAt (left - 1) s p1 → Two left s at p0 p1 p2
-  nd-kids m e f g = kids-two left s at a (nd-two m) e f g
+  nd-kids m e f g = kids-two left s at a (has (mark "Nd") left s at a m) e f g
 
 -- a count fits
 pub count-small : (s : List ℕ) (at : ℕ) → ((i : ℕ) → mir.Val.Fits w8 (getD s i 0)) → {h : Fields} → h ≡ fieldsAt s at → h .count < 65536

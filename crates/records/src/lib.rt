@@ -15,7 +15,7 @@ pub mod marks;
 pub mod text;
 
 // "15-byte head"
-pub const HEAD_SIZE: usize = 15;
+pub const HEAD_SIZE: usize = COUNT + 2;
 
 // "`Id` (1 optional): 4-byte context, symbol": where the symbol of an Id begins in its text.
 pub const CONTEXT_SIZE: usize = 4;
@@ -26,13 +26,20 @@ pub const DEEPEST: usize = 64;
 // The places of a head's fields in it; the mark is at 0.
 const FLAGS: usize = 2;
 
-const START: usize = 3;
+const START: usize = FLAGS + 1;
 
-const END: usize = 7;
+const END: usize = START + 4;
 
-const LENGTH: usize = 11;
+const LENGTH: usize = END + 4;
 
-const COUNT: usize = 13;
+const COUNT: usize = LENGTH + 2;
+
+// "10-byte entries `ov`, start, end": the size of an entry of an overload list, and the places of its range; its mark is at 0.
+pub const ENTRY_SIZE: usize = 10;
+
+pub const ENTRY_START: usize = 2;
+
+pub const ENTRY_END: usize = 6;
 
 // "A diagnostic is 10 bytes"
 pub const DIAGNOSTIC_SIZE: usize = 10;

@@ -14,7 +14,7 @@ use Rattle.definition.specs.Record.{text, sameText, kidsOf, textOf, is, kid, en
 use Rattle.definition.specs.Helpers.{isGlobal, objectFreezeCallArg}
 use Rattle.definition.proofs.Children.{some-left, child, child-0, child-1, readAll-more, readAll-none}
 use Rattle.definition.proofs.Converse.{count-readAll}
-use Rattle.definition.proofs.Kids.{mark-is, text-is, kids-are, kid-is, at-least}
+use Rattle.definition.proofs.Kids.{mark-is, text-is, kids-are, kid-is, has}
 use Rattle.swc_helpers.specs.declared.Found.{Found}
 use Rattle.swc_helpers.specs.declared.Found.the-variants.{At, Nothing}
 use Rattle.swc_helpers.specs.Found.{foundIf, isObjectFreeze}
@@ -72,7 +72,7 @@ no-member left s at unresolved n = rw (ne-eqb _ _ (λ e. n (sym (mark-is left s 
 module _ {left : ℕ} {s : List ℕ} {at obj : ℕ} (m : Member left s at obj) where
   two-parts : 2 ≤ countAt s at
   unfolding grammar known slots place least
-  two-parts = at-least left s at (m .it) (mark "Mb") (m .marked) 2 refl
+  two-parts = has (mark "Mb") left s at (m .it) (m .marked)
 
   pub object-accepted : AcceptedAt (left - 1) s obj
   object-accepted = first-accepted left s at (m .it) obj (m .body) (omega (arith, two-parts))
@@ -156,7 +156,7 @@ Answer left s at unresolved = foundIf (objectFreezeCallArg unresolved (kidsOf (t
 module _ {left : ℕ} {s : List ℕ} {at callee : ℕ} (k : Call left s at callee) where
   one-part : 0 < countAt s at
   unfolding grammar known slots place least
-  one-part = at-least left s at (k .it) (mark "Ca") (k .marked) 1 refl
+  one-part = has (mark "Ca") left s at (k .it) (k .marked)
 
   pub callee-accepted : AcceptedAt (left - 1) s callee
   callee-accepted = first-accepted left s at (k .it) callee (k .body) one-part

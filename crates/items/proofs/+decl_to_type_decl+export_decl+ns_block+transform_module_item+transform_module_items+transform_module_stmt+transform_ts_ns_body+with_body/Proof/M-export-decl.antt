@@ -1,5 +1,7 @@
 -- `export_decl`, a member of the cycle, meets its contract. Assumes nothing.
 use Prim.Native.Nat.{ℕ}
+use Rattle.definition.proofs.Kids.{has}
+use Rattle.definition.specs.Grammar.{mark}
 use borrow.Author.Needs.{needs}
 use mathlib.Core.Path.{refl}
 use native.Mathlib.Omega.{arith}
@@ -10,7 +12,7 @@ use Rattle.typing.proofs.Written.{puts-counter}
 use Rattle.parts.proofs.Kept.{count-as}
 use Rattle.parts.proofs.Ready.{ready-kid}
 use Rattle.items.proofs.Begun.{others-one}
-use Rattle.items.proofs.Items.{ed-one, ed-kids, export-gone, export-some, export-none}
+use Rattle.items.proofs.Items.{ed-kids, export-gone, export-some, export-none}
 use Rattle.items.proofs.export_decl.Reads as export-decl
 use Rattle.items.proofs.decl_to_type_decl.Reads as decl-to-type-decl
 use Rattle.typing.proofs.back.Reads as back-reads
@@ -58,7 +60,7 @@ pub enum-known-made : (t : ℕ) → export-decl-lts.Need-enum-known-made (calls 
 enum-known-made t c = search needs
 
 pub sub-keep-all : (t : ℕ) → export-decl-lts.Need-sub-keep-all (calls t) (export-decl-at t) export-decl.Post
-sub-keep-all t c = omega (arith, count-as (c .before .before .before .before .before .before .before .before .before .before .before .before .before .before .before .before .before .before .before .before .before .before .before .before .args .tree .now) (c .before .before .before .before .before .before .before .before .before .before .before .before .before .before .before .before .before .before .before .before .before .before .before .before .args .at) (c .before .before .before .before .before .before .before .before .before .before .before .before .before .before .before .before .read-head .ensures), ed-one _ _ _ (c .before .before .before .before .before .before .before .before .before .before .before .before .before .before .before .before .before .before .before .before .before .before .before .before .pre .1 .0 .accepted) (c .before .before .before .before .before .before .before .before .before .before .before .before .before .before .before .before .before .before .before .before .before .before .before .before .pre .1 .1))
+sub-keep-all t c = omega (arith, count-as (c .before .before .before .before .before .before .before .before .before .before .before .before .before .before .before .before .before .before .before .before .before .before .before .before .args .tree .now) (c .before .before .before .before .before .before .before .before .before .before .before .before .before .before .before .before .before .before .before .before .before .before .before .before .args .at) (c .before .before .before .before .before .before .before .before .before .before .before .before .before .before .before .before .read-head .ensures), has (mark "Ed") _ _ _ (c .before .before .before .before .before .before .before .before .before .before .before .before .before .before .before .before .before .before .before .before .before .before .before .before .pre .1 .0 .accepted) (c .before .before .before .before .before .before .before .before .before .before .before .before .before .before .before .before .before .before .before .before .before .before .before .before .pre .1 .1))
 
 pub sub-keep-all-2 : (t : ℕ) → export-decl-lts.Need-sub-keep-all-2 (calls t) (export-decl-at t) export-decl.Post
 sub-keep-all-2 t c = omega (arith, some-left _ _ _ (c .before .before .before .before .before .before .before .before .before .before .before .before .before .before .before .before .before .before .before .before .before .before .before .before .pre .1 .0 .accepted))

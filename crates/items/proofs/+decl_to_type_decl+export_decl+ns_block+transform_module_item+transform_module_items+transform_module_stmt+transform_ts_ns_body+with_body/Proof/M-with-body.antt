@@ -1,5 +1,7 @@
 -- `with_body`, a member of the cycle, meets its contract. Assumes nothing.
 use Prim.Native.Nat.{ℕ}
+use Rattle.definition.proofs.Kids.{has}
+use Rattle.definition.specs.Grammar.{mark}
 use mathlib.Core.Path.{refl, _∙_}
 use native.Mathlib.Omega.{arith}
 use Rattle.definition.proofs.Children.{itself, some-left}
@@ -8,7 +10,7 @@ use Rattle.typing.proofs.Written.{puts-counter}
 use Rattle.parts.proofs.Kept.{count-as}
 use Rattle.parts.proofs.Ready.{ready-kid}
 use Rattle.items.proofs.Begun.{others-two}
-use Rattle.items.proofs.Items.{ns-two, ns-kids, body-made}
+use Rattle.items.proofs.Items.{ns-kids, body-made}
 use Rattle.items.proofs.with_body.Reads as with-body
 use Rattle.items.proofs.transform_ts_ns_body.Reads as transform-ts-ns-body
 use Rattle.records.proofs.body_at.Reads as body-at-reads
@@ -57,7 +59,7 @@ pub transform-ts-ns-body-requires : (t : ℕ) → with-body-lts.Need-transform-t
 transform-ts-ns-body-requires t c κs = let u = ns-kids _ _ _ (c .before .before .before .before .before .before .before .before .before .before .before .before .before .before .before .before .before .before .pre .1 .0 .accepted) (c .before .before .before .before .before .before .before .before .before .before .before .before .before .before .before .before .before .before .pre .1 .1) (c .before .before .before .before .before .before .before .before .before .before .before .before .body-at .ensures) (c .before .before .before .before .before .before .before .before .before .before .before .record-end .ensures) refl in (omega (arith, some-left _ _ _ (c .before .before .before .before .before .before .before .before .before .before .before .before .before .before .before .before .before .before .pre .1 .0 .accepted), c .before .before .before .before .before .before .before .before .before .before .before .before .before .before .before .before .before .before .pre .0), ready-kid (c .before .before .before .before .before .before .before .before .before .before .before .before .before .before .before .before .before .before .pre .1 .0) (u .second) (u .low1) (puts-counter (c .before .before .before .before .keep .ensures) ∙ puts-counter (c .before .before .before .before .before .before .before .before .put-front .ensures)))
 
 pub sub-keep-all : (t : ℕ) → with-body-lts.Need-sub-keep-all (calls t) (with-body-at t) with-body.Post
-sub-keep-all t c = omega (arith, count-as (c .before .before .before .before .before .before .before .before .before .before .before .before .before .before .before .before .before .before .before .before .before .before .before .before .args .tree .now) (c .before .before .before .before .before .before .before .before .before .before .before .before .before .before .before .before .before .before .before .before .before .before .before .before .args .at) (c .before .before .before .before .before .before .before .before .before .before .before .before .before .before .before .before .before .before .before .read-head .ensures), ns-two _ _ _ (c .before .before .before .before .before .before .before .before .before .before .before .before .before .before .before .before .before .before .before .before .before .before .before .before .pre .1 .0 .accepted) (c .before .before .before .before .before .before .before .before .before .before .before .before .before .before .before .before .before .before .before .before .before .before .before .before .pre .1 .1))
+sub-keep-all t c = omega (arith, count-as (c .before .before .before .before .before .before .before .before .before .before .before .before .before .before .before .before .before .before .before .before .before .before .before .before .args .tree .now) (c .before .before .before .before .before .before .before .before .before .before .before .before .before .before .before .before .before .before .before .before .before .before .before .before .args .at) (c .before .before .before .before .before .before .before .before .before .before .before .before .before .before .before .before .before .before .before .read-head .ensures), has (mark "Ns") _ _ _ (c .before .before .before .before .before .before .before .before .before .before .before .before .before .before .before .before .before .before .before .before .before .before .before .before .pre .1 .0 .accepted) (c .before .before .before .before .before .before .before .before .before .before .before .before .before .before .before .before .before .before .before .before .before .before .before .before .pre .1 .1))
 
 pub sub-keep-all-2 : (t : ℕ) → with-body-lts.Need-sub-keep-all-2 (calls t) (with-body-at t) with-body.Post
 sub-keep-all-2 t c = omega (arith, some-left _ _ _ (c .before .before .before .before .before .before .before .before .before .before .before .before .before .before .before .before .before .before .before .before .before .before .before .before .pre .1 .0 .accepted))

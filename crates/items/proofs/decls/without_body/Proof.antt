@@ -1,11 +1,13 @@
 -- `without_body` meets its contract. Assumes nothing.
 use mathlib.Core.Path.{refl}
+use Rattle.definition.proofs.Kids.{has}
+use Rattle.definition.specs.Grammar.{mark}
 use native.Mathlib.Omega.{arith}
 use Rattle.definition.proofs.Children.{itself, some-left}
 use Rattle.swc_helpers.proofs.Made.{is-whole}
 use Rattle.parts.proofs.Kept.{count-as}
 use Rattle.items.proofs.Begun.{puts-length, others-three}
-use Rattle.items.proofs.Declarations.{fu-three, fu-kids, body-written}
+use Rattle.items.proofs.Declarations.{fu-kids, body-written}
 use Rattle.items.proofs.decls.without_body.Statement.{statement}
 use Rattle.items.proofs.decls.without_body.Tie as tie
 use Rattle.items.proofs.decls.without_body.Reads as reads
@@ -64,7 +66,7 @@ put-gone-requires : tie.Need-put-gone-requires
 put-gone-requires c κs = fu-kids _ _ _ (c .before .before .before .before .before .before .before .before .before .before .before .before .before .before .before .before .before .before .before .before .pre .0) (c .before .before .before .before .before .before .before .before .before .before .before .before .before .before .before .before .before .before .before .before .pre .1) (c .before .before .before .before .before .before .before .before .before .before .before .before .before .before .before .before .body-at .ensures) (c .before .before .before .before .before .before .before .before .before .before .before .before .before .before .before .record-end .ensures) (c .before .before .before .before .before .before .before .before .before .before .before .before .before .before .record-end2 .ensures) refl .third
 
 sub-keep-all : tie.Need-sub-keep-all
-sub-keep-all c = omega (arith, count-as (c .before .before .before .before .before .before .before .before .before .before .before .before .before .before .before .before .before .before .before .before .before .before .before .before .args .tree .now) (c .before .before .before .before .before .before .before .before .before .before .before .before .before .before .before .before .before .before .before .before .before .before .before .before .args .at) (c .before .before .before .before .before .before .before .before .before .before .before .before .before .before .before .before .before .before .before .before .before .read-head .ensures), fu-three _ _ _ (c .before .before .before .before .before .before .before .before .before .before .before .before .before .before .before .before .before .before .before .before .before .before .before .before .pre .0) (c .before .before .before .before .before .before .before .before .before .before .before .before .before .before .before .before .before .before .before .before .before .before .before .before .pre .1))
+sub-keep-all c = omega (arith, count-as (c .before .before .before .before .before .before .before .before .before .before .before .before .before .before .before .before .before .before .before .before .before .before .before .before .args .tree .now) (c .before .before .before .before .before .before .before .before .before .before .before .before .before .before .before .before .before .before .before .before .before .before .before .before .args .at) (c .before .before .before .before .before .before .before .before .before .before .before .before .before .before .before .before .before .before .before .before .before .read-head .ensures), has (mark "Fu") _ _ _ (c .before .before .before .before .before .before .before .before .before .before .before .before .before .before .before .before .before .before .before .before .before .before .before .before .pre .0) (c .before .before .before .before .before .before .before .before .before .before .before .before .before .before .before .before .before .before .before .before .before .before .before .before .pre .1))
 
 sub-keep-all-2 : tie.Need-sub-keep-all-2
 sub-keep-all-2 c = omega (arith, some-left _ _ _ (c .before .before .before .before .before .before .before .before .before .before .before .before .before .before .before .before .before .before .before .before .before .before .before .before .pre .0))

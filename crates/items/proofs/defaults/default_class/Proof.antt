@@ -1,5 +1,7 @@
 -- `default_class` meets its contract. Assumes nothing.
 use mathlib.Core.Path.{refl}
+use Rattle.definition.proofs.Kids.{has}
+use Rattle.definition.specs.Grammar.{mark}
 use mathlib.Core.Logic.{inr}
 use native.Mathlib.Omega.{arith}
 use Rattle.definition.proofs.Children.{itself, some-left}
@@ -8,7 +10,7 @@ use Rattle.typing.proofs.Written.{puts-counter}
 use Rattle.parts.proofs.Kept.{count-as}
 use Rattle.parts.proofs.Ready.{ready-kid}
 use Rattle.items.proofs.Begun.{others-one}
-use Rattle.items.proofs.Exports.{xd-one, xd-kids, mark-there, default-class}
+use Rattle.items.proofs.Exports.{xd-kids, mark-there, default-class}
 use borrow.Author.Needs.{needs}
 use Rattle.items.proofs.defaults.default_class.Statement.{statement}
 use Rattle.items.proofs.defaults.default_class.Tie as tie
@@ -46,7 +48,7 @@ with-class-requires : tie.Need-with-class-requires
 with-class-requires c κs = let u = xd-kids _ _ _ (c .before .before .before .before .before .before .before .before .before .before .before .before .before .before .pre .0 .0 .accepted) (c .before .before .before .before .before .before .before .before .before .before .before .before .before .before .pre .0 .1) (c .before .before .before .before .before .before .before .before .body-at .ensures) refl in (ready-kid (c .before .before .before .before .before .before .before .before .before .before .before .before .before .before .pre .0 .0) (u .first) (u .low0) (puts-counter (c .before .before .before .before .put-front .ensures)), inr (mark-there (c .before .before .before .before .before .before .before .before .before .before .before .before .before .before .args .tree .now) (c .before .before .before .before .before .before .before .before .before .before .before .before .before .before .args .at) (c .before .before .before .before .before .before .before .before .body-at .ensures) (c .before .before .before .before .before .before .before .before .before .before .before .before .before .before .pre .1)))
 
 sub-keep-all : tie.Need-sub-keep-all
-sub-keep-all c = omega (arith, count-as (c .before .before .before .before .before .before .before .before .before .before .before .before .before .before .before .before .before .before .before .before .args .tree .now) (c .before .before .before .before .before .before .before .before .before .before .before .before .before .before .before .before .before .before .before .before .args .at) (c .before .before .before .before .before .before .before .before .before .before .before .before .before .before .before .read-head .ensures), xd-one _ _ _ (c .before .before .before .before .before .before .before .before .before .before .before .before .before .before .before .before .before .before .before .before .pre .0 .0 .accepted) (c .before .before .before .before .before .before .before .before .before .before .before .before .before .before .before .before .before .before .before .before .pre .0 .1))
+sub-keep-all c = omega (arith, count-as (c .before .before .before .before .before .before .before .before .before .before .before .before .before .before .before .before .before .before .before .before .args .tree .now) (c .before .before .before .before .before .before .before .before .before .before .before .before .before .before .before .before .before .before .before .before .args .at) (c .before .before .before .before .before .before .before .before .before .before .before .before .before .before .before .read-head .ensures), has (mark "Xd") _ _ _ (c .before .before .before .before .before .before .before .before .before .before .before .before .before .before .before .before .before .before .before .before .pre .0 .0 .accepted) (c .before .before .before .before .before .before .before .before .before .before .before .before .before .before .before .before .before .before .before .before .pre .0 .1))
 
 sub-keep-all-2 : tie.Need-sub-keep-all-2
 sub-keep-all-2 c = omega (arith, some-left _ _ _ (c .before .before .before .before .before .before .before .before .before .before .before .before .before .before .before .before .before .before .before .before .pre .0 .0 .accepted))

@@ -1,5 +1,7 @@
 -- `default_fn` meets its contract. Assumes nothing.
 use mathlib.Core.Path.{refl}
+use Rattle.definition.proofs.Kids.{has}
+use Rattle.definition.specs.Grammar.{mark}
 use native.Mathlib.Omega.{arith}
 use Rattle.definition.specs.Record.{second}
 use Rattle.definition.specs.Items.{withoutBody}
@@ -7,7 +9,7 @@ use Rattle.definition.proofs.Children.{itself, some-left}
 use Rattle.swc_helpers.proofs.Made.{is-whole}
 use Rattle.parts.proofs.Kept.{count-as}
 use Rattle.items.proofs.Begun.{others-one, first-step}
-use Rattle.items.proofs.Exports.{xd-one, xd-kids, mark-there}
+use Rattle.items.proofs.Exports.{xd-kids, mark-there}
 use borrow.Author.Needs.{needs}
 use Rattle.items.proofs.defaults.default_fn.Statement.{statement}
 use Rattle.items.proofs.defaults.default_fn.Tie as tie
@@ -42,7 +44,7 @@ bodiless-requires : tie.Need-bodiless-requires
 bodiless-requires c κs = (xd-kids _ _ _ (c .before .before .before .before .before .before .before .before .before .before .pre .0 .0) (c .before .before .before .before .before .before .before .before .before .before .pre .0 .1) (c .before .before .before .before .before .before .body-at .ensures) refl .first, mark-there (c .before .before .before .before .before .before .before .before .before .before .args .tree .now) (c .before .before .before .before .before .before .before .before .before .before .args .at) (c .before .before .before .before .before .before .body-at .ensures) (c .before .before .before .before .before .before .before .before .before .before .pre .1))
 
 sub-keep-all : tie.Need-sub-keep-all
-sub-keep-all c = omega (arith, count-as (c .before .before .before .before .before .before .before .before .before .before .before .before .before .before .args .tree .now) (c .before .before .before .before .before .before .before .before .before .before .before .before .before .before .args .at) (c .before .before .before .before .before .before .before .before .before .before .before .read-head .ensures), xd-one _ _ _ (c .before .before .before .before .before .before .before .before .before .before .before .before .before .before .pre .0 .0) (c .before .before .before .before .before .before .before .before .before .before .before .before .before .before .pre .0 .1))
+sub-keep-all c = omega (arith, count-as (c .before .before .before .before .before .before .before .before .before .before .before .before .before .before .args .tree .now) (c .before .before .before .before .before .before .before .before .before .before .before .before .before .before .args .at) (c .before .before .before .before .before .before .before .before .before .before .before .read-head .ensures), has (mark "Xd") _ _ _ (c .before .before .before .before .before .before .before .before .before .before .before .before .before .before .pre .0 .0) (c .before .before .before .before .before .before .before .before .before .before .before .before .before .before .pre .0 .1))
 
 sub-keep-all-2 : tie.Need-sub-keep-all-2
 sub-keep-all-2 c = omega (arith, some-left _ _ _ (c .before .before .before .before .before .before .before .before .before .before .before .before .before .before .pre .0 .0))

@@ -1,9 +1,11 @@
 -- `put_default_name` meets its contract. Assumes nothing.
 use native.Mathlib.Omega.{arith}
+use Rattle.definition.proofs.Kids.{has}
+use Rattle.definition.specs.Grammar.{mark}
 use Rattle.definition.proofs.Children.{itself, some-left}
 use Rattle.parts.proofs.Kept.{count-as}
 use Rattle.items.proofs.Begun.{others-one}
-use Rattle.items.proofs.Exports.{xe-one, name-kids, name-written}
+use Rattle.items.proofs.Exports.{name-kids, name-written}
 use borrow.Author.Needs.{needs}
 use Rattle.items.proofs.defaults.put_default_name.Statement.{statement}
 use Rattle.items.proofs.defaults.put_default_name.Tie as tie
@@ -18,7 +20,7 @@ put-unique-ident-requires : tie.Need-put-unique-ident-requires
 put-unique-ident-requires c κs = search needs
 
 sub-keep-all : tie.Need-sub-keep-all
-sub-keep-all c = omega (arith, count-as (c .before .before .before .before .before .before .before .before .before .before .before .before .args .tree .now) (c .before .before .before .before .before .before .before .before .before .before .before .before .args .at) (c .before .before .before .before .before .before .before .before .before .read-head .ensures), xe-one _ _ _ (c .before .before .before .before .before .before .before .before .before .before .before .before .pre .0 .0) (c .before .before .before .before .before .before .before .before .before .before .before .before .pre .0 .1))
+sub-keep-all c = omega (arith, count-as (c .before .before .before .before .before .before .before .before .before .before .before .before .args .tree .now) (c .before .before .before .before .before .before .before .before .before .before .before .before .args .at) (c .before .before .before .before .before .before .before .before .before .read-head .ensures), has (mark "Xe") _ _ _ (c .before .before .before .before .before .before .before .before .before .before .before .before .pre .0 .0) (c .before .before .before .before .before .before .before .before .before .before .before .before .pre .0 .1))
 
 sub-keep-all-2 : tie.Need-sub-keep-all-2
 sub-keep-all-2 c = omega (arith, some-left _ _ _ (c .before .before .before .before .before .before .before .before .before .before .before .before .pre .0 .0))

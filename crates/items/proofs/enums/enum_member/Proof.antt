@@ -1,5 +1,7 @@
 -- `enum_member` meets its contract. Assumes nothing.
 use mathlib.Core.Path.{refl}
+use Rattle.definition.proofs.Kids.{has}
+use Rattle.definition.specs.Grammar.{mark}
 use native.Mathlib.Omega.{arith}
 use Rattle.definition.specs.Enums.{enumInit}
 use Rattle.definition.proofs.Children.{itself, some-left}
@@ -7,7 +9,7 @@ use Rattle.swc_helpers.proofs.Made.{is-whole}
 use Rattle.typing.proofs.Written.{puts-as}
 use Rattle.parts.proofs.Kept.{count-as}
 use Rattle.items.proofs.Begun.{others-two, second-step}
-use Rattle.items.proofs.Inits.{told, told-not, em-two, em-kids, member-other, member-is}
+use Rattle.items.proofs.Inits.{told, told-not, em-kids, member-other, member-is}
 use borrow.Author.Needs.{needs}
 use Rattle.items.proofs.enums.enum_member.Statement.{statement}
 use Rattle.items.proofs.enums.enum_member.Tie as tie
@@ -68,7 +70,7 @@ enum-init-requires : tie.Need-enum-init-requires
 enum-init-requires c κs = em-kids _ _ _ (c .before .before .before .before .before .before .before .before .before .before .before .before .before .before .before .before .before .pre) (told (c .before .before .before .before .before .before .before .before .before .before .before .before .before .before .mark-at .ensures .0) (c .before .before .before .before .before .before .before .before .before .before .before .before .before .if1 .left)) (c .before .before .before .before .before .before .before .before .before .before .before .body-at .ensures) (c .before .before .before .before .before .before .before .before .before .before .record-end .ensures) refl .second
 
 sub-keep-all : tie.Need-sub-keep-all
-sub-keep-all c = omega (arith, count-as (c .before .before .before .before .before .before .before .before .before .before .before .before .before .before .before .before .before .before .before .before .before .args .tree .now) (c .before .before .before .before .before .before .before .before .before .before .before .before .before .before .before .before .before .before .before .before .before .args .at) (c .before .before .before .before .before .before .before .before .before .before .before .before .before .before .before .before .read-head .ensures), em-two _ _ _ (c .before .before .before .before .before .before .before .before .before .before .before .before .before .before .before .before .before .before .before .before .before .pre) (told (c .before .before .before .before .before .before .before .before .before .before .before .before .before .before .before .before .before .before .mark-at .ensures .0) (c .before .before .before .before .before .before .before .before .before .before .before .before .before .before .before .before .before .if1 .left)))
+sub-keep-all c = omega (arith, count-as (c .before .before .before .before .before .before .before .before .before .before .before .before .before .before .before .before .before .before .before .before .before .args .tree .now) (c .before .before .before .before .before .before .before .before .before .before .before .before .before .before .before .before .before .before .before .before .before .args .at) (c .before .before .before .before .before .before .before .before .before .before .before .before .before .before .before .before .read-head .ensures), has (mark "Em") _ _ _ (c .before .before .before .before .before .before .before .before .before .before .before .before .before .before .before .before .before .before .before .before .before .pre) (told (c .before .before .before .before .before .before .before .before .before .before .before .before .before .before .before .before .before .before .mark-at .ensures .0) (c .before .before .before .before .before .before .before .before .before .before .before .before .before .before .before .before .before .if1 .left)))
 
 sub-keep-all-2 : tie.Need-sub-keep-all-2
 sub-keep-all-2 c = omega (arith, some-left _ _ _ (c .before .before .before .before .before .before .before .before .before .before .before .before .before .before .before .before .before .before .before .before .before .pre))

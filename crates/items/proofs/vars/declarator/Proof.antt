@@ -1,5 +1,7 @@
 -- `declarator` meets its contract. Assumes nothing.
 use mathlib.Core.Path.{refl}
+use Rattle.definition.proofs.Kids.{has}
+use Rattle.definition.specs.Grammar.{mark}
 use native.Mathlib.Omega.{arith}
 use Rattle.definition.proofs.Children.{itself, some-left}
 use Rattle.swc_helpers.proofs.Made.{is-whole}
@@ -8,7 +10,7 @@ use Rattle.typing.proofs.Ready.{ready-on}
 use Rattle.parts.proofs.Kept.{count-as}
 use Rattle.items.proofs.Begun.{others-two}
 use Rattle.items.proofs.Inits.{told, told-not}
-use Rattle.items.proofs.Declarators.{vr-two, vr-kids, declarator-other, declarator-made}
+use Rattle.items.proofs.Declarators.{vr-kids, declarator-other, declarator-made}
 use borrow.Author.Needs.{needs}
 use Rattle.items.proofs.vars.declarator.Statement.{statement}
 use Rattle.items.proofs.vars.declarator.Tie as tie
@@ -67,7 +69,7 @@ put-gone-requires : tie.Need-put-gone-requires
 put-gone-requires c κs = vr-kids _ _ _ (c .before .before .before .before .before .before .before .before .before .before .before .before .before .before .before .before .before .before .before .before .before .pre .accepted) (told (c .before .before .before .before .before .before .before .before .before .before .before .before .before .before .before .before .before .mark-at .ensures .0) (c .before .before .before .before .before .before .before .before .before .before .before .before .before .before .before .before .if1 .left)) (c .before .before .before .before .before .before .before .before .before .before .before .before .before .before .body-at .ensures) (c .before .before .before .before .before .before .before .before .before .before .before .before .before .record-end .ensures) refl .second
 
 sub-keep-all : tie.Need-sub-keep-all
-sub-keep-all c = omega (arith, count-as (c .before .before .before .before .before .before .before .before .before .before .before .before .before .before .before .before .before .before .before .before .before .before .before .before .before .args .tree .now) (c .before .before .before .before .before .before .before .before .before .before .before .before .before .before .before .before .before .before .before .before .before .before .before .before .before .args .at) (c .before .before .before .before .before .before .before .before .before .before .before .before .before .before .before .before .before .before .before .read-head .ensures), vr-two _ _ _ (c .before .before .before .before .before .before .before .before .before .before .before .before .before .before .before .before .before .before .before .before .before .before .before .before .before .pre .accepted) (told (c .before .before .before .before .before .before .before .before .before .before .before .before .before .before .before .before .before .before .before .before .before .mark-at .ensures .0) (c .before .before .before .before .before .before .before .before .before .before .before .before .before .before .before .before .before .before .before .before .if1 .left)))
+sub-keep-all c = omega (arith, count-as (c .before .before .before .before .before .before .before .before .before .before .before .before .before .before .before .before .before .before .before .before .before .before .before .before .before .args .tree .now) (c .before .before .before .before .before .before .before .before .before .before .before .before .before .before .before .before .before .before .before .before .before .before .before .before .before .args .at) (c .before .before .before .before .before .before .before .before .before .before .before .before .before .before .before .before .before .before .before .read-head .ensures), has (mark "Vr") _ _ _ (c .before .before .before .before .before .before .before .before .before .before .before .before .before .before .before .before .before .before .before .before .before .before .before .before .before .pre .accepted) (told (c .before .before .before .before .before .before .before .before .before .before .before .before .before .before .before .before .before .before .before .before .before .mark-at .ensures .0) (c .before .before .before .before .before .before .before .before .before .before .before .before .before .before .before .before .before .before .before .before .if1 .left)))
 
 sub-keep-all-2 : tie.Need-sub-keep-all-2
 sub-keep-all-2 c = omega (arith, some-left _ _ _ (c .before .before .before .before .before .before .before .before .before .before .before .before .before .before .before .before .before .before .before .before .before .before .before .before .before .pre .accepted))

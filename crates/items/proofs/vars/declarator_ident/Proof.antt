@@ -1,5 +1,7 @@
 -- `declarator_ident` meets its contract. Assumes nothing.
 use mathlib.Core.Path.{refl, _∙_}
+use Rattle.definition.proofs.Kids.{has}
+use Rattle.definition.specs.Grammar.{mark}
 use native.Mathlib.Omega.{arith}
 use Rattle.definition.proofs.Children.{itself, some-left}
 use Rattle.swc_helpers.proofs.Made.{is-whole}
@@ -8,7 +10,7 @@ use Rattle.typing.proofs.Ready.{ready-on}
 use Rattle.parts.proofs.Kept.{count-as}
 use Rattle.items.proofs.Begun.{others-two}
 use Rattle.items.proofs.Inits.{told, told-not}
-use Rattle.items.proofs.Declarators.{bd-two, bd-kids, binding-kept, binding-typed}
+use Rattle.items.proofs.Declarators.{bd-kids, binding-kept, binding-typed}
 use borrow.Author.Needs.{needs}
 use Rattle.items.proofs.vars.declarator_ident.Statement.{statement}
 use Rattle.items.proofs.vars.declarator_ident.Tie as tie
@@ -66,7 +68,7 @@ declarator-type-requires : tie.Need-declarator-type-requires
 declarator-type-requires c κs = (c .before .before .before .before .before .before .before .before .before .before .before .before .before .before .before .before .before .before .before .pre .0 .0, ready-on (c .before .before .before .before .before .before .before .before .before .before .before .before .before .before .before .before .before .before .before .pre .1) (puts-counter (c .before .before .before .before .keep2 .ensures) ∙ puts-counter (c .before .before .before .before .before .before .before .before .put-front .ensures)))
 
 sub-keep-all : tie.Need-sub-keep-all
-sub-keep-all c = omega (arith, count-as (c .before .before .before .before .before .before .before .before .before .before .before .before .before .before .before .before .before .before .before .before .before .before .before .before .before .args .tree .now) (c .before .before .before .before .before .before .before .before .before .before .before .before .before .before .before .before .before .before .before .before .before .before .before .before .before .args .at) (c .before .before .before .before .before .before .before .before .before .before .before .before .before .before .before .before .before .before .before .before .before .read-head .ensures), bd-two _ _ _ (c .before .before .before .before .before .before .before .before .before .before .before .before .before .before .before .before .before .before .before .before .before .before .before .before .before .pre .0 .0) (c .before .before .before .before .before .before .before .before .before .before .before .before .before .before .before .before .before .before .before .before .before .before .before .before .before .pre .0 .1))
+sub-keep-all c = omega (arith, count-as (c .before .before .before .before .before .before .before .before .before .before .before .before .before .before .before .before .before .before .before .before .before .before .before .before .before .args .tree .now) (c .before .before .before .before .before .before .before .before .before .before .before .before .before .before .before .before .before .before .before .before .before .before .before .before .before .args .at) (c .before .before .before .before .before .before .before .before .before .before .before .before .before .before .before .before .before .before .before .before .before .read-head .ensures), has (mark "Bd") _ _ _ (c .before .before .before .before .before .before .before .before .before .before .before .before .before .before .before .before .before .before .before .before .before .before .before .before .before .pre .0 .0) (c .before .before .before .before .before .before .before .before .before .before .before .before .before .before .before .before .before .before .before .before .before .before .before .before .before .pre .0 .1))
 
 sub-keep-all-2 : tie.Need-sub-keep-all-2
 sub-keep-all-2 c = omega (arith, some-left _ _ _ (c .before .before .before .before .before .before .before .before .before .before .before .before .before .before .before .before .before .before .before .before .before .before .before .before .before .pre .0 .0))
