@@ -6,10 +6,12 @@ ghost use Rattle.definition.specs.Grammar.{mark};
 ghost use Rattle.definition.specs.Tree.{markAt};
 ghost use Rattle.prescan.specs.Scope.{Skips};
 ghost use mathlib.Core.Path.{_≡_};
-use grammar::Checked;
-use grammar::Refusal;
-use libc::STDIN_FILENO;
-use libc::STDOUT_FILENO;
+use console::MOST;
+use console::UNRESOLVED;
+use console::front;
+use console::print;
+use console::print_hex;
+use console::print_number;
 use names::Key;
 use prescan::Question;
 use prescan::Scope;
@@ -59,28 +61,15 @@ use swc_helpers::Found;
 use swc_helpers::MaybeType;
 use swc_helpers::TsKeywordTypeKind;
 
-// The unresolved context.
-const UNRESOLVED: u32 = 1;
-
-// The longest tree that is read.
-const LONGEST: usize = 4096;
-
-// The most trees that are read.
-const MOST: usize = 65536;
-
 // A tenth of the largest power of ten that a counter holds, and the last counter.
 const TENTH: usize = 1000000000000000000;
 
 const LAST: usize = 0xffff_ffff_ffff_ffff;
 
-fn print(text: &[u8]) {
-    io::write_all(STDOUT_FILENO, text);
-}
-
 // ---- Lines: the record's offset, what was asked, the answer
 
 fn print_label(at: usize, name: &[u8]) {
-    io::print_decimal(STDOUT_FILENO, at as u64);
+    print_number(at);
     print(b" ");
     print(name);
     print(b" ");
@@ -95,33 +84,14 @@ fn print_bool(at: usize, name: &[u8], answer: bool) {
     }
 }
 
-fn wide(b: u8) -> u64 {
-    b as u64
-}
-
-fn print_hex(bytes: &[u8]) {
-    let mut i = 0;
-    while i < bytes.len() {
-        io::print_hex(STDOUT_FILENO, wide(bytes[i]), 2);
-        i += 1;
-    }
-}
-
 fn print_bytes(bytes: &[u8]) {
     print_hex(bytes);
     print(b"\n");
 }
 
 // What was written in front of the position `end`.
-fn print_front(out: &[u8], end: usize) {
-    if end <= out.len() {
-        print_hex(&out[..end]);
-    }
-}
-
 fn print_written(out: &[u8], end: usize) {
-    print_front(out, end);
-    print(b"\n");
+    print_bytes(front(out, end));
 }
 
 // The record at `at`, as the part of the tree that it fills.
@@ -140,7 +110,7 @@ fn show_type(tree: &[u8], at: usize, left: usize)
     let mut out = io::buffer();
     let end = swc_helpers::ts_readonly(&mut out, 0);
     print_label(at, b"ts_readonly");
-    print_front(&out, end);
+    print_hex(front(&out, end));
     print_record(tree, at, left);
 }
 
@@ -261,11 +231,17 @@ fn show_questions(tree: &[u8], at: usize, left: usize, scope: Scope)
     print_bool(at, b"array_typed", array);
 }
 
+fn symbol_of(tree: &[u8], at: usize, left: usize) -> &[u8]
+    requires { ⌜ AcceptedAt left (now tree) at × (markAt (now tree) at ≡ mark "Id") ⌝ }
+{
+    records::text::symbol_at(tree, at)
+}
+
 fn show_type_ref(tree: &[u8], at: usize, left: usize)
     requires { ⌜ AcceptedAt left (now tree) at × (markAt (now tree) at ≡ mark "Id") ⌝ }
 {
     let mut out = io::buffer();
-    let end = swc_helpers::type_ref(records::text::symbol_at(tree, at), &mut out, 0);
+    let end = swc_helpers::type_ref(symbol_of(tree, at, left), &mut out, 0);
     print_label(at, b"type_ref");
     print_written(&out, end);
 }
@@ -395,23 +371,9 @@ fn show_items(tree: &[u8])
     }
 }
 
-fn show_refusal(refusal: Refusal, place: usize) {
-    print(b"refused ");
-    io::print_decimal(STDOUT_FILENO, grammar::number_of(refusal) as u64);
-    print(b" at ");
-    io::print_decimal(STDOUT_FILENO, place as u64);
-    print(b"\n");
-}
-
 fn show_tree(tree: &[u8]) {
-    let none = [0u8; 1];
-    let found = grammar::check_tree(tree, &none[..0]);
-    match found {
-        Checked::Fine(end) => {
-            print(b"accepted\n");
-            show_items(tree);
-        }
-        Checked::Refused(refusal, place) => show_refusal(refusal, place),
+    if console::print_check(tree) {
+        show_items(tree);
     }
 }
 
@@ -422,31 +384,19 @@ fn show_name(raised: usize) {
     }
     let mut out = io::buffer();
     let named = names::unique::make_unique_name(raised - 1, &mut out, 0);
-    let end = named.p;
-    if end <= out.len() {
-        print(&out[..end]);
-    }
+    print(front(&out, named.p));
 }
 
-// The next tree of the input, with its name; false where there is none.
+// The next tree of the input, of at most 4,096 bytes, with its name; false where there is none.
 fn next_tree(number: usize) -> bool {
-    let mut length = [0u8; 2];
-    let got = io::read_full(STDIN_FILENO, &mut length);
-    if got < 2 {
-        return false;
-    }
-    let n = records::u16_at(&length, 0) as usize;
-    if LONGEST < n {
-        return false;
-    }
     let mut buffer = io::buffer();
-    let m = io::read_full(STDIN_FILENO, &mut buffer[..n]);
-    if m < n {
+    let read = console::read_framed(&mut buffer);
+    if !read.whole {
         return false;
     }
     show_name(number);
     print(b" ");
-    show_tree(&buffer[..n]);
+    show_tree(&buffer[..read.length]);
     true
 }
 

@@ -1,7 +1,12 @@
 // Document 01's limits, which are too large to evaluate in the logic: the longest tree and one byte more, 64 and 65 levels, the longest overload
 // list and one entry more. Each line is the check's answer, but the last: the call's on the longest tree.
+use console::UNRESOLVED;
+use console::front;
+use console::print;
+use console::print_done;
+use console::print_number;
+use console::print_refusal;
 use grammar::Checked;
-use libc::STDOUT_FILENO;
 use records::Head;
 use records::marks::AR;
 use records::marks::IM;
@@ -26,23 +31,6 @@ const OUTPUT: usize = 524416;
 const ENTRY: usize = 10;
 
 const OV: usize = 0x766f;
-
-fn show(found: Checked) {
-    match found {
-        Checked::Fine(end) => {
-            io::write_all(STDOUT_FILENO, b"accepted, ");
-            io::print_decimal(STDOUT_FILENO, end as u64);
-            io::write_all(STDOUT_FILENO, b" bytes\n");
-        }
-        Checked::Refused(refusal, place) => {
-            io::write_all(STDOUT_FILENO, b"refused ");
-            io::print_decimal(STDOUT_FILENO, grammar::number_of(refusal) as u64);
-            io::write_all(STDOUT_FILENO, b" at ");
-            io::print_decimal(STDOUT_FILENO, place as u64);
-            io::write_all(STDOUT_FILENO, b"\n");
-        }
-    }
-}
 
 fn put(tree: &mut [u8], p: usize, mark: u16, text: usize, count: usize) -> usize {
     records::put_head(
@@ -112,57 +100,53 @@ fn entries(list: &mut [u8], count: usize) {
     }
 }
 
-// The answer for the first n bytes of a tree and the first m of a list.
-fn try_parts(tree: &[u8], n: usize, list: &[u8], m: usize) {
-    if n <= tree.len() {
-        if m <= list.len() {
-            show(grammar::check_tree(&tree[..n], &list[..m]));
+// The check's answer for the first n bytes of a tree and the first m of a list, behind what they are.
+fn show_check(what: &[u8], tree: &[u8], n: usize, list: &[u8], m: usize) {
+    print(what);
+    match grammar::check_tree(front(tree, n), front(list, m)) {
+        Checked::Fine(end) => {
+            print(b"accepted, ");
+            print_number(end);
+            print(b" bytes\n");
         }
+        Checked::Refused(refusal, place) => print_refusal(refusal, place),
     }
-}
-
-fn show_done(length: usize, count: usize) {
-    io::write_all(STDOUT_FILENO, b"ok ");
-    io::print_decimal(STDOUT_FILENO, length as u64);
-    io::write_all(STDOUT_FILENO, b" ");
-    io::print_decimal(STDOUT_FILENO, count as u64);
-    io::write_all(STDOUT_FILENO, b"\n");
 }
 
 // The call's answer for a tree, with an empty list and no room for diagnostics.
-fn call(tree: &[u8], out: &mut [u8]) {
-    let list = [0u8; 0];
+fn show_call(what: &[u8], tree: &[u8], out: &mut [u8]) {
+    print(what);
     let mut diagnostics = [0u8; 0];
-    match transform_dts::transform(tree, &list, 1, out, &mut diagnostics) {
-        Answer::Done(length, count) => show_done(length, count),
-        Answer::Refused(refusal, place) => show(Checked::Refused(refusal, place)),
+    match transform_dts::transform(tree, b"", UNRESOLVED, out, &mut diagnostics) {
+        Answer::Done(length, count) => {
+            print_done(length, count);
+            print(b"\n");
+        }
+        Answer::Refused(refusal, place) => print_refusal(refusal, place),
     }
 }
 
-// The same for the first n bytes of a tree.
-fn call_part(tree: &[u8], n: usize, out: &mut [u8]) {
-    if n <= tree.len() {
-        call(&tree[..n], out);
-    }
+fn show_lengths(tree: &[u8], list: &[u8]) {
+    show_check(b"524,288 bytes: ", tree, LONGEST_TREE, list, 0);
+    show_check(b"524,289 bytes: ", tree, TREE, list, 0);
+    show_check(
+        b"40,960 bytes of list: ",
+        tree,
+        LONGEST_TREE,
+        list,
+        LONGEST_LIST,
+    );
+    show_check(b"40,970 bytes of list: ", tree, LONGEST_TREE, list, LIST);
 }
 
 fn run(tree: &mut [u8], list: &mut [u8]) {
     entries(list, 4097);
     fill(tree);
-    io::write_all(STDOUT_FILENO, b"524,288 bytes: ");
-    try_parts(tree, LONGEST_TREE, list, 0);
-    io::write_all(STDOUT_FILENO, b"524,289 bytes: ");
-    try_parts(tree, TREE, list, 0);
-    io::write_all(STDOUT_FILENO, b"40,960 bytes of list: ");
-    try_parts(tree, LONGEST_TREE, list, LONGEST_LIST);
-    io::write_all(STDOUT_FILENO, b"40,970 bytes of list: ");
-    try_parts(tree, LONGEST_TREE, list, LIST);
+    show_lengths(tree, list);
     nest(tree, 61);
-    io::write_all(STDOUT_FILENO, b"64 levels: ");
-    try_parts(tree, 960, list, 0);
+    show_check(b"64 levels: ", tree, 960, list, 0);
     nest(tree, 62);
-    io::write_all(STDOUT_FILENO, b"65 levels: ");
-    try_parts(tree, 975, list, 0);
+    show_check(b"65 levels: ", tree, 975, list, 0);
 }
 
 fn main() {
@@ -171,6 +155,9 @@ fn main() {
     run(&mut tree, &mut list);
     let mut out = [0u8; OUTPUT];
     fill(&mut tree);
-    io::write_all(STDOUT_FILENO, b"524,288 bytes through the call: ");
-    call_part(&tree, LONGEST_TREE, &mut out);
+    show_call(
+        b"524,288 bytes through the call: ",
+        front(&tree, LONGEST_TREE),
+        &mut out,
+    );
 }

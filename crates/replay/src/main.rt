@@ -4,8 +4,13 @@
 // and the answer: 0, bytes and diagnostics, or the refusal's number, its place and 0), then tree, list, output and diagnostics. Where a length is
 // more than the bytes that follow, any bytes do. `oracle answers` makes the cases.
 ghost use Prim.Native.Nat.{_≤_};
-use libc::STDIN_FILENO;
-use libc::STDOUT_FILENO;
+use console::ROOM;
+use console::front;
+use console::front_mut;
+use console::print;
+use console::print_number;
+use console::read_bytes;
+use records::DIAGNOSTIC_SIZE;
 use transform_dts::Answer;
 
 // The most cases that are read.
@@ -15,9 +20,6 @@ const MOST: usize = 1000000;
 const TREE: usize = 524289;
 
 const LIST: usize = 40970;
-
-// The most bytes of a case's output, and of its diagnostics.
-const ROOM: usize = 4096;
 
 // Ten numbers of four bytes.
 const NUMBERS: usize = 40;
@@ -42,14 +44,6 @@ const SAME: usize = 0;
 const DIFFERS: usize = 1;
 
 const END: usize = 2;
-
-fn print(text: &[u8]) {
-    io::write_all(STDOUT_FILENO, text);
-}
-
-fn print_number(n: usize) {
-    io::print_decimal(STDOUT_FILENO, n as u64);
-}
 
 fn print_case(number: usize) {
     print(b"case ");
@@ -90,15 +84,6 @@ fn case_of(bytes: &[u8]) -> Case {
     }
 }
 
-// The next n bytes of the input, if there are so many and there is room for them.
-fn read_bytes(buffer: &mut [u8], n: usize) -> bool {
-    if buffer.len() < n {
-        return false;
-    }
-    let m = io::read_full(STDIN_FILENO, &mut buffer[..n]);
-    m == n
-}
-
 // What a buffer holds before the call.
 fn noise(i: usize) -> u8 {
     (i % 251) as u8
@@ -131,7 +116,7 @@ fn holds(buffer: &[u8], expected: &[u8], n: usize) -> bool {
     if buffer.len() < n {
         return false;
     }
-    if !records::text::same_text(&buffer[..n], &expected[..n]) {
+    if !records::text::same_text(front(buffer, n), front(expected, n)) {
         return false;
     }
     is_noise(buffer, n)
@@ -166,12 +151,12 @@ fn written(case: Case) -> usize {
     0
 }
 
-// "A diagnostic is 10 bytes"; of more than a case has room for, one byte too many.
+// The bytes of so many diagnostics; of more than a case has room for, one byte too many.
 fn diagnostics_size(count: usize) -> usize {
     if ROOM < count {
         return ROOM + 1;
     }
-    count * 10
+    count * DIAGNOSTIC_SIZE
 }
 
 fn marked(case: Case) -> usize {
@@ -211,46 +196,35 @@ fn call_cut(case: Case, tree: &[u8], list: &[u8], output: &[u8], diagnostics: &[
     if list.len() < case.list {
         return false;
     }
-    let mut out = [0u8; ROOM];
-    let mut dia = [0u8; ROOM];
     if ROOM < case.out {
         return false;
     }
     if ROOM < case.diagnostics {
         return false;
     }
+    let mut out = [0u8; ROOM];
+    let mut dia = [0u8; ROOM];
     call(
         case,
-        &tree[..case.tree],
-        &list[..case.list],
+        front(tree, case.tree),
+        front(list, case.list),
         output,
         diagnostics,
-        &mut out[..case.out],
-        &mut dia[..case.diagnostics],
+        front_mut(&mut out, case.out),
+        front_mut(&mut dia, case.diagnostics),
     )
 }
 
-// The next case of the input, with its number.
-fn replay_one(tree: &mut [u8], list: &mut [u8], number: usize) -> usize
+// The case whose tree and list were read: what it expects is read, and compared with what the call gives.
+fn compare(case: Case, tree: &[u8], list: &[u8], number: usize) -> usize
     ensures { λ r. ⌜ r ≤ 2 ⌝ }
 {
-    let mut numbers = [0u8; NUMBERS];
-    if !read_bytes(&mut numbers, NUMBERS) {
-        return END;
-    }
-    let case = case_of(&numbers);
     let mut output = [0u8; ROOM];
     let mut diagnostics = [0u8; ROOM];
-    if !read_bytes(tree, case.tree_bytes) {
+    if !read_bytes(&mut output, written(case)).whole {
         return END;
     }
-    if !read_bytes(list, case.list_bytes) {
-        return END;
-    }
-    if !read_bytes(&mut output, written(case)) {
-        return END;
-    }
-    if !read_bytes(&mut diagnostics, marked(case)) {
+    if !read_bytes(&mut diagnostics, marked(case)).whole {
         return END;
     }
     if call_cut(case, tree, list, &output, &diagnostics) {
@@ -258,6 +232,24 @@ fn replay_one(tree: &mut [u8], list: &mut [u8], number: usize) -> usize
     }
     print_case(number);
     DIFFERS
+}
+
+// The next case of the input, with its number.
+fn replay_one(tree: &mut [u8], list: &mut [u8], number: usize) -> usize
+    ensures { λ r. ⌜ r ≤ 2 ⌝ }
+{
+    let mut numbers = [0u8; NUMBERS];
+    if !read_bytes(&mut numbers, NUMBERS).whole {
+        return END;
+    }
+    let case = case_of(&numbers);
+    if !read_bytes(tree, case.tree_bytes).whole {
+        return END;
+    }
+    if !read_bytes(list, case.list_bytes).whole {
+        return END;
+    }
+    compare(case, tree, list, number)
 }
 
 fn show_counts(cases: usize, differ: usize) {

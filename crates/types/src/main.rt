@@ -2,48 +2,22 @@
 // and what is written where there is exactly as much room as it asked for. Each module stands behind its length in two bytes. What has to be
 // printed comes from the Rust: `oracle types`.
 ghost use mathlib.Core.Path.{_≡_};
-ghost use lib.ListN.{length};
 ghost use Rattle.definition.specs.Check.{deepest};
 ghost use Rattle.definition.specs.Children.{AcceptedAt};
 ghost use Rattle.prescan.specs.Scope.{Skips};
-use grammar::Checked;
-use grammar::Refusal;
-use libc::STDIN_FILENO;
-use libc::STDOUT_FILENO;
+use console::MOST;
+use console::ROOM;
+use console::UNRESOLVED;
+use console::front_mut;
+use console::print;
+use console::print_hex;
+use console::print_number;
+use console::unwritten;
 use prescan::Scope;
 use records::marks::XE;
 use typing::Mode;
 use typing::State;
 use typing::Typed;
-
-// The unresolved context.
-const UNRESOLVED: u32 = 1;
-
-// The most modules that are read.
-const MOST: usize = 65536;
-
-// The most bytes of a type, and of its diagnostics.
-const ROOM: usize = 4096;
-
-fn print(text: &[u8]) {
-    io::write_all(STDOUT_FILENO, text);
-}
-
-fn print_number(n: usize) {
-    io::print_decimal(STDOUT_FILENO, n as u64);
-}
-
-fn wide(b: u8) -> u64 {
-    b as u64
-}
-
-fn print_hex(bytes: &[u8]) {
-    let mut i = 0;
-    while i < bytes.len() {
-        io::print_hex(STDOUT_FILENO, wide(bytes[i]), 2);
-        i += 1;
-    }
-}
 
 // ---- One typing
 
@@ -101,35 +75,42 @@ fn show_label(at: usize, mode: Mode) {
     }
 }
 
+// A typing into the whole of the two buffers.
+fn type_whole(
+    tree: &[u8],
+    at: usize,
+    left: usize,
+    mode: Mode,
+    out: &mut [u8],
+    diagnostics: &mut [u8],
+) -> Typed
+    requires { ⌜ AcceptedAt left (now tree) at ⌝ }
+    requires { ⌜ AcceptedAt deepest (now tree) 0 ⌝ }
+    requires { ⌜ Skips (now tree) (mode .scope) ⌝ }
+{
+    typing::expr_to_ts_type(tree, at, left, mode, out, diagnostics, start())
+}
+
 // The dry run: there is no room for anything.
 fn dry_run(tree: &[u8], at: usize, left: usize, mode: Mode) -> State
     requires { ⌜ AcceptedAt left (now tree) at ⌝ }
     requires { ⌜ AcceptedAt deepest (now tree) 0 ⌝ }
     requires { ⌜ Skips (now tree) (mode .scope) ⌝ }
 {
-    let mut out = [0u8; 1];
-    let mut diagnostics = [0u8; 1];
-    let typed = typing::expr_to_ts_type(
-        tree,
-        at,
-        left,
-        mode,
-        &mut out[..0],
-        &mut diagnostics[..0],
-        start(),
-    );
+    let mut out = [0u8; 0];
+    let mut diagnostics = [0u8; 0];
+    let typed = type_whole(tree, at, left, mode, &mut out, &mut diagnostics);
     show_label(at, mode);
     print(b" dry ");
     show_answer(typed)
 }
 
-// The run into the whole of the two buffers.
 fn run(tree: &[u8], at: usize, left: usize, mode: Mode, out: &mut [u8], diagnostics: &mut [u8])
     requires { ⌜ AcceptedAt left (now tree) at ⌝ }
     requires { ⌜ AcceptedAt deepest (now tree) 0 ⌝ }
     requires { ⌜ Skips (now tree) (mode .scope) ⌝ }
 {
-    let typed = typing::expr_to_ts_type(tree, at, left, mode, out, diagnostics, start());
+    let typed = type_whole(tree, at, left, mode, out, diagnostics);
     show_label(at, mode);
     print(b" run ");
     show_answer(typed);
@@ -138,13 +119,6 @@ fn run(tree: &[u8], at: usize, left: usize, mode: Mode, out: &mut [u8], diagnost
     print(b"\ndiagnostics=");
     print_hex(diagnostics);
     print(b"\n");
-}
-
-// A buffer of bytes that no record begins with.
-fn unwritten() -> [u8; ROOM]
-    ensures { λ r. ⌜ 4096 ≡ length r ⌝ }
-{
-    [0xa5; ROOM]
 }
 
 fn show_typing(tree: &[u8], at: usize, left: usize, scope: Scope, as_const: bool, as_readonly: bool)
@@ -171,7 +145,14 @@ fn show_typing(tree: &[u8], at: usize, left: usize, scope: Scope, as_const: bool
     }
     let mut out = unwritten();
     let mut diagnostics = unwritten();
-    run(tree, at, left, mode, &mut out[..p], &mut diagnostics[..d]);
+    run(
+        tree,
+        at,
+        left,
+        mode,
+        front_mut(&mut out, p),
+        front_mut(&mut diagnostics, d),
+    );
 }
 
 // ---- Modules
@@ -218,42 +199,22 @@ fn show_items(tree: &[u8])
     }
 }
 
-fn show_refusal(refusal: Refusal, place: usize) {
-    print(b"refused ");
-    io::print_decimal(STDOUT_FILENO, grammar::number_of(refusal) as u64);
-    print(b" at ");
-    print_number(place);
-    print(b"\n");
-}
-
 fn show_module(tree: &[u8]) {
-    let none = [0u8; 1];
-    let found = grammar::check_tree(tree, &none[..0]);
-    match found {
-        Checked::Fine(end) => {
-            print(b"accepted\n");
-            show_items(tree);
-        }
-        Checked::Refused(refusal, place) => show_refusal(refusal, place),
+    if console::print_check(tree) {
+        show_items(tree);
     }
 }
 
 // The next module of the input, with its number; false where there is none.
 fn next_module(number: usize) -> bool {
-    let mut length = [0u8; 2];
-    let got = io::read_full(STDIN_FILENO, &mut length);
-    if got < 2 {
-        return false;
-    }
-    let n = records::u16_at(&length, 0) as usize;
     let mut buffer = io::large_buffer();
-    let m = io::read_full(STDIN_FILENO, &mut buffer[..n]);
-    if m < n {
+    let read = console::read_framed(&mut buffer);
+    if !read.whole {
         return false;
     }
     print_number(number);
     print(b" ");
-    show_module(&buffer[..n]);
+    show_module(&buffer[..read.length]);
     true
 }
 

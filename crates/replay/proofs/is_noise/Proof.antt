@@ -4,9 +4,6 @@ use lib.ListN.{length}
 use borrow.Author.Needs.{needs}
 use Rattle.replay.proofs.is_noise.Statement.{statement}
 use Rattle.replay.proofs.is_noise.Tie as tie
-use Rattle.replay.proofs.is_noise.Reads as reads
-use Rattle.replay.proofs.is_noise.Lts as lts
-use Rattle.replay.proofs.noise.Reads as noise-reads
 
 abbrev Inv-loop : tie.InvT-loop
 Inv-loop buffer from i₀ i = Unit {0}

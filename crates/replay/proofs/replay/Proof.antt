@@ -6,10 +6,6 @@ use borrow.Author.Needs.{needs}
 use lib.ListN.{length}
 use Rattle.replay.proofs.replay.Statement.{statement}
 use Rattle.replay.proofs.replay.Tie as tie
-use Rattle.replay.proofs.replay.Reads as reads
-use Rattle.replay.proofs.replay.Lts as lts
-use Rattle.replay.proofs.replay_one.Reads as replay-one-reads
-use Rattle.replay.proofs.show_counts.Reads as show-counts-reads
 
 abbrev Inv-loop : tie.InvT-loop
 Inv-loop tree₀ list₀ cases₀ differ₀ tree list cases differ = (cases ≤ 1000000) × (differ ≤ cases + cases) × (length tree ≡ length tree₀) × (length list ≡ length list₀)
