@@ -1,5 +1,6 @@
-//! The cases of the program `replay` with the Rust's answers: ten numbers of
-//! four bytes for each, then its bytes, as crates/replay/src/main.rt says.
+//! The cases of the program `test_replay` with the Rust's answers: ten numbers
+//! of four bytes for each, then its bytes, as crates/test_replay/src/main.rt
+//! says.
 
 use crate::call::Answer;
 use crate::generate::Case;

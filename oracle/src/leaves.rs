@@ -1,5 +1,5 @@
-//! The cases of the program `leaves`: small trees, and what the originals' own
-//! functions give for every record of them, as the program prints it.
+//! The cases of the program `test_leaves`: small trees, and what the originals'
+//! own functions give for every record of them, as the program prints it.
 
 use std::fmt::Write;
 

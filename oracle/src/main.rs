@@ -31,10 +31,10 @@ oracle replay FILE   runs such lines and compares
 oracle tell FILE     the same lines in notation, to be read
 oracle leaves FOLDER [N SEED]
 oracle types FOLDER [N SEED]
-    the cases of the program of this name and what it has to print, written to
-    the files stdin and stdout in its folder; or those of N random trees
+    the cases of `test_leaves` or `test_types` and what it has to print, written
+    to the files stdin and stdout in its folder; or those of N random trees
 oracle answers FOLDER N SEED
-    the cases of the program `replay` with the Rust's answers: those of
+    the cases of the program `test_replay` with the Rust's answers: those of
     cases/shown.txt, the small and some of the deep ones at the limits, and N
     random ones with trees of at most 400 bytes; written to stdin and stdout in its folder
 TREE is in notation, as 'Mo(Xe(Ar))'; without it bytes come from standard input.";

@@ -1,5 +1,5 @@
-//! The cases of the program `types`: modules, and the typing of the expression
-//! of each `Xe` of theirs by the original, as the program prints it.
+//! The cases of the program `test_types`: modules, and the typing of the
+//! expression of each `Xe` of theirs by the original, as the program prints it.
 
 use std::fmt::Write;
 

@@ -15,12 +15,12 @@ fn same(program: &str, stdin: &[u8], stdout: &str) {
 fn leaves() {
   let trees = oracle::leaves::trees();
   let stdin = oracle::leaves::stdin(&trees);
-  same("leaves", &stdin, &oracle::leaves::stdout(&trees));
+  same("test_leaves", &stdin, &oracle::leaves::stdout(&trees));
 }
 
 #[test]
 fn types() {
   let trees = oracle::types::trees();
   let stdin = oracle::leaves::stdin(&trees);
-  same("types", &stdin, &oracle::types::stdout(&trees));
+  same("test_types", &stdin, &oracle::types::stdout(&trees));
 }

@@ -58,6 +58,3 @@ module _ (tree list : List ℕ) (ctx : ℕ) (out diags : List ℕ) {a : Answer} 
 
   pub marked-inside : k * 10 ≤ length g
   marked-inside = omega (arith, kept .diag-room, kept .diags-length, ap length (w .diagnostics))
-
-  pub marked-length : k * 10 ≡ length (take (k * 10) g)
-  marked-length = sym (length-take-le (k * 10) g marked-inside)
