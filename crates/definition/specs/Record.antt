@@ -1,4 +1,5 @@
--- The parts of a record, records made afresh, diagnostics, and what a step of the transform gives, with the combinators that steps are built of.
+-- The parts of a record, ranges, records made afresh, flags, diagnostics, and what a step of the transform gives, with the combinators that steps
+-- are built of.
 -- Assumes nothing: these are definitions.
 use Prim.Native.Nat.{ℕ, zero, suc, _+_, _*_, _/_, _%_}
 use Prim.Native.Char.{code}

@@ -2,8 +2,8 @@
 -- nothing: these are definitions.
 use mathlib.Core.Path.{_≡_}
 use mathlib.Core.Logic.{_⊎_}
-use Prim.Native.Nat.{ℕ, _%_}
-use mathlib.Core.List.{List, _∷_, _++_}
+use Prim.Native.Nat.{ℕ}
+use mathlib.Core.List.{List, _++_}
 use lib.ListN.{length}
 use Rattle.definition.specs.Tree
 use Rattle.definition.specs.Tree.{flagBytes, le2, le4, markAt, flagsAt, startAt, lastAt, lengthAt, countAt}
@@ -35,7 +35,7 @@ fieldBytes h =
 
 -- ---- ranges
 
--- a range of the definition as the code has it
+-- a range of the code as the definition has it
 abbrev pub span : Range → Record.Range
 span a = record { start = a .start; end = a .end }
 
