@@ -1,4 +1,4 @@
--- What parameters and members ask, from what was asked of the records that they stand in. Assumes nothing.
+-- What parameters and members ask, from what was asked of the records that they stand in.
 use mathlib.Core.Path.{_≡_}
 use mathlib.Core.List.{List}
 use Prim.Native.Nat.{ℕ, _-_, _≤_}
@@ -9,9 +9,9 @@ use Rattle.typing.specs.Did.{Ready}
 use Rattle.classes.specs.Typings.{ReadyAll}
 
 -- some children, at the same counter
-pub ready-all : {left : ℕ} {tree : List ℕ} {at n : ℕ} {scope : Scope} → Ready left tree at n scope → {k p m : ℕ} → AllAccepted (left - 1) tree k p → at ≤ p → m ≡ n → ReadyAll (left - 1) tree k p m scope
+pub ready-all : {levels : ℕ} {tree : List ℕ} {at n : ℕ} {scope : Scope} → Ready levels tree at n scope → {k p m : ℕ} → AllAccepted (levels - 1) tree k p → at ≤ p → m ≡ n → ReadyAll (levels - 1) tree k p m scope
 ready-all r a h e = record { accepted = a; root = r .root; low = omega (arith, r .low, e); skips = r .skips }
 
 -- one of them
-pub ready-one : {left : ℕ} {tree : List ℕ} {k at n : ℕ} {scope : Scope} → ReadyAll left tree k at n scope → {p m : ℕ} → AcceptedAt left tree p → m ≤ p → Ready left tree p m scope
+pub ready-one : {levels : ℕ} {tree : List ℕ} {k at n : ℕ} {scope : Scope} → ReadyAll levels tree k at n scope → {p m : ℕ} → AcceptedAt levels tree p → m ≤ p → Ready levels tree p m scope
 ready-one r a h = record { accepted = a; root = r .root; low = h; skips = r .skips }

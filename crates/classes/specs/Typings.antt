@@ -1,4 +1,4 @@
--- The typing that the definition's parameters and members are given, and what is asked of several records. Assumes nothing: these are definitions.
+-- The typing that the definition's parameters and members are given, and what is asked of several records.
 use mathlib.Core.List.{List}
 use mathlib.Core.Bool.{Bool, true, false, cond}
 use mathlib.Core.Option.{Option, none, some}
@@ -20,9 +20,9 @@ use Rattle.typing.specs.Did.{idsOf, answerOf, bytesOf, fitOf, Puts}
 abbrev pub typingOf : List ℕ → Scope → Typing
 typingOf tree scope = exprToTsType (idsOf tree) (scope .unresolved)
 
--- the n records from `at` on, of an accepted tree, with `left` levels left for each; no more names were made than bytes stand before them
-pub record ReadyAll (left : ℕ) (tree : List ℕ) (n at names : ℕ) (scope : Scope) : Type 0 where
-  pub accepted : AllAccepted left tree n at
+-- the n records from `at` on, of an accepted tree, with `levels` levels left for each; no more names were made than bytes stand before them
+pub record ReadyAll (levels : ℕ) (tree : List ℕ) (n at names : ℕ) (scope : Scope) : Type 0 where
+  pub accepted : AllAccepted levels tree n at
   pub root : AcceptedAt deepest tree 0
   pub low : names ≤ at
   pub skips : Skips tree scope

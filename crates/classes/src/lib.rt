@@ -50,17 +50,17 @@ mod params;
 fn put_prop_name(
     tree: &[u8],
     at: usize,
-    left: usize,
+    levels: usize,
     unresolved: u32,
     out: &mut [u8],
     s: State,
 ) -> Typed
-    requires { ⌜ AcceptedAt left (now tree) at ⌝ }
+    requires { ⌜ AcceptedAt levels (now tree) at ⌝ }
     ensures { λ r. ⌜
-        Named (now (out .entry)) (now (out .exit)) s r (validPropName unresolved (treeAt left (now (tree .entry)) at))
+        Named (now (out .entry)) (now (out .exit)) s r (validPropName unresolved (treeAt levels (now (tree .entry)) at))
         ⌝ }
 {
-    match names::valid_prop_name(tree, at, left, unresolved) {
+    match names::valid_prop_name(tree, at, levels, unresolved) {
         Key::Stands(key, levels) => Typed::Some(keep(tree, key, levels, out, s)),
         Key::Computed(expr, levels) => {
             let range = records::range_at(tree, expr);
@@ -76,51 +76,51 @@ fn put_prop_name(
 fn put_return_type(
     tree: &[u8],
     at: usize,
-    left: usize,
+    levels: usize,
     setter: bool,
     out: &mut [u8],
     s: State,
 ) -> State
-    requires { ⌜ AcceptedAt left (now tree) at ⌝ }
-    ensures { λ r. ⌜ Keeps (now (out .entry)) (now (out .exit)) s r (returnPart setter (treeAt left (now (tree .entry)) at)) ⌝ }
+    requires { ⌜ AcceptedAt levels (now tree) at ⌝ }
+    ensures { λ r. ⌜ Keeps (now (out .entry)) (now (out .exit)) s r (returnPart setter (treeAt levels (now (tree .entry)) at)) ⌝ }
 {
     if setter {
-        return put_gone(tree, at, left, out, s);
+        return put_gone(tree, at, levels, out, s);
     }
-    keep(tree, at, left, out, s)
+    keep(tree, at, levels, out, s)
 }
 
 // A function, the Fu at `at`: its body goes, and `handle_func_params`.
 pub fn handle_function(
     tree: &[u8],
     at: usize,
-    left: usize,
+    levels: usize,
     scope: Scope,
     setter: bool,
     out: &mut [u8],
     diagnostics: &mut [u8],
     s: State,
 ) -> State
-    requires { ⌜ Ready left (now tree) at (s .n) scope × (markAt (now tree) at ≡ mark "Fu") ⌝ }
+    requires { ⌜ Ready levels (now tree) at (s .n) scope × (markAt (now tree) at ≡ mark "Fu") ⌝ }
     ensures { λ r. ⌜
         Makes (now (out .entry)) (now (out .exit)) (now (diagnostics .entry)) (now (diagnostics .exit)) s r
-        (handleFunction (typingOf (now (tree .entry)) scope) setter (treeAt left (now (tree .entry)) at) (s .n))
+        (handleFunction (typingOf (now (tree .entry)) scope) setter (treeAt levels (now (tree .entry)) at) (s .n))
         ⌝ }
 {
     let head = read_head(tree, at);
     let type_params = body_at(tree, at);
-    let return_type = record_end(tree, type_params, left - 1);
-    let body = record_end(tree, return_type, left - 1);
-    let params = record_end(tree, body, left - 1);
-    let front = put_front(tree, at, left, head.flags, head.count, out, s);
-    let kept = keep(tree, type_params, left - 1, out, front);
-    let typed = put_return_type(tree, return_type, left - 1, setter, out, kept);
-    let bare = put_gone(tree, body, left - 1, out, typed);
+    let return_type = record_end(tree, type_params, levels - 1);
+    let body = record_end(tree, return_type, levels - 1);
+    let params = record_end(tree, body, levels - 1);
+    let front = put_front(tree, at, levels, head.flags, head.count, out, s);
+    let kept = keep(tree, type_params, levels - 1, out, front);
+    let typed = put_return_type(tree, return_type, levels - 1, setter, out, kept);
+    let bare = put_gone(tree, body, levels - 1, out, typed);
     handle_func_params(
         tree,
         params,
         head.count - 3,
-        left - 1,
+        levels - 1,
         scope,
         out,
         diagnostics,
@@ -132,28 +132,28 @@ pub fn handle_function(
 fn constructor(
     tree: &[u8],
     at: usize,
-    left: usize,
+    levels: usize,
     scope: Scope,
     out: &mut [u8],
     diagnostics: &mut [u8],
     s: State,
 ) -> Counted
-    requires { ⌜ Ready left (now tree) at (s .n) scope × (markAt (now tree) at ≡ mark "Co") ⌝ }
+    requires { ⌜ Ready levels (now tree) at (s .n) scope × (markAt (now tree) at ≡ mark "Co") ⌝ }
     ensures { λ r. ⌜
         Gives (now (out .entry)) (now (out .exit)) (now (diagnostics .entry)) (now (diagnostics .exit)) s r
-        (constructor (typingOf (now (tree .entry)) scope) (treeAt left (now (tree .entry)) at) (s .n))
+        (constructor (typingOf (now (tree .entry)) scope) (treeAt levels (now (tree .entry)) at) (s .n))
         ⌝ }
 {
     let head = read_head(tree, at);
     let body = body_at(tree, at);
-    let params = record_end(tree, body, left - 1);
-    let front = put_front(tree, at, left, head.flags, head.count, out, s);
-    let bare = put_gone(tree, body, left - 1, out, front);
+    let params = record_end(tree, body, levels - 1);
+    let front = put_front(tree, at, levels, head.flags, head.count, out, s);
+    let bare = put_gone(tree, body, levels - 1, out, front);
     let next = handle_ts_param_props(
         tree,
         params,
         head.count - 1,
-        left - 1,
+        levels - 1,
         scope,
         out,
         diagnostics,
@@ -166,39 +166,40 @@ fn constructor(
 fn method(
     tree: &[u8],
     at: usize,
-    left: usize,
+    levels: usize,
     scope: Scope,
     out: &mut [u8],
     diagnostics: &mut [u8],
     s: State,
 ) -> Counted
-    requires { ⌜ Ready left (now tree) at (s .n) scope × (markAt (now tree) at ≡ mark "Me") ⌝ }
+    requires { ⌜ Ready levels (now tree) at (s .n) scope × (markAt (now tree) at ≡ mark "Me") ⌝ }
     ensures { λ r. ⌜
         Gives (now (out .entry)) (now (out .exit)) (now (diagnostics .entry)) (now (diagnostics .exit)) s r
-        (method (typingOf (now (tree .entry)) scope) (treeAt left (now (tree .entry)) at)
-        (validPropName (scope .unresolved) (kid 0 (kidsOf (treeAt left (now (tree .entry)) at)))) (s .n))
+        (method (typingOf (now (tree .entry)) scope) (treeAt levels (now (tree .entry)) at)
+        (validPropName (scope .unresolved) (kid 0 (kidsOf (treeAt levels (now (tree .entry)) at)))) (s .n))
         ⌝ }
 {
     let head = read_head(tree, at);
     let key = body_at(tree, at);
-    let function = record_end(tree, key, left - 1);
-    let rest = record_end(tree, function, left - 1);
-    let front = put_front(tree, at, left, head.flags, head.count, out, s);
-    let Typed::Some(named) = put_prop_name(tree, key, left - 1, scope.unresolved, out, front) else {
+    let function = record_end(tree, key, levels - 1);
+    let rest = record_end(tree, function, levels - 1);
+    let front = put_front(tree, at, levels, head.flags, head.count, out, s);
+    let Typed::Some(named) = put_prop_name(tree, key, levels - 1, scope.unresolved, out, front)
+    else {
         return Counted { s, count: 0 };
     };
     let setter = has_flag(head.flags, SETTER);
     let made = handle_function(
         tree,
         function,
-        left - 1,
+        levels - 1,
         scope,
         setter,
         out,
         diagnostics,
         named,
     );
-    let next = keep_all(tree, rest, head.count - 2, left - 1, out, made);
+    let next = keep_all(tree, rest, head.count - 2, levels - 1, out, made);
     Counted { s: next, count: 1 }
 }
 
@@ -207,27 +208,27 @@ fn prop_type(
     tree: &[u8],
     at: usize,
     value: usize,
-    left: usize,
+    levels: usize,
     scope: Scope,
     out: &mut [u8],
     diagnostics: &mut [u8],
     s: State,
 ) -> State
-    requires { ⌜ AcceptedAt left (now tree) at ⌝ }
-    requires { ⌜ Ready left (now tree) value (s .n) scope ⌝ }
+    requires { ⌜ AcceptedAt levels (now tree) at ⌝ }
+    requires { ⌜ Ready levels (now tree) value (s .n) scope ⌝ }
     ensures { λ r. ⌜
         Makes (now (out .entry)) (now (out .exit)) (now (diagnostics .entry)) (now (diagnostics .exit)) s r
-        (propType (typingOf (now (tree .entry)) scope) (treeAt left (now (tree .entry)) value) (treeAt left (now (tree .entry)) at) (s .n))
+        (propType (typingOf (now (tree .entry)) scope) (treeAt levels (now (tree .entry)) value) (treeAt levels (now (tree .entry)) at) (s .n))
         ⌝ }
 {
     if mark_at(tree, value) == NO {
-        return keep(tree, at, left, out, s);
+        return keep(tree, at, levels, out, s);
     }
     if mark_at(tree, at) != NO {
-        return keep(tree, at, left, out, s);
+        return keep(tree, at, levels, out, s);
     }
     let mode = typing::mutable(scope);
-    match typing::expr_to_ts_type(tree, value, left, mode, out, diagnostics, s) {
+    match typing::expr_to_ts_type(tree, value, levels, mode, out, diagnostics, s) {
         Typed::Some(made) => made,
         Typed::None(failed) => put_any(DUMMY_SP, out, failed),
     }
@@ -237,42 +238,43 @@ fn prop_type(
 fn class_prop(
     tree: &[u8],
     at: usize,
-    left: usize,
+    levels: usize,
     scope: Scope,
     out: &mut [u8],
     diagnostics: &mut [u8],
     s: State,
 ) -> Counted
-    requires { ⌜ Ready left (now tree) at (s .n) scope × (markAt (now tree) at ≡ mark "Cp") ⌝ }
+    requires { ⌜ Ready levels (now tree) at (s .n) scope × (markAt (now tree) at ≡ mark "Cp") ⌝ }
     ensures { λ r. ⌜
         Gives (now (out .entry)) (now (out .exit)) (now (diagnostics .entry)) (now (diagnostics .exit)) s r
-        (classProp (typingOf (now (tree .entry)) scope) (treeAt left (now (tree .entry)) at)
-        (validPropName (scope .unresolved) (kid 0 (kidsOf (treeAt left (now (tree .entry)) at)))) (s .n))
+        (classProp (typingOf (now (tree .entry)) scope) (treeAt levels (now (tree .entry)) at)
+        (validPropName (scope .unresolved) (kid 0 (kidsOf (treeAt levels (now (tree .entry)) at)))) (s .n))
         ⌝ }
 {
     let head = read_head(tree, at);
     let key = body_at(tree, at);
-    let type_ann = record_end(tree, key, left - 1);
-    let value = record_end(tree, type_ann, left - 1);
-    let rest = record_end(tree, value, left - 1);
+    let type_ann = record_end(tree, key, levels - 1);
+    let value = record_end(tree, type_ann, levels - 1);
+    let rest = record_end(tree, value, levels - 1);
     let undeclared = without_flag(head.flags, DECLARE);
     let flags = without_flag(undeclared, DEFINITE);
-    let front = put_front(tree, at, left, flags, head.count, out, s);
-    let Typed::Some(named) = put_prop_name(tree, key, left - 1, scope.unresolved, out, front) else {
+    let front = put_front(tree, at, levels, flags, head.count, out, s);
+    let Typed::Some(named) = put_prop_name(tree, key, levels - 1, scope.unresolved, out, front)
+    else {
         return Counted { s, count: 0 };
     };
     let typed = prop_type(
         tree,
         type_ann,
         value,
-        left - 1,
+        levels - 1,
         scope,
         out,
         diagnostics,
         named,
     );
-    let bare = put_gone(tree, value, left - 1, out, typed);
-    let next = keep_all(tree, rest, head.count - 3, left - 1, out, bare);
+    let bare = put_gone(tree, value, levels - 1, out, typed);
+    let next = keep_all(tree, rest, head.count - 3, levels - 1, out, bare);
     Counted { s: next, count: 1 }
 }
 
@@ -280,17 +282,17 @@ fn class_prop(
 fn class_member(
     tree: &[u8],
     at: usize,
-    left: usize,
+    levels: usize,
     scope: Scope,
     list: &[u8],
     out: &mut [u8],
     diagnostics: &mut [u8],
     s: State,
 ) -> Counted
-    requires { ⌜ Ready left (now tree) at (s .n) scope ⌝ }
+    requires { ⌜ Ready levels (now tree) at (s .n) scope ⌝ }
     ensures { λ r. ⌜
         Gives (now (out .entry)) (now (out .exit)) (now (diagnostics .entry)) (now (diagnostics .exit)) s r
-        (member (now (list .entry)) (scope .unresolved) (typingOf (now (tree .entry)) scope) (treeAt left (now (tree .entry)) at) (s .n))
+        (member (now (list .entry)) (scope .unresolved) (typingOf (now (tree .entry)) scope) (treeAt levels (now (tree .entry)) at) (s .n))
         ⌝ }
 {
     match mark_at(tree, at) {
@@ -298,18 +300,18 @@ fn class_member(
             if is_impl_with_overloads(list, tree, at) {
                 return Counted { s, count: 0 };
             }
-            constructor(tree, at, left, scope, out, diagnostics, s)
+            constructor(tree, at, levels, scope, out, diagnostics, s)
         }
         ME => {
             if is_impl_with_overloads(list, tree, at) {
                 return Counted { s, count: 0 };
             }
-            method(tree, at, left, scope, out, diagnostics, s)
+            method(tree, at, levels, scope, out, diagnostics, s)
         }
-        CP => class_prop(tree, at, left, scope, out, diagnostics, s),
+        CP => class_prop(tree, at, levels, scope, out, diagnostics, s),
         DM => Counted { s, count: 0 },
         _ => {
-            let next = keep(tree, at, left, out, s);
+            let next = keep(tree, at, levels, out, s);
             Counted { s: next, count: 1 }
         }
     }
@@ -319,34 +321,34 @@ fn class_member(
 pub fn class_body_to_type(
     tree: &[u8],
     at: usize,
-    left: usize,
+    levels: usize,
     scope: Scope,
     list: &[u8],
     out: &mut [u8],
     diagnostics: &mut [u8],
     s: State,
 ) -> State
-    requires { ⌜ Ready left (now tree) at (s .n) scope × (markAt (now tree) at ≡ mark "Cl") ⌝ }
+    requires { ⌜ Ready levels (now tree) at (s .n) scope × (markAt (now tree) at ≡ mark "Cl") ⌝ }
     ensures { λ r. ⌜
         Makes (now (out .entry)) (now (out .exit)) (now (diagnostics .entry)) (now (diagnostics .exit)) s r
-        (class (now (list .entry)) (scope .unresolved) (typingOf (now (tree .entry)) scope) (treeAt left (now (tree .entry)) at) (s .n))
+        (class (now (list .entry)) (scope .unresolved) (typingOf (now (tree .entry)) scope) (treeAt levels (now (tree .entry)) at) (s .n))
         ⌝ }
 {
     let head = read_head(tree, at);
     let type_params = body_at(tree, at);
     let mut n = head.count - 1;
-    let mut child = record_end(tree, type_params, left - 1);
+    let mut child = record_end(tree, type_params, levels - 1);
     let mut start = s;
     start.p = records::advance(s.p, front_size(tree, at));
-    let mut next = keep(tree, type_params, left - 1, out, start);
+    let mut next = keep(tree, type_params, levels - 1, out, start);
     let mut count = 1;
     while 0 < n {
-        let made = class_member(tree, child, left - 1, scope, list, out, diagnostics, next);
+        let made = class_member(tree, child, levels - 1, scope, list, out, diagnostics, next);
         next = made.s;
         count += made.count;
-        child = record_end(tree, child, left - 1);
+        child = record_end(tree, child, levels - 1);
         n -= 1;
     }
-    put_front(tree, at, left, head.flags, count, out, s);
+    put_front(tree, at, levels, head.flags, count, out, s);
     next
 }

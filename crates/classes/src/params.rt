@@ -38,20 +38,20 @@ use typing::State;
 fn infer_expr_fallback_any(
     tree: &[u8],
     at: usize,
-    left: usize,
+    levels: usize,
     scope: Scope,
     out: &mut [u8],
     diagnostics: &mut [u8],
     s: State,
 ) -> State
-    requires { ⌜ Ready left (now tree) at (s .n) scope ⌝ }
+    requires { ⌜ Ready levels (now tree) at (s .n) scope ⌝ }
     ensures { λ r. ⌜
         Makes (now (out .entry)) (now (out .exit)) (now (diagnostics .entry)) (now (diagnostics .exit)) s r
-        (inferExprFallbackAny (typingOf (now (tree .entry)) scope) (treeAt left (now (tree .entry)) at) (s .n))
+        (inferExprFallbackAny (typingOf (now (tree .entry)) scope) (treeAt levels (now (tree .entry)) at) (s .n))
         ⌝ }
 {
     let mode = typing::mutable(scope);
-    let t = typing::expr_to_ts_type(tree, at, left, mode, out, diagnostics, s);
+    let t = typing::expr_to_ts_type(tree, at, levels, mode, out, diagnostics, s);
     typing::or_any(tree, at, D2, t, out, diagnostics)
 }
 
@@ -59,28 +59,28 @@ fn infer_expr_fallback_any(
 fn handle_func_param_ident(
     tree: &[u8],
     at: usize,
-    left: usize,
+    levels: usize,
     out: &mut [u8],
     diagnostics: &mut [u8],
     s: State,
 ) -> State
-    requires { ⌜ AcceptedAt left (now tree) at × (markAt (now tree) at ≡ mark "Bd") ⌝ }
+    requires { ⌜ AcceptedAt levels (now tree) at × (markAt (now tree) at ≡ mark "Bd") ⌝ }
     ensures { λ r. ⌜
         Makes (now (out .entry)) (now (out .exit)) (now (diagnostics .entry)) (now (diagnostics .exit)) s r
-        (handleFuncParamIdent (treeAt left (now (tree .entry)) at) (s .n))
+        (handleFuncParamIdent (treeAt levels (now (tree .entry)) at) (s .n))
         ⌝ }
 {
     let head = read_head(tree, at);
     let ident = body_at(tree, at);
-    let type_ann = record_end(tree, ident, left - 1);
+    let type_ann = record_end(tree, ident, levels - 1);
     if mark_at(tree, type_ann) != NO {
-        return keep(tree, at, left, out, s);
+        return keep(tree, at, levels, out, s);
     }
-    let rest = record_end(tree, type_ann, left - 1);
-    let front = put_front(tree, at, left, head.flags, head.count, out, s);
-    let named = keep(tree, ident, left - 1, out, front);
+    let rest = record_end(tree, type_ann, levels - 1);
+    let front = put_front(tree, at, levels, head.flags, head.count, out, s);
+    let named = keep(tree, ident, levels - 1, out, front);
     let typed = put_any(DUMMY_SP, out, named);
-    let next = keep_all(tree, rest, head.count - 2, left - 1, out, typed);
+    let next = keep_all(tree, rest, head.count - 2, levels - 1, out, typed);
     typing::mark_diagnostic(tree, at, D2, diagnostics, next)
 }
 
@@ -89,24 +89,24 @@ fn type_or_infer(
     tree: &[u8],
     ty: usize,
     right: usize,
-    left: usize,
+    levels: usize,
     scope: Scope,
     out: &mut [u8],
     diagnostics: &mut [u8],
     s: State,
 ) -> State
-    requires { ⌜ AcceptedAt (left - 1) (now tree) ty ⌝ }
-    requires { ⌜ Ready left (now tree) right (s .n) scope ⌝ }
+    requires { ⌜ AcceptedAt (levels - 1) (now tree) ty ⌝ }
+    requires { ⌜ Ready levels (now tree) right (s .n) scope ⌝ }
     ensures { λ r. ⌜
         Makes (now (out .entry)) (now (out .exit)) (now (diagnostics .entry)) (now (diagnostics .exit)) s r
-        (typeOr (inferExprFallbackAny (typingOf (now (tree .entry)) scope) (treeAt left (now (tree .entry)) right))
-        (treeAt (left - 1) (now (tree .entry)) ty) (s .n))
+        (typeOr (inferExprFallbackAny (typingOf (now (tree .entry)) scope) (treeAt levels (now (tree .entry)) right))
+        (treeAt (levels - 1) (now (tree .entry)) ty) (s .n))
         ⌝ }
 {
     if mark_at(tree, ty) != NO {
-        return keep(tree, ty, left - 1, out, s);
+        return keep(tree, ty, levels - 1, out, s);
     }
-    infer_expr_fallback_any(tree, right, left, scope, out, diagnostics, s)
+    infer_expr_fallback_any(tree, right, levels, scope, out, diagnostics, s)
 }
 
 // `handle_func_param_assign`, the arm for `Pat::Ident`: the Bd at `at`, whose Id becomes optional; its default is at `right`.
@@ -114,28 +114,37 @@ fn optional_ident(
     tree: &[u8],
     at: usize,
     right: usize,
-    left: usize,
+    levels: usize,
     scope: Scope,
     out: &mut [u8],
     diagnostics: &mut [u8],
     s: State,
 ) -> State
-    requires { ⌜ AcceptedAt left (now tree) at × (markAt (now tree) at ≡ mark "Bd") ⌝ }
-    requires { ⌜ Ready left (now tree) right (s .n) scope ⌝ }
+    requires { ⌜ AcceptedAt levels (now tree) at × (markAt (now tree) at ≡ mark "Bd") ⌝ }
+    requires { ⌜ Ready levels (now tree) right (s .n) scope ⌝ }
     ensures { λ r. ⌜
         Makes (now (out .entry)) (now (out .exit)) (now (diagnostics .entry)) (now (diagnostics .exit)) s r
-        (handleFuncParamAssign (typingOf (now (tree .entry)) scope) pIdent (treeAt left (now (tree .entry)) at)
-        (treeAt left (now (tree .entry)) right) (treeAt left (now (tree .entry)) at) (s .n))
+        (handleFuncParamAssign (typingOf (now (tree .entry)) scope) pIdent (treeAt levels (now (tree .entry)) at)
+        (treeAt levels (now (tree .entry)) right) (treeAt levels (now (tree .entry)) at) (s .n))
         ⌝ }
 {
     let head = read_head(tree, at);
     let ident = body_at(tree, at);
-    let type_ann = record_end(tree, ident, left - 1);
-    let rest = record_end(tree, type_ann, left - 1);
-    let front = put_front(tree, at, left, head.flags, head.count, out, s);
-    let named = put_flagged(tree, ident, left - 1, out, front);
-    let typed = type_or_infer(tree, type_ann, right, left, scope, out, diagnostics, named);
-    keep_all(tree, rest, head.count - 2, left - 1, out, typed)
+    let type_ann = record_end(tree, ident, levels - 1);
+    let rest = record_end(tree, type_ann, levels - 1);
+    let front = put_front(tree, at, levels, head.flags, head.count, out, s);
+    let named = put_flagged(tree, ident, levels - 1, out, front);
+    let typed = type_or_infer(
+        tree,
+        type_ann,
+        right,
+        levels,
+        scope,
+        out,
+        diagnostics,
+        named,
+    );
+    keep_all(tree, rest, head.count - 2, levels - 1, out, typed)
 }
 
 // The arms for `Pat::Array` and `Pat::Object`: the Pb or Po at `at`, which becomes optional.
@@ -143,52 +152,61 @@ fn optional_box(
     tree: &[u8],
     at: usize,
     right: usize,
-    left: usize,
+    levels: usize,
     scope: Scope,
     out: &mut [u8],
     diagnostics: &mut [u8],
     s: State,
 ) -> State
-    requires { ⌜ AcceptedAt left (now tree) at ⌝ }
+    requires { ⌜ AcceptedAt levels (now tree) at ⌝ }
     requires { ⌜ (markAt (now tree) at ≡ mark "Pb") ⊎ (markAt (now tree) at ≡ mark "Po") ⌝ }
-    requires { ⌜ Ready left (now tree) right (s .n) scope ⌝ }
+    requires { ⌜ Ready levels (now tree) right (s .n) scope ⌝ }
     ensures { λ r. ⌜
         Makes (now (out .entry)) (now (out .exit)) (now (diagnostics .entry)) (now (diagnostics .exit)) s r
-        (handleFuncParamAssign (typingOf (now (tree .entry)) scope) pBox (treeAt left (now (tree .entry)) at)
-        (treeAt left (now (tree .entry)) right) (treeAt left (now (tree .entry)) at) (s .n))
+        (handleFuncParamAssign (typingOf (now (tree .entry)) scope) pBox (treeAt levels (now (tree .entry)) at)
+        (treeAt levels (now (tree .entry)) right) (treeAt levels (now (tree .entry)) at) (s .n))
         ⌝ }
 {
     let head = read_head(tree, at);
     let type_ann = body_at(tree, at);
-    let rest = record_end(tree, type_ann, left - 1);
+    let rest = record_end(tree, type_ann, levels - 1);
     let flags = with_flag(head.flags, OPTIONAL);
-    let front = put_front(tree, at, left, flags, head.count, out, s);
-    let typed = type_or_infer(tree, type_ann, right, left, scope, out, diagnostics, front);
-    keep_all(tree, rest, head.count - 1, left - 1, out, typed)
+    let front = put_front(tree, at, levels, flags, head.count, out, s);
+    let typed = type_or_infer(
+        tree,
+        type_ann,
+        right,
+        levels,
+        scope,
+        out,
+        diagnostics,
+        front,
+    );
+    keep_all(tree, rest, head.count - 1, levels - 1, out, typed)
 }
 
 // `handle_func_param_assign`: "Ag over Bd, Pb, Po becomes the left side, optional"; any other Ag stays as it is.
 fn handle_func_param_assign(
     tree: &[u8],
     at: usize,
-    left: usize,
+    levels: usize,
     scope: Scope,
     out: &mut [u8],
     diagnostics: &mut [u8],
     s: State,
 ) -> State
-    requires { ⌜ Ready left (now tree) at (s .n) scope × (markAt (now tree) at ≡ mark "Ag") ⌝ }
+    requires { ⌜ Ready levels (now tree) at (s .n) scope × (markAt (now tree) at ≡ mark "Ag") ⌝ }
     ensures { λ r. ⌜
         Makes (now (out .entry)) (now (out .exit)) (now (diagnostics .entry)) (now (diagnostics .exit)) s r
-        (handlePatternBy (typingOf (now (tree .entry)) scope) pAssign (treeAt left (now (tree .entry)) at) (s .n))
+        (handlePatternBy (typingOf (now (tree .entry)) scope) pAssign (treeAt levels (now (tree .entry)) at) (s .n))
         ⌝ }
 {
     let pattern = body_at(tree, at);
-    let right = record_end(tree, pattern, left - 1);
+    let right = record_end(tree, pattern, levels - 1);
     match mark_at(tree, pattern) {
-        BD => optional_ident(tree, pattern, right, left - 1, scope, out, diagnostics, s),
-        PB | PO => optional_box(tree, pattern, right, left - 1, scope, out, diagnostics, s),
-        _ => keep(tree, at, left, out, s),
+        BD => optional_ident(tree, pattern, right, levels - 1, scope, out, diagnostics, s),
+        PB | PO => optional_box(tree, pattern, right, levels - 1, scope, out, diagnostics, s),
+        _ => keep(tree, at, levels, out, s),
     }
 }
 
@@ -196,22 +214,22 @@ fn handle_func_param_assign(
 fn handle_pattern(
     tree: &[u8],
     at: usize,
-    left: usize,
+    levels: usize,
     scope: Scope,
     out: &mut [u8],
     diagnostics: &mut [u8],
     s: State,
 ) -> State
-    requires { ⌜ Ready left (now tree) at (s .n) scope ⌝ }
+    requires { ⌜ Ready levels (now tree) at (s .n) scope ⌝ }
     ensures { λ r. ⌜
         Makes (now (out .entry)) (now (out .exit)) (now (diagnostics .entry)) (now (diagnostics .exit)) s r
-        (handlePattern (typingOf (now (tree .entry)) scope) (treeAt left (now (tree .entry)) at) (s .n))
+        (handlePattern (typingOf (now (tree .entry)) scope) (treeAt levels (now (tree .entry)) at) (s .n))
         ⌝ }
 {
     match mark_at(tree, at) {
-        BD => handle_func_param_ident(tree, at, left, out, diagnostics, s),
-        AG => handle_func_param_assign(tree, at, left, scope, out, diagnostics, s),
-        _ => keep(tree, at, left, out, s),
+        BD => handle_func_param_ident(tree, at, levels, out, diagnostics, s),
+        AG => handle_func_param_assign(tree, at, levels, scope, out, diagnostics, s),
+        _ => keep(tree, at, levels, out, s),
     }
 }
 
@@ -219,28 +237,28 @@ fn handle_pattern(
 fn handle_func_param(
     tree: &[u8],
     at: usize,
-    left: usize,
+    levels: usize,
     scope: Scope,
     out: &mut [u8],
     diagnostics: &mut [u8],
     s: State,
 ) -> State
-    requires { ⌜ Ready left (now tree) at (s .n) scope ⌝ }
+    requires { ⌜ Ready levels (now tree) at (s .n) scope ⌝ }
     ensures { λ r. ⌜
         Makes (now (out .entry)) (now (out .exit)) (now (diagnostics .entry)) (now (diagnostics .exit)) s r
-        (handleFuncParam (typingOf (now (tree .entry)) scope) (treeAt left (now (tree .entry)) at) (s .n))
+        (handleFuncParam (typingOf (now (tree .entry)) scope) (treeAt levels (now (tree .entry)) at) (s .n))
         ⌝ }
 {
     match mark_at(tree, at) {
         PA | PP => {
             let head = read_head(tree, at);
             let pattern = body_at(tree, at);
-            let rest = record_end(tree, pattern, left - 1);
-            let front = put_front(tree, at, left, head.flags, head.count, out, s);
-            let next = handle_pattern(tree, pattern, left - 1, scope, out, diagnostics, front);
-            keep_all(tree, rest, head.count - 1, left - 1, out, next)
+            let rest = record_end(tree, pattern, levels - 1);
+            let front = put_front(tree, at, levels, head.flags, head.count, out, s);
+            let next = handle_pattern(tree, pattern, levels - 1, scope, out, diagnostics, front);
+            keep_all(tree, rest, head.count - 1, levels - 1, out, next)
         }
-        _ => keep(tree, at, left, out, s),
+        _ => keep(tree, at, levels, out, s),
     }
 }
 
@@ -249,25 +267,25 @@ pub fn handle_func_params(
     tree: &[u8],
     at: usize,
     n: usize,
-    left: usize,
+    levels: usize,
     scope: Scope,
     out: &mut [u8],
     diagnostics: &mut [u8],
     s: State,
 ) -> State
-    requires { ⌜ ReadyAll left (now tree) n at (s .n) scope ⌝ }
+    requires { ⌜ ReadyAll levels (now tree) n at (s .n) scope ⌝ }
     ensures { λ r. ⌜
         MakesAll (now (out .entry)) (now (out .exit)) (now (diagnostics .entry)) (now (diagnostics .exit)) s r
         (each (λ i. handleFuncParam (typingOf (now (tree .entry)) scope)) 0
-        (readAll (treeAt left (now (tree .entry))) (endAt left (now (tree .entry))) n at) (s .n))
+        (readAll (treeAt levels (now (tree .entry))) (endAt levels (now (tree .entry))) n at) (s .n))
         ⌝ }
 {
     let mut next = s;
     let mut k = n;
     let mut param = at;
     while 0 < k {
-        next = handle_func_param(tree, param, left, scope, out, diagnostics, next);
-        param = record_end(tree, param, left);
+        next = handle_func_param(tree, param, levels, scope, out, diagnostics, next);
+        param = record_end(tree, param, levels);
         k -= 1;
     }
     next
@@ -278,18 +296,18 @@ pub fn handle_ts_param_props(
     tree: &[u8],
     at: usize,
     n: usize,
-    left: usize,
+    levels: usize,
     scope: Scope,
     out: &mut [u8],
     diagnostics: &mut [u8],
     s: State,
 ) -> State
-    requires { ⌜ ReadyAll left (now tree) n at (s .n) scope ⌝ }
+    requires { ⌜ ReadyAll levels (now tree) n at (s .n) scope ⌝ }
     ensures { λ r. ⌜
         MakesAll (now (out .entry)) (now (out .exit)) (now (diagnostics .entry)) (now (diagnostics .exit)) s r
         (each (λ i. handleFuncParam (typingOf (now (tree .entry)) scope)) 0
-        (readAll (treeAt left (now (tree .entry))) (endAt left (now (tree .entry))) n at) (s .n))
+        (readAll (treeAt levels (now (tree .entry))) (endAt levels (now (tree .entry))) n at) (s .n))
         ⌝ }
 {
-    handle_func_params(tree, at, n, left, scope, out, diagnostics, s)
+    handle_func_params(tree, at, n, levels, scope, out, diagnostics, s)
 }

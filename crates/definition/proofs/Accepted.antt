@@ -1,5 +1,5 @@
 -- What an accepted record is: what holds of it by itself, that it lies in the tree and ends where its counts say, and that each of its children
--- is accepted at its own slots. Assumes nothing.
+-- is accepted at its own slots.
 use mathlib.Core.Path.{_≡_, refl, sym, ap, _∙_}
 use mathlib.Core.List.{List, [], _∷_}
 use mathlib.Core.Bool.{Bool, true, false, cond}
@@ -129,15 +129,15 @@ within-fine : (h : Opening) (at : ℕ) (f : ℕ → ℕ → List Part → Checke
 within-fine (opened b n qs) at f e p = (b, n, qs, refl, p)
 within-fine (stopped k) at f e p = absurd (never-fine k at e p)
 
--- an accepted record, taken apart: `left` levels are left for its children
-pub record Accepted (left : ℕ) (s : List ℕ) (at : ℕ) (ps : List Part) (e : ℕ) : Type 0 where
+-- an accepted record, taken apart: `levels` levels are left for its children
+pub record Accepted (levels : ℕ) (s : List ℕ) (at : ℕ) (ps : List Part) (e : ℕ) : Type 0 where
   pub itself : Open s at ps
-  pub all : checkAll (checkAt left s) s (countAt s at) (bodyAt s at) (inside ps (markAt s at)) ≡ fine e
+  pub all : checkAll (checkAt levels s) s (countAt s at) (bodyAt s at) (inside ps (markAt s at)) ≡ fine e
 
-pub accepted : (left : ℕ) (s : List ℕ) (at : ℕ) (ps : List Part) (e : ℕ) → checkAt (suc left) s at ps ≡ fine e → Accepted left s at ps e
+pub accepted : (levels : ℕ) (s : List ℕ) (at : ℕ) (ps : List Part) (e : ℕ) → checkAt (suc levels) s at ps ≡ fine e → Accepted levels s at ps e
 unfolding checkAt
-accepted left s at ps e f =
-    let u = within-fine (openAt s at ps) at (λ b n qs. checkAll (checkAt left s) s n b qs) e f in
+accepted levels s at ps e f =
+    let u = within-fine (openAt s at ps) at (λ b n qs. checkAll (checkAt levels s) s n b qs) e f in
     let o = record-open s at ps (u .0) (u .1) (u .2) (u .3) in
     let b≡ : bodyAt s at ≡ u .0 = cc (o .1) in
     let n≡ : countAt s at ≡ u .1 = cc (o .1) in
@@ -145,10 +145,10 @@ accepted left s at ps e f =
     record { itself = o .0; all = rw (b≡, n≡, q≡) (u .4) }
 
 -- fuel is left for every accepted record
-pub accepted-left : (left : ℕ) (s : List ℕ) (at : ℕ) (ps : List Part) (e : ℕ) → checkAt left s at ps ≡ fine e → left ≡ suc (left - 1)
+pub accepted-left : (levels : ℕ) (s : List ℕ) (at : ℕ) (ps : List Part) (e : ℕ) → checkAt levels s at ps ≡ fine e → levels ≡ suc (levels - 1)
 unfolding checkAt
 accepted-left zero s at ps e f = absurd (never-fine 7 at e f)
-accepted-left (suc left) s at ps e f = omega arith
+accepted-left (suc levels) s at ps e f = omega arith
 
 -- ---- where an accepted record lies
 
@@ -166,12 +166,12 @@ all-lie check s good (suc n) p ps e h f =
     let r = all-lie check s good n (u .0) (after ps (markAt s p)) e (g .inside) (u .2) in
     (omega (arith, r .0, g .longer), r .1)
 
-pub check-lies : (left : ℕ) (s : List ℕ) (at : ℕ) (ps : List Part) (e : ℕ) → checkAt left s at ps ≡ fine e → Lies s at e
+pub check-lies : (levels : ℕ) (s : List ℕ) (at : ℕ) (ps : List Part) (e : ℕ) → checkAt levels s at ps ≡ fine e → Lies s at e
 unfolding checkAt
 check-lies zero s at ps e f = absurd (never-fine 7 at e f)
-check-lies (suc left) s at ps e f =
-    let a = accepted left s at ps e f in
-    let r = all-lie (checkAt left s) s (λ p rs x. check-lies left s p rs x) (countAt s at) (bodyAt s at) (inside ps (markAt s at)) e (a .itself .fits) (a .all) in
+check-lies (suc levels) s at ps e f =
+    let a = accepted levels s at ps e f in
+    let r = all-lie (checkAt levels s) s (λ p rs x. check-lies levels s p rs x) (countAt s at) (bodyAt s at) (inside ps (markAt s at)) e (a .itself .fits) (a .all) in
     record { longer = omega (arith, r .0); inside = r .1 }
 
 -- it ends where its counts say
@@ -183,12 +183,12 @@ all-end check s f good (suc n) p ps e h =
     let u = onward-fine (check p ps) (λ x. checkAll check s n x (after ps (markAt s p))) e h in
     rw (good p ps (u .0) (u .1)) (all-end check s f good n (u .0) (after ps (markAt s p)) e (u .2))
 
-pub check-ends : (left : ℕ) (s : List ℕ) (at : ℕ) (ps : List Part) (e : ℕ) → checkAt left s at ps ≡ fine e → endAt left s at ≡ e
+pub check-ends : (levels : ℕ) (s : List ℕ) (at : ℕ) (ps : List Part) (e : ℕ) → checkAt levels s at ps ≡ fine e → endAt levels s at ≡ e
 unfolding checkAt endAt
 check-ends zero s at ps e f = absurd (never-fine 7 at e f)
-check-ends (suc left) s at ps e f =
-    let a = accepted left s at ps e f in
-    all-end (checkAt left s) s (endAt left s) (λ p rs x. check-ends left s p rs x) (countAt s at) (bodyAt s at) (inside ps (markAt s at)) e (a .all)
+check-ends (suc levels) s at ps e f =
+    let a = accepted levels s at ps e f in
+    all-end (checkAt levels s) s (endAt levels s) (λ p rs x. check-ends levels s p rs x) (countAt s at) (bodyAt s at) (inside ps (markAt s at)) e (a .all)
 
 -- ---- acceptance falls to the children
 
@@ -198,25 +198,25 @@ slotsAt end s ps p zero = ps
 slotsAt end s ps p (suc i) = slotsAt end s (after ps (markAt s p)) (end p) i
 
 -- the i-th child is accepted at its slots, and ends where the next begins
-pub child-accepted : (left : ℕ) (s : List ℕ) (n p : ℕ) (ps : List Part) (e : ℕ) → checkAll (checkAt left s) s n p ps ≡ fine e → (i : ℕ) → i < n →
-    checkAt left s (endOfAll (endAt left s) i p) (slotsAt (endAt left s) s ps p i) ≡ fine (endOfAll (endAt left s) (suc i) p)
+pub child-accepted : (levels : ℕ) (s : List ℕ) (n p : ℕ) (ps : List Part) (e : ℕ) → checkAll (checkAt levels s) s n p ps ≡ fine e → (i : ℕ) → i < n →
+    checkAt levels s (endOfAll (endAt levels s) i p) (slotsAt (endAt levels s) s ps p i) ≡ fine (endOfAll (endAt levels s) (suc i) p)
 unfolding checkAll endOfAll slotsAt
-child-accepted left s zero p ps e f i h = absurd (not-suc-le-zero h)
-child-accepted left s (suc n) p ps e f zero h =
-    let u = onward-fine (checkAt left s p ps) (λ x. checkAll (checkAt left s) s n x (after ps (markAt s p))) e f in
-    u .1 ∙ ap fine (sym (check-ends left s p ps (u .0) (u .1)))
-child-accepted left s (suc n) p ps e f (suc i) h =
-    let u = onward-fine (checkAt left s p ps) (λ x. checkAll (checkAt left s) s n x (after ps (markAt s p))) e f in
-    let z = check-ends left s p ps (u .0) (u .1) in
-    child-accepted left s n (endAt left s p) (after ps (markAt s p)) e (rw z (u .2)) i (le-of-suc-le-suc h)
+child-accepted levels s zero p ps e f i h = absurd (not-suc-le-zero h)
+child-accepted levels s (suc n) p ps e f zero h =
+    let u = onward-fine (checkAt levels s p ps) (λ x. checkAll (checkAt levels s) s n x (after ps (markAt s p))) e f in
+    u .1 ∙ ap fine (sym (check-ends levels s p ps (u .0) (u .1)))
+child-accepted levels s (suc n) p ps e f (suc i) h =
+    let u = onward-fine (checkAt levels s p ps) (λ x. checkAll (checkAt levels s) s n x (after ps (markAt s p))) e f in
+    let z = check-ends levels s p ps (u .0) (u .1) in
+    child-accepted levels s n (endAt levels s p) (after ps (markAt s p)) e (rw z (u .2)) i (le-of-suc-le-suc h)
 
 -- the first child and the others, as a loop meets them
-pub first-accepted : (left : ℕ) (s : List ℕ) (n p : ℕ) (ps : List Part) (e : ℕ) → checkAll (checkAt left s) s (suc n) p ps ≡ fine e →
-    (checkAt left s p ps ≡ fine (endAt left s p)) × (checkAll (checkAt left s) s n (endAt left s p) (after ps (markAt s p)) ≡ fine e)
+pub first-accepted : (levels : ℕ) (s : List ℕ) (n p : ℕ) (ps : List Part) (e : ℕ) → checkAll (checkAt levels s) s (suc n) p ps ≡ fine e →
+    (checkAt levels s p ps ≡ fine (endAt levels s p)) × (checkAll (checkAt levels s) s n (endAt levels s p) (after ps (markAt s p)) ≡ fine e)
 unfolding checkAll
-first-accepted left s n p ps e f =
-    let u = onward-fine (checkAt left s p ps) (λ x. checkAll (checkAt left s) s n x (after ps (markAt s p))) e f in
-    let z = check-ends left s p ps (u .0) (u .1) in
+first-accepted levels s n p ps e f =
+    let u = onward-fine (checkAt levels s p ps) (λ x. checkAll (checkAt levels s) s n x (after ps (markAt s p))) e f in
+    let z = check-ends levels s p ps (u .0) (u .1) in
     (u .1 ∙ ap fine (sym z), rw z (u .2))
 
 -- ---- an accepted tree

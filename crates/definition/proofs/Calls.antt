@@ -1,5 +1,5 @@
 -- What a call does: a refusal leaves both buffers as they were; a success writes the bytes of the tree that is made and leaves every byte beyond
--- the counts as it was; where nothing is refused it succeeds. Assumes nothing.
+-- the counts as it was; where nothing is refused it succeeds.
 use mathlib.Core.Path.{_≡_, refl, sym, ap, _∙_}
 use mathlib.Core.List.{List, [], _∷_}
 use mathlib.Core.Bool.{Bool, true, false, cond, _&&_}

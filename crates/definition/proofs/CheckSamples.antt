@@ -1,5 +1,5 @@
 -- Samples of the check, evaluated in the logic: the rows 2 to 8 of document 01's table, accepted trees, and the readings that docs/DECISIONS.md
--- lists of the check. Assumes nothing.
+-- lists of the check.
 use mathlib.Core.Path.{_≡_, refl}
 use mathlib.Core.List.{List, [], _∷_, _++_, map}
 use Prim.Native.Nat.{ℕ, zero, suc, _+_, _-_, _*_}

@@ -1,4 +1,4 @@
--- The laws of accepted records that the code stands on: their extent, their parts, and their children. Assumes nothing.
+-- The laws of accepted records that the code stands on: their extent, their parts, and their children.
 use mathlib.Core.Path.{_≡_, refl, sym, ap, _∙_, subst}
 use mathlib.Core.List.{List, [], _∷_}
 use mathlib.Core.Bool.{Bool, true, false}
@@ -39,68 +39,68 @@ use Rattle.definition.proofs.Converse.{Stands, check-stands, encode-tre
 pub root-accepted : (tree list : List ℕ) (e : ℕ) → checkTree tree list ≡ fine e → AcceptedAt deepest tree 0
 root-accepted tree list e f = record { slots = root; past = length tree; checked = accepted-tree tree list e f .0 .root-fine }
 
-module _ (left : ℕ) (s : List ℕ) (at : ℕ) (a : AcceptedAt left s at) where
+module _ (levels : ℕ) (s : List ℕ) (at : ℕ) (a : AcceptedAt levels s at) where
   -- there is a level left for it
-  pub some-left : left ≡ suc (left - 1)
-  some-left = accepted-left left s at (a .slots) (a .past) (a .checked)
+  pub some-left : levels ≡ suc (levels - 1)
+  some-left = accepted-left levels s at (a .slots) (a .past) (a .checked)
 
-  apart : Accepted (left - 1) s at (a .slots) (a .past)
-  apart = accepted (left - 1) s at (a .slots) (a .past) (subst (λ (k : ℕ). checkAt k s at (a .slots) ≡ fine (a .past)) some-left (a .checked))
+  apart : Accepted (levels - 1) s at (a .slots) (a .past)
+  apart = accepted (levels - 1) s at (a .slots) (a .past) (subst (λ (k : ℕ). checkAt k s at (a .slots) ≡ fine (a .past)) some-left (a .checked))
 
   -- what holds of it by itself: `room`, `known`, `slot`, `order`, `fits`, `form`, `enough`
   pub itself : Open s at (a .slots)
   itself = apart .itself
 
   -- it ends where its counts say, inside the tree
-  pub past-is : endAt left s at ≡ a .past
-  past-is = check-ends left s at (a .slots) (a .past) (a .checked)
+  pub past-is : endAt levels s at ≡ a .past
+  past-is = check-ends levels s at (a .slots) (a .past) (a .checked)
 
-  pub end-after : at + headSize ≤ endAt left s at
-  end-after = omega (arith, past-is, check-lies left s at (a .slots) (a .past) (a .checked) .longer)
+  pub end-after : at + headSize ≤ endAt levels s at
+  end-after = omega (arith, past-is, check-lies levels s at (a .slots) (a .past) (a .checked) .longer)
 
-  pub end-inside : endAt left s at ≤ length s
-  end-inside = omega (arith, past-is, check-lies left s at (a .slots) (a .past) (a .checked) .inside)
+  pub end-inside : endAt levels s at ≤ length s
+  end-inside = omega (arith, past-is, check-lies levels s at (a .slots) (a .past) (a .checked) .inside)
 
   -- the tree that stands there
-  pub tree-is : treeAt left s at ≡ rec (headAt s at) (readAll (treeAt (left - 1) s) (endAt (left - 1) s) (countAt s at) (bodyAt s at))
+  pub tree-is : treeAt levels s at ≡ rec (headAt s at) (readAll (treeAt (levels - 1) s) (endAt (levels - 1) s) (countAt s at) (bodyAt s at))
   unfolding treeAt
   tree-is = ap (λ (k : ℕ). treeAt k s at) some-left
 
-  pub end-is : endAt left s at ≡ endOfAll (endAt (left - 1) s) (countAt s at) (bodyAt s at)
+  pub end-is : endAt levels s at ≡ endOfAll (endAt (levels - 1) s) (countAt s at) (bodyAt s at)
   unfolding endAt
   end-is = ap (λ (k : ℕ). endAt k s at) some-left
 
   -- the part of the tree that it fills is its encoding
-  pub part-is : Bytes s → take (endAt left s at - at) (drop at s) ≡ encode (treeAt left s at)
-  part-is bytes = rw past-is (encode-treeAt s bytes left at (a .slots) (a .past) (a .checked))
+  pub part-is : Bytes s → take (endAt levels s at - at) (drop at s) ≡ encode (treeAt levels s at)
+  part-is bytes = rw past-is (encode-treeAt s bytes levels at (a .slots) (a .past) (a .checked))
 
-  pub stands : Bytes s → Stands s left at (endAt left s at) (treeAt left s at)
-  stands bytes = rw past-is (check-stands s bytes left at (a .slots) (a .past) (a .checked))
+  pub stands : Bytes s → Stands s levels at (endAt levels s at) (treeAt levels s at)
+  stands bytes = rw past-is (check-stands s bytes levels at (a .slots) (a .past) (a .checked))
 
   -- its children
-  pub children : AllAccepted (left - 1) s (countAt s at) (bodyAt s at)
+  pub children : AllAccepted (levels - 1) s (countAt s at) (bodyAt s at)
   children = record { slots = inside (a .slots) (markAt s at); past = a .past; checked = apart .all }
 
-  pub child : (i : ℕ) → i < countAt s at → AcceptedAt (left - 1) s (childAt left s at i)
+  pub child : (i : ℕ) → i < countAt s at → AcceptedAt (levels - 1) s (childAt levels s at i)
   child i h = record {
-    slots = slotsAt (endAt (left - 1) s) s (inside (a .slots) (markAt s at)) (bodyAt s at) i;
-    past = endOfAll (endAt (left - 1) s) (suc i) (bodyAt s at);
-    checked = child-accepted (left - 1) s (countAt s at) (bodyAt s at) (inside (a .slots) (markAt s at)) (a .past) (apart .all) i h;
+    slots = slotsAt (endAt (levels - 1) s) s (inside (a .slots) (markAt s at)) (bodyAt s at) i;
+    past = endOfAll (endAt (levels - 1) s) (suc i) (bodyAt s at);
+    checked = child-accepted (levels - 1) s (countAt s at) (bodyAt s at) (inside (a .slots) (markAt s at)) (a .past) (apart .all) i h;
   }
 
 -- ---- siblings, as a loop that counts down meets them
 
-module _ (left : ℕ) (s : List ℕ) (n at : ℕ) (a : AllAccepted left s n at) (h : 0 < n) where
+module _ (levels : ℕ) (s : List ℕ) (n at : ℕ) (a : AllAccepted levels s n at) (h : 0 < n) where
   some-more : n ≡ suc (n - 1)
   some-more = omega arith
 
-  taken : (checkAt left s at (a .slots) ≡ fine (endAt left s at)) × (checkAll (checkAt left s) s (n - 1) (endAt left s at) (after (a .slots) (markAt s at)) ≡ fine (a .past))
-  taken = first-accepted left s (n - 1) at (a .slots) (a .past) (subst (λ (k : ℕ). checkAll (checkAt left s) s k at (a .slots) ≡ fine (a .past)) some-more (a .checked))
+  taken : (checkAt levels s at (a .slots) ≡ fine (endAt levels s at)) × (checkAll (checkAt levels s) s (n - 1) (endAt levels s at) (after (a .slots) (markAt s at)) ≡ fine (a .past))
+  taken = first-accepted levels s (n - 1) at (a .slots) (a .past) (subst (λ (k : ℕ). checkAll (checkAt levels s) s k at (a .slots) ≡ fine (a .past)) some-more (a .checked))
 
-  pub first-one : AcceptedAt left s at
-  first-one = record { slots = a .slots; past = endAt left s at; checked = taken .0 }
+  pub first-one : AcceptedAt levels s at
+  first-one = record { slots = a .slots; past = endAt levels s at; checked = taken .0 }
 
-  pub others : AllAccepted left s (n - 1) (endAt left s at)
+  pub others : AllAccepted levels s (n - 1) (endAt levels s at)
   others = record { slots = after (a .slots) (markAt s at); past = a .past; checked = taken .1 }
 
 pub readAll-more : (read : ℕ → Rec) (end : ℕ → ℕ) (n at : ℕ) → 0 < n → readAll read end n at ≡ cons (read at) (readAll read end (n - 1) (end at))
@@ -124,10 +124,10 @@ endOfAll-none end zero at h = refl
 endOfAll-none end (suc n) at h = absurd (omega arith)
 
 -- the first two children
-pub child-0 : (left : ℕ) (s : List ℕ) (at : ℕ) → childAt left s at 0 ≡ bodyAt s at
+pub child-0 : (levels : ℕ) (s : List ℕ) (at : ℕ) → childAt levels s at 0 ≡ bodyAt s at
 unfolding endOfAll
-child-0 left s at = refl
+child-0 levels s at = refl
 
-pub child-1 : (left : ℕ) (s : List ℕ) (at : ℕ) → childAt left s at 1 ≡ endAt (left - 1) s (bodyAt s at)
+pub child-1 : (levels : ℕ) (s : List ℕ) (at : ℕ) → childAt levels s at 1 ≡ endAt (levels - 1) s (bodyAt s at)
 unfolding endOfAll
-child-1 left s at = refl
+child-1 levels s at = refl

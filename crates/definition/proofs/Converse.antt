@@ -1,5 +1,4 @@
 -- The converse of the round trip: the bytes of an accepted record are `encode` of the tree that is read there, and that tree's fields fit.
--- Assumes nothing.
 use mathlib.Core.Path.{_≡_, refl, sym, ap, _∙_}
 use mathlib.Core.List.{List, [], _∷_, _++_}
 use Prim.Native.Nat.{ℕ, zero, suc, _+_, _-_, _%_, _<_, _≤_, max}
@@ -115,31 +114,31 @@ module _ (s : List ℕ) (bytes : Bytes s) (at : ℕ) (room : at + headSize ≤ l
 -- ---- a record with its children
 
 -- what is read stands there, ends where it is said to, fits, and is not too deep
-pub record Stands (s : List ℕ) (left at e : ℕ) (r : Rec) : Type 0 where
+pub record Stands (s : List ℕ) (levels at e : ℕ) (r : Rec) : Type 0 where
   pub there : At s at (encode r)
   pub ends : e ≡ at + length (encode r)
   pub fits : Fits r
-  pub depth : depth r ≤ left
+  pub depth : depth r ≤ levels
 
-record StandAll (s : List ℕ) (left at e : ℕ) (rs : Recs) : Type 0 where
+record StandAll (s : List ℕ) (levels at e : ℕ) (rs : Recs) : Type 0 where
   pub there : At s at (encodes rs)
   pub ends : e ≡ at + length (encodes rs)
   pub fits : FitsAll rs
-  pub depth : depths rs ≤ left
+  pub depth : depths rs ≤ levels
 
 module _ (s : List ℕ) (bytes : Bytes s) where
-  all-stand : (left : ℕ) → ((p : ℕ) (ps : List Part) (e : ℕ) → checkAt left s p ps ≡ fine e → Stands s left p e (treeAt left s p)) →
-      (n p : ℕ) (ps : List Part) (e : ℕ) → p ≤ length s → checkAll (checkAt left s) s n p ps ≡ fine e →
-      StandAll s left p e (readAll (treeAt left s) (endAt left s) n p)
+  all-stand : (levels : ℕ) → ((p : ℕ) (ps : List Part) (e : ℕ) → checkAt levels s p ps ≡ fine e → Stands s levels p e (treeAt levels s p)) →
+      (n p : ℕ) (ps : List Part) (e : ℕ) → p ≤ length s → checkAll (checkAt levels s) s n p ps ≡ fine e →
+      StandAll s levels p e (readAll (treeAt levels s) (endAt levels s) n p)
   unfolding checkAll readAll encodes depths
-  all-stand left good zero p ps e h f = let z : p ≡ e = cc in record { there = at-none s p h; ends = omega arith; fits = tt; depth = omega arith }
-  all-stand left good (suc n) p ps e h f =
-      let u = first-accepted left s n p ps e f in
-      let one = good p ps (endAt left s p) (u .0) in
-      let l = check-lies left s p ps (endAt left s p) (u .0) in
-      let more = all-stand left good n (endAt left s p) (after ps (markAt s p)) e (l .inside) (u .1) in
-      let r : Rec = treeAt left s p in
-      let rs : Recs = readAll (treeAt left s) (endAt left s) n (endAt left s p) in
+  all-stand levels good zero p ps e h f = let z : p ≡ e = cc in record { there = at-none s p h; ends = omega arith; fits = tt; depth = omega arith }
+  all-stand levels good (suc n) p ps e h f =
+      let u = first-accepted levels s n p ps e f in
+      let one = good p ps (endAt levels s p) (u .0) in
+      let l = check-lies levels s p ps (endAt levels s p) (u .0) in
+      let more = all-stand levels good n (endAt levels s p) (after ps (markAt s p)) e (l .inside) (u .1) in
+      let r : Rec = treeAt levels s p in
+      let rs : Recs = readAll (treeAt levels s) (endAt levels s) n (endAt levels s p) in
       let n+ : length (encode r ++ encodes rs) ≡ length (encode r) + length (encodes rs) = length-append (encode r) (encodes rs) in
       record {
         there = at-join s p (encode r) (encodes rs) (one .there) (rw (← one .ends) (more .there));
@@ -148,15 +147,15 @@ module _ (s : List ℕ) (bytes : Bytes s) where
         depth = omega (arith, one .depth, more .depth);
       }
 
-  pub check-stands : (left at : ℕ) (ps : List Part) (e : ℕ) → checkAt left s at ps ≡ fine e → Stands s left at e (treeAt left s at)
+  pub check-stands : (levels at : ℕ) (ps : List Part) (e : ℕ) → checkAt levels s at ps ≡ fine e → Stands s levels at e (treeAt levels s at)
   unfolding treeAt encode depth headAt
   check-stands zero at ps e f = absurd (let z = accepted-left zero s at ps e f in omega (arith, z))
-  check-stands (suc left) at ps e f =
-      let a = accepted left s at ps e f in
+  check-stands (suc levels) at ps e f =
+      let a = accepted levels s at ps e f in
       let o = a .itself in
-      let ks : Recs = readAll (treeAt left s) (endAt left s) (countAt s at) (bodyAt s at) in
-      let all = all-stand left (λ p rs x. check-stands left p rs x) (countAt s at) (bodyAt s at) (inside ps (markAt s at)) e (o .fits) (a .all) in
-      let n≡ : count ks ≡ countAt s at = count-readAll (treeAt left s) (endAt left s) (countAt s at) (bodyAt s at) in
+      let ks : Recs = readAll (treeAt levels s) (endAt levels s) (countAt s at) (bodyAt s at) in
+      let all = all-stand levels (λ p rs x. check-stands levels p rs x) (countAt s at) (bodyAt s at) (inside ps (markAt s at)) e (o .fits) (a .all) in
+      let n≡ : count ks ≡ countAt s at = count-readAll (treeAt levels s) (endAt levels s) (countAt s at) (bodyAt s at) in
       let t≡ : length (textAt s at) ≡ lengthAt s at = text-length s bytes at (o .room) (o .fits) in
       let hb : List ℕ = headBytes (headAt s at) (countAt s at) in
       let l1 : length (hb ++ (textAt s at ++ encodes ks)) ≡ headSize + (lengthAt s at + length (encodes ks)) =
@@ -171,11 +170,11 @@ module _ (s : List ℕ) (bytes : Bytes s) where
       }
 
   -- the part of the tree that an accepted record fills is its encoding
-  pub encode-treeAt : (left at : ℕ) (ps : List Part) (e : ℕ) → checkAt left s at ps ≡ fine e → take (e - at) (drop at s) ≡ encode (treeAt left s at)
-  encode-treeAt left at ps e f =
-      let t = check-stands left at ps e f in
-      let n : e - at ≡ length (encode (treeAt left s at)) = omega (arith, t .ends) in
-      rw n (at-part s at (encode (treeAt left s at)) (t .there))
+  pub encode-treeAt : (levels at : ℕ) (ps : List Part) (e : ℕ) → checkAt levels s at ps ≡ fine e → take (e - at) (drop at s) ≡ encode (treeAt levels s at)
+  encode-treeAt levels at ps e f =
+      let t = check-stands levels at ps e f in
+      let n : e - at ≡ length (encode (treeAt levels s at)) = omega (arith, t .ends) in
+      rw n (at-part s at (encode (treeAt levels s at)) (t .there))
 
 -- the bytes of an accepted tree are the encoding of what is read, which fits and is at most 64 deep
 pub record Read (tree : List ℕ) : Type 0 where

@@ -1,5 +1,5 @@
 -- What the typing of expressions costs, counted in records: the name counter never falls, it rises by at most the number of records read, and there
--- are never more diagnostics than records read. Assumes nothing.
+-- are never more diagnostics than records read.
 use mathlib.Core.Path.{_≡_, refl}
 use mathlib.Core.List.{List, [], _∷_, _++_}
 use mathlib.Core.Bool.{Bool, true, false, cond}
@@ -177,9 +177,9 @@ elementBy-within eExpr h typed spread rest n m l p q s =
 elementBy-within eOp h typed spread rest n m l p q s = within-wider (suc m + l) (s n) (omega arith)
 
 -- a typed default, whose name may be made
-defaultParam-within : {n m : ℕ} (h : Head) (left t : Rec) (o : Out (Option Rec)) → Within n m o → Within n (suc m) (defaultParam h left t (o .1) (o .2))
+defaultParam-within : {n m : ℕ} (h : Head) (levels t : Rec) (o : Out (Option Rec)) → Within n m o → Within n (suc m) (defaultParam h levels t (o .1) (o .2))
 unfolding defaultParam
-defaultParam-within {n} {m} h left t o w = go (is "Bd" left) _ _
+defaultParam-within {n} {m} h levels t o w = go (is "Bd" levels) _ _
   where
     go : (b : Bool) (x y : Recs) → Within n (suc m) (cond b (x, o .1, o .2) (y, o .1, suc (o .2)))
     go true x y = within-wider (suc m) (within-value o w) (omega arith)

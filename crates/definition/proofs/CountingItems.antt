@@ -1,4 +1,4 @@
--- What the transform of a module costs, counted in records: "There are never more diagnostics than records read". Assumes nothing.
+-- What the transform of a module costs, counted in records: "There are never more diagnostics than records read".
 use mathlib.Core.Path.{_≡_, refl, ap}
 use mathlib.Core.List.{List, [], _∷_}
 use mathlib.Core.Bool.{Bool, true, false, _&&_, _||_}

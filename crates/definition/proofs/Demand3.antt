@@ -1,4 +1,4 @@
--- Demand 3, about the exported call: a second call, on exactly the bytes that the first wrote, writes the same bytes. Assumes nothing.
+-- Demand 3, about the exported call: a second call, on exactly the bytes that the first wrote, writes the same bytes.
 use mathlib.Core.Path.{_≡_, ap, _∙_}
 use mathlib.Core.List.{List}
 use Prim.Native.Nat.{ℕ}

@@ -1,4 +1,4 @@
--- The conditions of demand 3 can be met: they are by `namespace N { export default a; } export default [];`. Assumes nothing.
+-- The conditions of demand 3 can be met: they are by `namespace N { export default a; } export default [];`.
 use mathlib.Core.Path.{_≡_, refl}
 use mathlib.Core.List.{[], _++_}
 use mathlib.Core.Bool.{Bool, true, false, cond, _&&_}

@@ -1,5 +1,4 @@
 -- Where the transform differs from the handbook: the smallest examples, evaluated. docs/DIFFERENCES.md tells of each under its name here.
--- Assumes nothing.
 use Prim.Native.Nat.{ℕ}
 use mathlib.Core.Path.{_≡_, refl}
 use mathlib.Core.List.{[], _∷_, _++_}

@@ -1,6 +1,6 @@
 -- What fits the widths of a record, and the laws of it for records made afresh and for the combinators. The length of a text counts up to a slack x:
 -- with the slack 4 every text fits that can be made, with the slack 0 every text fits a head (reading 20). A name that is made is bounded by the
--- name counter, which rises once at most for each Xe and each Ag. Assumes nothing.
+-- name counter, which rises once at most for each Xe and each Ag.
 use mathlib.Core.Path.{_≡_, refl}
 use mathlib.Core.List.{List, [], _++_}
 use mathlib.Core.Bool.{Bool, true, false, cond, _&&_, _||_}

@@ -1,4 +1,4 @@
--- What is made of parameters, functions, class members and classes fits, for a typing whose types do. Assumes nothing.
+-- What is made of parameters, functions, class members and classes fits, for a typing whose types do.
 use mathlib.Core.Path.{refl}
 use mathlib.Core.List.{List, [], _∷_}
 use mathlib.Core.Bool.{Bool, true, false, not, _&&_, _||_}

@@ -1,4 +1,4 @@
--- What the transform of a module makes fits: declarations, items, namespaces. Assumes nothing.
+-- What the transform of a module makes fits: declarations, items, namespaces.
 use mathlib.Core.Path.{_≡_, refl}
 use mathlib.Core.List.{List, [], _∷_, _++_}
 use mathlib.Core.Bool.{Bool, true, false, cond, _||_}

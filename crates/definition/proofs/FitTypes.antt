@@ -1,4 +1,4 @@
--- The parts that the typing of expressions makes fit: types of literals, `readonly_of`, elements, properties, parameters. Assumes nothing.
+-- The parts that the typing of expressions makes fit: types of literals, `readonly_of`, elements, properties, parameters.
 use mathlib.Core.Path.{_≡_, refl}
 use mathlib.Core.List.{List, [], _∷_, _++_}
 use mathlib.Core.Bool.{Bool, true, false, cond, _&&_, _||_}
@@ -246,16 +246,16 @@ module _ (x : ℕ) where
   binding-fits h m name t g i k =
       (((ranged-sound x "Bd" refl h m g [] (omega arith) (written [] refl) 2 (omega arith), (i, (k, tt))), tt), omega arith)
 
-  default-makes : (h : Head) (m : ℕ) (left t : Rec) (ds : List Diag) (n : ℕ) → Sound x h m → Fit x left → Fit x t → Room n 1 →
-      Makes (Few x 1) n 1 (defaultParam h left t ds n)
+  default-makes : (h : Head) (m : ℕ) (levels t : Rec) (ds : List Diag) (n : ℕ) → Sound x h m → Fit x levels → Fit x t → Room n 1 →
+      Makes (Few x 1) n 1 (defaultParam h levels t ds n)
   unfolding defaultParam
-  default-makes h m left t ds n g k f l = go (is "Bd" left)
+  default-makes h m levels t ds n g k f l = go (is "Bd" levels)
     where
       i : Rec
-      i = kid 0 (kidsOf left)
+      i = kid 0 (kidsOf levels)
 
       i-fits : Fit x i
-      i-fits = kid-fits x 0 (kidsOf left) (kids-fit x left k)
+      i-fits = kid-fits x 0 (kidsOf levels) (kids-fit x levels k)
 
       go : (b : Bool) → Makes (Few x 1) n 1 (cond b (one (bindingIdent h (symbolOf i) t), ds, n) (one (bindingIdent h (genUniqueName (suc n)) t), ds, suc n))
       go true = record {

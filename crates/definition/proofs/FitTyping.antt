@@ -1,4 +1,4 @@
--- The types that expressions get fit, and typing an expression asks for one name at most for each Ag in it. Assumes nothing.
+-- The types that expressions get fit, and typing an expression asks for one name at most for each Ag in it.
 use mathlib.Core.Path.{_≡_, refl}
 use mathlib.Core.List.{List, [], _++_}
 use mathlib.Core.Bool.{Bool, true, false, cond, _&&_, _||_}

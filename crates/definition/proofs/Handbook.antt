@@ -1,4 +1,4 @@
--- Where the types of expressions are those of the handbook: const assertions, literal inference, written types. Assumes nothing.
+-- Where the types of expressions are those of the handbook: const assertions, literal inference, written types.
 use mathlib.Core.Path.{_≡_, refl, sym, ap, _∙_}
 use mathlib.Core.List.{List, [], _∷_, _++_}
 use mathlib.Core.Bool.{Bool, true, false, cond, _&&_, _||_}

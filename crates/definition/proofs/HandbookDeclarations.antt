@@ -1,4 +1,4 @@
--- Where declarations are those of the handbook: written types, overloads, enum members, namespaces. Assumes nothing.
+-- Where declarations are those of the handbook: written types, overloads, enum members, namespaces.
 use mathlib.Core.Path.{_≡_, refl, sym, ap, _∙_, subst}
 use mathlib.Core.List.{List, []}
 use mathlib.Core.Bool.{Bool, true, false, _||_}

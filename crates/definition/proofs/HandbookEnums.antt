@@ -1,4 +1,4 @@
--- Where the initial values of enum members and the names of namespaces are those of the handbook. Assumes nothing.
+-- Where the initial values of enum members and the names of namespaces are those of the handbook.
 use mathlib.Core.Path.{_≡_, refl, ap₂}
 use mathlib.Core.List.{List}
 use mathlib.Core.Bool.{Bool, true, false, _&&_, _||_}

@@ -1,5 +1,5 @@
 -- "The signature of the implementation is not visible from the outside": with a list that names the implementations, the transform of some items, or
--- of the members of a class, is that of those which the handbook calls visible. Assumes nothing.
+-- of the members of a class, is that of those which the handbook calls visible.
 use mathlib.Core.Path.{_≡_, refl}
 use mathlib.Core.List.{List, []}
 use mathlib.Core.Bool.{Bool, true, false, not, _&&_, _||_}

@@ -1,5 +1,5 @@
 -- What the transform makes of the modules that TypeScript's `isolatedDeclarations` refuses: the smallest for each of its errors, evaluated.
--- docs/DIFFERENCES.md has them in a table. Assumes nothing.
+-- docs/DIFFERENCES.md has them in a table.
 use Prim.Native.Nat.{ℕ}
 use Prim.Native.String.{String}
 use mathlib.Core.Path.{_≡_, refl}

@@ -1,5 +1,4 @@
 -- From the mark of an accepted record to its text and its children: how many there are at least, which marks they have, and that they are accepted.
--- Assumes nothing.
 use mathlib.Core.Path.{_≡_, refl, sym, ap, _∙_, subst}
 use mathlib.Core.List.{List, [], _∷_}
 use mathlib.Core.Bool.{Bool, true, false, cond, _&&_, _||_}
@@ -97,29 +96,29 @@ member-wider m (x ∷ xs) ys c e = go (eqb m x) refl (member-wider m xs ys (and-
 
 -- ---- the head of the tree that stands at an offset, accepted or not
 
-pub head-is : (left : ℕ) (s : List ℕ) (at : ℕ) → headOf (treeAt left s at) ≡ headAt s at
+pub head-is : (levels : ℕ) (s : List ℕ) (at : ℕ) → headOf (treeAt levels s at) ≡ headAt s at
 unfolding treeAt
 head-is zero s at = refl
-head-is (suc left) s at = refl
+head-is (suc levels) s at = refl
 
-pub mark-is : (left : ℕ) (s : List ℕ) (at : ℕ) → markOf (treeAt left s at) ≡ markAt s at
+pub mark-is : (levels : ℕ) (s : List ℕ) (at : ℕ) → markOf (treeAt levels s at) ≡ markAt s at
 unfolding headAt
-mark-is left s at = ap (λ (h : Head). h .mark) (head-is left s at)
+mark-is levels s at = ap (λ (h : Head). h .mark) (head-is levels s at)
 
-pub flags-is : (left : ℕ) (s : List ℕ) (at : ℕ) → headOf (treeAt left s at) .flags ≡ flagsAt s at
+pub flags-is : (levels : ℕ) (s : List ℕ) (at : ℕ) → headOf (treeAt levels s at) .flags ≡ flagsAt s at
 unfolding headAt
-flags-is left s at = ap (λ (h : Head). h .flags) (head-is left s at)
+flags-is levels s at = ap (λ (h : Head). h .flags) (head-is levels s at)
 
-pub text-is : (left : ℕ) (s : List ℕ) (at : ℕ) → textOf (treeAt left s at) ≡ textAt s at
+pub text-is : (levels : ℕ) (s : List ℕ) (at : ℕ) → textOf (treeAt levels s at) ≡ textAt s at
 unfolding headAt
-text-is left s at = ap (λ (h : Head). h .text) (head-is left s at)
+text-is levels s at = ap (λ (h : Head). h .text) (head-is levels s at)
 
 -- whether it has a mark: `is S (treeAt left s at)`, from a comparison of numbers
-pub is-mark : (left : ℕ) (s : List ℕ) (at m : ℕ) → markAt s at ≡ m → eqb (markOf (treeAt left s at)) m ≡ true
-is-mark left s at m e = eq-eqb _ _ (mark-is left s at ∙ e)
+pub is-mark : (levels : ℕ) (s : List ℕ) (at m : ℕ) → markAt s at ≡ m → eqb (markOf (treeAt levels s at)) m ≡ true
+is-mark levels s at m e = eq-eqb _ _ (mark-is levels s at ∙ e)
 
-pub not-mark : (left : ℕ) (s : List ℕ) (at m : ℕ) → (markAt s at ≡ m → ⊥) → eqb (markOf (treeAt left s at)) m ≡ false
-not-mark left s at m n = ne-eqb _ _ (λ e. n (sym (mark-is left s at) ∙ e))
+pub not-mark : (levels : ℕ) (s : List ℕ) (at m : ℕ) → (markAt s at ≡ m → ⊥) → eqb (markOf (treeAt levels s at)) m ≡ false
+not-mark levels s at m n = ne-eqb _ _ (λ e. n (sym (mark-is levels s at) ∙ e))
 
 -- ---- one of n records
 
@@ -196,100 +195,100 @@ inside-ag ps = go (isProperty ps)
 -- ---- the children of an accepted record
 
 -- records that were accepted one after the other, without the first k of them
-pub all-others : (left : ℕ) (s : List ℕ) (n at : ℕ) → AllAccepted left s n at → (k : ℕ) → k ≤ n → AllAccepted left s (n - k) (endOfAll (endAt left s) k at)
+pub all-others : (levels : ℕ) (s : List ℕ) (n at : ℕ) → AllAccepted levels s n at → (k : ℕ) → k ≤ n → AllAccepted levels s (n - k) (endOfAll (endAt levels s) k at)
 unfolding endOfAll
-all-others left s n at a zero h = let z : n - 0 ≡ n = omega arith in rw z a
-all-others left s n at a (suc k) h =
+all-others levels s n at a zero h = let z : n - 0 ≡ n = omega arith in rw z a
+all-others levels s n at a (suc k) h =
     let z : n - suc k ≡ n - 1 - k = omega arith in
-    rw z (all-others left s (n - 1) (endAt left s at) (others left s n at a (omega arith)) k (omega arith))
+    rw z (all-others levels s (n - 1) (endAt levels s at) (others levels s n at a (omega arith)) k (omega arith))
 
 -- its child with the number i is there, stands at p, is accepted, is the tree's child, and has one of the marks S
-pub record Child (left : ℕ) (s : List ℕ) (at i p : ℕ) (S : String) : Type 0 where
+pub record Child (levels : ℕ) (s : List ℕ) (at i p : ℕ) (S : String) : Type 0 where
   pub there : i < countAt s at
-  pub accepted : AcceptedAt (left - 1) s p
-  pub tree : kid i (kidsOf (treeAt left s at)) ≡ treeAt (left - 1) s p
+  pub accepted : AcceptedAt (levels - 1) s p
+  pub tree : kid i (kidsOf (treeAt levels s at)) ≡ treeAt (levels - 1) s p
   pub marks : member (markAt s p) (marks S) ≡ true
 
 -- the same by another name of its place, as a call returns it
-pub placed : {left : ℕ} {s : List ℕ} {at i p : ℕ} {S : String} → Child left s at i p S → {q : ℕ} → q ≡ p → Child left s at i q S
-placed {left} {s} {at} {i} {p} {S} c e = subst (λ (k : ℕ). Child left s at i k S) (sym e) c
+pub placed : {levels : ℕ} {s : List ℕ} {at i p : ℕ} {S : String} → Child levels s at i p S → {q : ℕ} → q ≡ p → Child levels s at i q S
+placed {levels} {s} {at} {i} {p} {S} c e = subst (λ (k : ℕ). Child levels s at i k S) (sym e) c
 
 -- the same with a larger set: `wider c T refl`, with the line `unfolding marks member`
-pub wider : {left : ℕ} {s : List ℕ} {at i p : ℕ} {S : String} → Child left s at i p S → (T : String) → contained (marks S) (marks T) ≡ true → Child left s at i p T
-wider {left} {s} {at} {i} {p} {S} c T w =
+pub wider : {levels : ℕ} {s : List ℕ} {at i p : ℕ} {S : String} → Child levels s at i p S → (T : String) → contained (marks S) (marks T) ≡ true → Child levels s at i p T
+wider {levels} {s} {at} {i} {p} {S} c T w =
     record { there = c .there; accepted = c .accepted; tree = c .tree; marks = member-wider (markAt s p) (marks S) (marks T) w (c .marks) }
 
-module _ (left : ℕ) (s : List ℕ) (at : ℕ) (a : AcceptedAt left s at) where
-  pub kids-are : kidsOf (treeAt left s at) ≡ readAll (treeAt (left - 1) s) (endAt (left - 1) s) (countAt s at) (bodyAt s at)
-  kids-are = ap kidsOf (tree-is left s at a)
+module _ (levels : ℕ) (s : List ℕ) (at : ℕ) (a : AcceptedAt levels s at) where
+  pub kids-are : kidsOf (treeAt levels s at) ≡ readAll (treeAt (levels - 1) s) (endAt (levels - 1) s) (countAt s at) (bodyAt s at)
+  kids-are = ap kidsOf (tree-is levels s at a)
 
   -- the child i, and what stands for one that is not there
-  pub kid-is : (i : ℕ) → i < countAt s at → kid i (kidsOf (treeAt left s at)) ≡ treeAt (left - 1) s (childAt left s at i)
-  kid-is i h = ap (kid i) kids-are ∙ kid-read (treeAt (left - 1) s) (endAt (left - 1) s) (countAt s at) (bodyAt s at) i h
+  pub kid-is : (i : ℕ) → i < countAt s at → kid i (kidsOf (treeAt levels s at)) ≡ treeAt (levels - 1) s (childAt levels s at i)
+  kid-is i h = ap (kid i) kids-are ∙ kid-read (treeAt (levels - 1) s) (endAt (levels - 1) s) (countAt s at) (bodyAt s at) i h
 
-  pub kid-none : (i : ℕ) → countAt s at ≤ i → kid i (kidsOf (treeAt left s at)) ≡ absent
-  kid-none i h = ap (kid i) kids-are ∙ kid-read-none (treeAt (left - 1) s) (endAt (left - 1) s) (countAt s at) (bodyAt s at) i h
+  pub kid-none : (i : ℕ) → countAt s at ≤ i → kid i (kidsOf (treeAt levels s at)) ≡ absent
+  kid-none i h = ap (kid i) kids-are ∙ kid-read-none (treeAt (levels - 1) s) (endAt (levels - 1) s) (countAt s at) (bodyAt s at) i h
 
   -- a record with the mark m has as many children as its row asks
   at-least : (m : ℕ) → markAt s at ≡ m → (n : ℕ) → least (slotsOf m) ≡ n → n ≤ countAt s at
-  at-least m e n l = let z : least (slotsOf (markAt s at)) ≡ n = rw e l in omega (arith, itself left s at a .enough, z)
+  at-least m e n l = let z : least (slotsOf (markAt s at)) ≡ n = rw e l in omega (arith, itself levels s at a .enough, z)
 
   has-least : (m : ℕ) → markAt s at ≡ m → leastOf m ≤ countAt s at
   has-least m e = let z = least-in leastTable all-asked m in let k = at-least m e (least (slotsOf m)) refl in omega arith
 
-  apart : Accepted (left - 1) s at (a .slots) (a .past)
-  apart = accepted (left - 1) s at (a .slots) (a .past) (subst (λ (k : ℕ). checkAt k s at (a .slots) ≡ fine (a .past)) (some-left left s at a) (a .checked))
+  apart : Accepted (levels - 1) s at (a .slots) (a .past)
+  apart = accepted (levels - 1) s at (a .slots) (a .past) (subst (λ (k : ℕ). checkAt k s at (a .slots) ≡ fine (a .past)) (some-left levels s at a) (a .checked))
 
-  slot-in : (qs : List Part) → inside (a .slots) (markAt s at) ≡ qs → (i : ℕ) (S : String) → fixed qs i ≡ some S → i < countAt s at → Child left s at i (childAt left s at i) S
+  slot-in : (qs : List Part) → inside (a .slots) (markAt s at) ≡ qs → (i : ℕ) (S : String) → fixed qs i ≡ some S → i < countAt s at → Child levels s at i (childAt levels s at i) S
   slot-in qs q i S f h =
-      let p : ℕ = childAt left s at i in
-      let c : AcceptedAt (left - 1) s p = record {
-        slots = slotsAt (endAt (left - 1) s) s (inside (a .slots) (markAt s at)) (bodyAt s at) i;
-        past = endOfAll (endAt (left - 1) s) (suc i) (bodyAt s at);
-        checked = child-accepted (left - 1) s (countAt s at) (bodyAt s at) (inside (a .slots) (markAt s at)) (a .past) (apart .all) i h;
+      let p : ℕ = childAt levels s at i in
+      let c : AcceptedAt (levels - 1) s p = record {
+        slots = slotsAt (endAt (levels - 1) s) s (inside (a .slots) (markAt s at)) (bodyAt s at) i;
+        past = endOfAll (endAt (levels - 1) s) (suc i) (bodyAt s at);
+        checked = child-accepted (levels - 1) s (countAt s at) (bodyAt s at) (inside (a .slots) (markAt s at)) (a .past) (apart .all) i h;
       } in
       record {
         there = h;
         accepted = c;
         tree = kid-is i h;
-        marks = fixed-allowed (endAt (left - 1) s) s qs (bodyAt s at) i (markAt s p) S f (rw (sym q) (itself (left - 1) s p c .slot));
+        marks = fixed-allowed (endAt (levels - 1) s) s qs (bodyAt s at) i (markAt s p) S f (rw (sym q) (itself (levels - 1) s p c .slot));
       }
 
   -- the child at a slot that the row of its mark fixes: `child-in (mark "Ft") e refl 1 type refl`, with the line
   -- `unfolding grammar known slots place fixed`
-  pub child-in : (m : ℕ) → markAt s at ≡ m → eqb m (mark "Ag") ≡ false → (i : ℕ) (S : String) → fixed (slotsOf m) i ≡ some S → Child left s at i (childAt left s at i) S
+  pub child-in : (m : ℕ) → markAt s at ≡ m → eqb m (mark "Ag") ≡ false → (i : ℕ) (S : String) → fixed (slotsOf m) i ≡ some S → Child levels s at i (childAt levels s at i) S
   child-in m e n i S f =
       slot-in (slotsOf m) (ap (inside (a .slots)) e ∙ inside-plain (a .slots) m (eqb-false m (mark "Ag") n)) i S f
       (let l = fixed-least (slotsOf m) i S f in let k = at-least m e (least (slotsOf m)) refl in omega (arith, l, k))
 
   -- the first child stands where the children begin, and the second where the first ends
-  pub first-in : (m : ℕ) → markAt s at ≡ m → eqb m (mark "Ag") ≡ false → (S : String) → fixed (slotsOf m) 0 ≡ some S → Child left s at 0 (bodyAt s at) S
+  pub first-in : (m : ℕ) → markAt s at ≡ m → eqb m (mark "Ag") ≡ false → (S : String) → fixed (slotsOf m) 0 ≡ some S → Child levels s at 0 (bodyAt s at) S
   unfolding endOfAll
   first-in m e n S f = child-in m e n 0 S f
 
   pub second-in : (m : ℕ) → markAt s at ≡ m → eqb m (mark "Ag") ≡ false → (S : String) → fixed (slotsOf m) 1 ≡ some S →
-      Child left s at 1 (endAt (left - 1) s (bodyAt s at)) S
+      Child levels s at 1 (endAt (levels - 1) s (bodyAt s at)) S
   unfolding endOfAll
   second-in m e n S f = child-in m e n 1 S f
 
   pub third-in : (m : ℕ) → markAt s at ≡ m → eqb m (mark "Ag") ≡ false → (S : String) → fixed (slotsOf m) 2 ≡ some S →
-      Child left s at 2 (endAt (left - 1) s (endAt (left - 1) s (bodyAt s at))) S
+      Child levels s at 2 (endAt (levels - 1) s (endAt (levels - 1) s (bodyAt s at))) S
   unfolding endOfAll
   third-in m e n S f = child-in m e n 2 S f
 
   -- the children from the number k on, as a loop meets them
-  pub rest-accepted : (k : ℕ) → k ≤ countAt s at → AllAccepted (left - 1) s (countAt s at - k) (childAt left s at k)
-  rest-accepted k h = all-others (left - 1) s (countAt s at) (bodyAt s at) (children left s at a) k h
+  pub rest-accepted : (k : ℕ) → k ≤ countAt s at → AllAccepted (levels - 1) s (countAt s at - k) (childAt levels s at k)
+  rest-accepted k h = all-others (levels - 1) s (countAt s at) (bodyAt s at) (children levels s at a) k h
 
   -- the same for an Ag, wherever it stands: its left side and its right side
-  pub left-of : markAt s at ≡ mark "Ag" → Child left s at 0 (bodyAt s at) pattern
+  pub left-of : markAt s at ≡ mark "Ag" → Child levels s at 0 (bodyAt s at) pattern
   unfolding endOfAll grammar known slots place fixed least marks member
   left-of e = ⊎-elim
       (λ q. wider (slot-in undestructured (ap (inside (a .slots)) e ∙ q) 0 "Bd Rs Ag Pe Pi" refl (omega (arith, at-least (mark "Ag") e 2 refl))) pattern refl)
       (λ q. slot-in (slotsOf (mark "Ag")) (ap (inside (a .slots)) e ∙ q) 0 pattern refl (omega (arith, at-least (mark "Ag") e 2 refl)))
       (inside-ag (a .slots))
 
-  pub right-of : markAt s at ≡ mark "Ag" → Child left s at 1 (endAt (left - 1) s (bodyAt s at)) expression
+  pub right-of : markAt s at ≡ mark "Ag" → Child levels s at 1 (endAt (levels - 1) s (bodyAt s at)) expression
   unfolding endOfAll grammar known slots place fixed least
   right-of e = ⊎-elim
       (λ q. slot-in undestructured (ap (inside (a .slots)) e ∙ q) 1 expression refl (omega (arith, at-least (mark "Ag") e 2 refl)))
@@ -299,11 +298,11 @@ module _ (left : ℕ) (s : List ℕ) (at : ℕ) (a : AcceptedAt left s at) where
   -- ---- its text
 
   pub text-length : length (textAt s at) ≡ lengthAt s at
-  text-length = part-length s (at + headSize) (lengthAt s at) (itself left s at a .fits)
+  text-length = part-length s (at + headSize) (lengthAt s at) (itself levels s at a .fits)
 
   -- it has the form of its mark's row: `form-is m e f refl`, with the line `unfolding grammar known forms place`
   pub form-is : (m : ℕ) → markAt s at ≡ m → (f : Form) → formOf m ≡ f → hasForm f (flagsAt s at) (textAt s at) ≡ true
-  form-is m e f q = rw (sym q, sym e) (itself left s at a .form)
+  form-is m e f q = rw (sym q, sym e) (itself levels s at a .form)
 
   -- a text that is empty; the context of an Id; the bytes of a Nu; the sign and the digits of a Bi
   pub no-text : (m : ℕ) → markAt s at ≡ m → formOf m ≡ empty → lengthAt s at ≡ 0
@@ -323,5 +322,5 @@ module _ (left : ℕ) (s : List ℕ) (at : ℕ) (a : AcceptedAt left s at) where
   bi-text e = form-is (mark "Bi") e integer refl
 
 -- a record with the mark m has as many children as its row asks: `has (mark "Fu") _ _ _ a e : 3 ≤ countAt s at`
-pub has : (m : ℕ) (left : ℕ) (s : List ℕ) (at : ℕ) → AcceptedAt left s at → markAt s at ≡ m → leastOf m ≤ countAt s at
-has m left s at a e = has-least left s at a m e
+pub has : (m : ℕ) (levels : ℕ) (s : List ℕ) (at : ℕ) → AcceptedAt levels s at → markAt s at ≡ m → leastOf m ≤ countAt s at
+has m levels s at a e = has-least levels s at a m e

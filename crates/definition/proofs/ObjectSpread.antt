@@ -1,5 +1,4 @@
 -- The spread in an object literal: the type that is written lacks its members, and d4 tells of it. Evaluated on an example, and for every literal.
--- Assumes nothing.
 use mathlib.Core.Path.{_≡_, refl}
 use mathlib.Core.List.{[], _∷_}
 use mathlib.Core.Bool.{Bool}

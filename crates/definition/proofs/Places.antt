@@ -1,4 +1,4 @@
--- Bytes in their place: what it is that a list stands in another one at an offset, and the laws of it. Assumes nothing.
+-- Bytes in their place: what it is that a list stands in another one at an offset, and the laws of it.
 use mathlib.Core.Path.{_≡_, refl, ap, sym, _∙_}
 use mathlib.Core.List.{List, [], _∷_, _++_}
 use mathlib.Core.Logic.{_⊎_, inl, inr, ⊎-elim}

@@ -1,4 +1,4 @@
--- The children of an accepted object literal: "`Ob` (Kv|Sh|Pq|Sp)*", then Ops; so each of them is a member of its type or is told of. Assumes nothing.
+-- The children of an accepted object literal: "`Ob` (Kv|Sh|Pq|Sp)*", then Ops; so each of them is a member of its type or is told of.
 use mathlib.Core.Path.{_≡_, refl, sym, ap, _∙_, subst}
 use mathlib.Core.List.{List, [], _∷_}
 use mathlib.Core.Bool.{Bool, true, false, _||_}
@@ -67,37 +67,37 @@ in-nil : {q : Rec} {A : Type 0} → OneOf q nil → A
 in-nil i = elim i [ ]
 
 -- n records at such slots
-all-marks : (left : ℕ) (s : List ℕ) (n p : ℕ) (ps : List Part) (e : ℕ) → (ps ≡ properties) ⊎ (ps ≡ ops) → checkAll (checkAt left s) s n p ps ≡ fine e →
-    (q : Rec) → OneOf q (readAll (treeAt left s) (endAt left s) n p) → member (markOf q) (marks "Kv Sh Pq Sp Op") ≡ true
+all-marks : (levels : ℕ) (s : List ℕ) (n p : ℕ) (ps : List Part) (e : ℕ) → (ps ≡ properties) ⊎ (ps ≡ ops) → checkAll (checkAt levels s) s n p ps ≡ fine e →
+    (q : Rec) → OneOf q (readAll (treeAt levels s) (endAt levels s) n p) → member (markOf q) (marks "Kv Sh Pq Sp Op") ≡ true
 unfolding readAll
-all-marks left s zero p ps e k c q i = in-nil i
-all-marks left s (suc n) p ps e k c q i =
-    let f = first-accepted left s n p ps e c in
-    let a : AcceptedAt left s p = record { slots = ps; past = endAt left s p; checked = f .0 } in
-    let o : allowed ps (markAt s p) ≡ true = itself left s p a .slot in
-    ⊎-elim (λ z. subst (λ (m : ℕ). member m (marks "Kv Sh Pq Sp Op") ≡ true) (sym (ap markOf z ∙ mark-is left s p)) (allowed-mark ps (markAt s p) k o))
-    (λ j. all-marks left s n (endAt left s p) (after ps (markAt s p)) e (after-slots ps (markAt s p) k o) (f .1) q j)
+all-marks levels s zero p ps e k c q i = in-nil i
+all-marks levels s (suc n) p ps e k c q i =
+    let f = first-accepted levels s n p ps e c in
+    let a : AcceptedAt levels s p = record { slots = ps; past = endAt levels s p; checked = f .0 } in
+    let o : allowed ps (markAt s p) ≡ true = itself levels s p a .slot in
+    ⊎-elim (λ z. subst (λ (m : ℕ). member m (marks "Kv Sh Pq Sp Op") ≡ true) (sym (ap markOf z ∙ mark-is levels s p)) (allowed-mark ps (markAt s p) k o))
+    (λ j. all-marks levels s n (endAt levels s p) (after ps (markAt s p)) e (after-slots ps (markAt s p) k o) (f .1) q j)
     (in-cons i)
 
-module _ (left : ℕ) (s : List ℕ) (at : ℕ) (a : AcceptedAt left s at) (ob : markAt s at ≡ mark "Ob") where
-  apart : Accepted (left - 1) s at (a .slots) (a .past)
-  apart = accepted (left - 1) s at (a .slots) (a .past) (subst (λ (k : ℕ). checkAt k s at (a .slots) ≡ fine (a .past)) (some-left left s at a) (a .checked))
+module _ (levels : ℕ) (s : List ℕ) (at : ℕ) (a : AcceptedAt levels s at) (ob : markAt s at ≡ mark "Ob") where
+  apart : Accepted (levels - 1) s at (a .slots) (a .past)
+  apart = accepted (levels - 1) s at (a .slots) (a .past) (subst (λ (k : ℕ). checkAt k s at (a .slots) ≡ fine (a .past)) (some-left levels s at a) (a .checked))
 
   slots-are : inside (a .slots) (markAt s at) ≡ properties
   unfolding grammar known slots place
   slots-are = ap (inside (a .slots)) ob ∙ inside-plain (a .slots) (mark "Ob") (eqb-false (mark "Ob") (mark "Ag") refl)
 
-  pub object-properties : (p : Rec) → OneOf p (kidsOf (treeAt left s at)) → member (markOf p) (marks "Kv Sh Pq Sp Op") ≡ true
+  pub object-properties : (p : Rec) → OneOf p (kidsOf (treeAt levels s at)) → member (markOf p) (marks "Kv Sh Pq Sp Op") ≡ true
   object-properties p i =
-      all-marks (left - 1) s (countAt s at) (bodyAt s at) (inside (a .slots) (markAt s at)) (a .past) (inl slots-are) (apart .all) p
-      (subst (λ (r : Rec). OneOf p (kidsOf r)) (tree-is left s at a) i)
+      all-marks (levels - 1) s (countAt s at) (bodyAt s at) (inside (a .slots) (markAt s at)) (a .past) (inl slots-are) (apart .all) p
+      (subst (λ (r : Rec). OneOf p (kidsOf r)) (tree-is levels s at a) i)
 
   -- so in an accepted tree every property of an object literal is a member of its type or is told of, in order
   pub none-missing-accepted : (ids : PrescannedModuleIds) (ctx : ℕ) (c r : Bool) (n : ℕ) →
-      (ms : Recs) × (exprToTsType ids ctx (treeAt left s at) c r n .0 ≡ some (rec (ranged "Li" (headAt s at) []) ms))
-      × Ledger ids ctx c r n (kidsOf (treeAt left s at)) ms (exprToTsType ids ctx (treeAt left s at) c r n .1)
+      (ms : Recs) × (exprToTsType ids ctx (treeAt levels s at) c r n .0 ≡ some (rec (ranged "Li" (headAt s at) []) ms))
+      × Ledger ids ctx c r n (kidsOf (treeAt levels s at)) ms (exprToTsType ids ctx (treeAt levels s at) c r n .1)
   unfolding headAt
   none-missing-accepted ids ctx c r n =
-      rw (tree-is left s at a)
-      (none-missing ids ctx (headAt s at) (readAll (treeAt (left - 1) s) (endAt (left - 1) s) (countAt s at) (bodyAt s at)) ob
-      (λ p i. object-properties p (subst (λ (r : Rec). OneOf p (kidsOf r)) (sym (tree-is left s at a)) i)) c r n)
+      rw (tree-is levels s at a)
+      (none-missing ids ctx (headAt s at) (readAll (treeAt (levels - 1) s) (endAt (levels - 1) s) (countAt s at) (bodyAt s at)) ob
+      (λ p i. object-properties p (subst (λ (r : Rec). OneOf p (kidsOf r)) (sym (tree-is levels s at a)) i)) c r n)

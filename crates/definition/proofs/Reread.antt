@@ -1,4 +1,4 @@
--- A tree whose fields fit is read back from its bytes once these are accepted: its depth need not be known, the check bounds it. Assumes nothing.
+-- A tree whose fields fit is read back from its bytes once these are accepted: its depth need not be known, the check bounds it.
 use mathlib.Core.Path.{_≡_}
 use mathlib.Core.List.{List}
 use Prim.Native.Nat.{ℕ, zero, suc}

@@ -1,4 +1,4 @@
--- The round trip: `treeAt` reads back the bytes that `encode` gives, for a tree whose fields fit their widths. Assumes nothing.
+-- The round trip: `treeAt` reads back the bytes that `encode` gives, for a tree whose fields fit their widths.
 use mathlib.Core.Path.{_≡_, refl, ap, sym, _∙_}
 use mathlib.Core.List.{List, [], _∷_, _++_}
 use Prim.Native.Nat.{ℕ, zero, suc, _+_, _≤_, _<_, _%_, max}

@@ -1,4 +1,4 @@
--- Small modules, on which `call` is evaluated: those of document 01, and one for each slip that must not pass. Assumes nothing.
+-- Small modules, on which `call` is evaluated: those of document 01, and one for each slip that must not pass.
 use Prim.Native.Nat.{ℕ, zero, suc, _-_, _*_}
 use Prim.Native.String.{String}
 use mathlib.Core.Path.{_≡_, refl}

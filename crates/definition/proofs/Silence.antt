@@ -1,4 +1,4 @@
--- No member of an object literal is left out in silence, at whatever depth typing meets it. Assumes nothing.
+-- No member of an object literal is left out in silence, at whatever depth typing meets it.
 use mathlib.Core.Path.{_≡_, refl, sym, subst}
 use mathlib.Core.List.{List, [], _∷_, _++_, append-assoc, append-nil}
 use mathlib.Core.Bool.{Bool, true, false, cond}

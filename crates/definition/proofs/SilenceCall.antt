@@ -1,5 +1,5 @@
 -- No silence on the exported call: after a success the ten bytes of each diagnostic that the transform gives stand in the diagnostics buffer, so of
--- every member of an object literal that is left out. Assumes nothing.
+-- every member of an object literal that is left out.
 use mathlib.Core.Path.{_≡_, refl, ap, _∙_}
 use mathlib.Core.List.{List, [], _∷_, _++_, append-assoc}
 use mathlib.Core.Bool.{Bool, false}

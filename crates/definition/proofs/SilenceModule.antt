@@ -1,5 +1,4 @@
 -- No member of an object literal of a module is left out in silence: the diagnostics of whatever the transform types are among those that it gives.
--- Assumes nothing.
 use mathlib.Core.Path.{_≡_, refl, ap}
 use mathlib.Core.List.{List, [], _∷_}
 use mathlib.Core.Bool.{Bool, true, false, _||_}

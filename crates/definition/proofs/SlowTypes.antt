@@ -1,5 +1,5 @@
 -- What the transform makes of the modules that JSR's page on slow types rules out, as far as `isolatedDeclarations` doesn't: the smallest for each rule,
--- evaluated. docs/DIFFERENCES.md has them in a table. Assumes nothing.
+-- evaluated. docs/DIFFERENCES.md has them in a table.
 use Prim.Native.String.{String}
 use mathlib.Core.Path.{_≡_, refl}
 use mathlib.Core.List.{[], _∷_}

@@ -1,4 +1,4 @@
--- Small trees, written short, and what a module becomes: for the theorems that evaluate the examples of docs/DIFFERENCES.md. Assumes nothing.
+-- Small trees, written short, and what a module becomes: for the theorems that evaluate the examples of docs/DIFFERENCES.md.
 use Prim.Native.Nat.{ℕ}
 use Prim.Native.String.{String}
 use mathlib.Core.List.{List, [], _∷_, _++_}

@@ -1,5 +1,5 @@
 -- A second pass changes nothing: parameters and functions, and the laws of the combinators for it. The first pass types by ty₁, the second by ty₂;
--- all that is asked of the first is that it never answers with an absent type. Assumes nothing.
+-- all that is asked of the first is that it never answers with an absent type.
 use mathlib.Core.Path.{_≡_, refl, ap, ap₂, sym, _∙_}
 use mathlib.Core.List.{List, [], _∷_}
 use mathlib.Core.Bool.{Bool, true, false, _||_}

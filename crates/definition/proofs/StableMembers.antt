@@ -1,4 +1,4 @@
--- A second pass changes nothing: keys, class members, classes. Assumes nothing.
+-- A second pass changes nothing: keys, class members, classes.
 use mathlib.Core.Path.{_≡_, refl, ap, ap₂, subst}
 use mathlib.Core.List.{List}
 use mathlib.Core.Bool.{Bool, true, false, cond, not, _&&_}

@@ -1,4 +1,4 @@
--- Laws of tests on Booleans. Assumes nothing.
+-- Laws of tests on Booleans.
 use Prim.Native.Nat.{ℕ}
 use mathlib.Core.Path.{_≡_, refl}
 use mathlib.Core.Bool.{Bool, true, false, _&&_}

@@ -1,5 +1,4 @@
 -- Texts: that they are byte strings, and how long they are. For texts that are written out, that are made of others, and for names that are made.
--- Assumes nothing.
 use mathlib.Core.Path.{_≡_, refl, ap}
 use mathlib.Core.List.{List, [], _∷_, _++_}
 use mathlib.Core.Bool.{Bool, true, false, cond, _&&_}

@@ -1,4 +1,4 @@
--- The typing of expressions never answers with an absent type, and types nothing where nothing stands. Assumes nothing.
+-- The typing of expressions never answers with an absent type, and types nothing where nothing stands.
 use mathlib.Core.Path.{_≡_, refl, subst}
 use mathlib.Core.List.{List}
 use mathlib.Core.Bool.{Bool, true, false, cond, _&&_, _||_}

@@ -1,4 +1,4 @@
--- A second pass changes nothing: enums, variables, declarations, items, namespaces, modules. `twice` is demand 3 on trees. Assumes nothing.
+-- A second pass changes nothing: enums, variables, declarations, items, namespaces, modules. `twice` is demand 3 on trees.
 use mathlib.Core.Path.{_≡_, refl, ap, ap₂, sym, _∙_}
 use mathlib.Core.List.{List, [], _∷_}
 use mathlib.Core.Bool.{Bool, true, false, true≢false, cond, _||_, _&&_}

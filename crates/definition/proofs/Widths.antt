@@ -1,5 +1,5 @@
 -- Every output of an accepted tree has fields, counts and texts that fit a record, but for reading 20: a text is too long only if a Kv of the tree
--- has a Ki of more than 65,531 bytes. Assumes nothing.
+-- has a Ki of more than 65,531 bytes.
 use mathlib.Core.Path.{_≡_, refl, ap}
 use mathlib.Core.List.{List}
 use mathlib.Core.Bool.{Bool, true, false, _&&_}

@@ -1,5 +1,4 @@
 -- What the check of a tree and of an overload list finds: refusals 1 to 8 of document 01's table, in their order and with their places.
--- Assumes nothing: these are definitions.
 use Prim.Native.Nat.{ℕ, zero, suc, _+_, _-_, _/_, _%_}
 use mathlib.Core.List.{List, [], _∷_}
 use mathlib.Core.Bool.{Bool, true, false, cond, not, _&&_}
@@ -107,10 +106,10 @@ abbrev pub within : Opening → ℕ → (ℕ → ℕ → List Part → Checked) 
 within (opened b n ps) at f = f b n ps
 within (stopped k) at f = refused k at
 
--- "per record in preorder 7, ..": the record at `at`, at the slots ps, with `left` levels left; "Place: the record's offset for 3 to 7"
+-- "per record in preorder 7, ..": the record at `at`, at the slots ps, with `levels` levels left; "Place: the record's offset for 3 to 7"
 unfoldable pub checkAt : ℕ → List ℕ → ℕ → List Part → Checked
 checkAt zero s at ps = refused 7 at
-checkAt (suc left) s at ps = within (openAt s at ps) at (λ b n qs. checkAll (checkAt left s) s n b qs)
+checkAt (suc levels) s at ps = within (openAt s at ps) at (λ b n qs. checkAll (checkAt levels s) s n b qs)
 
 -- ---- the overload list: "10-byte entries `ov`, start, end, in any order, repeats allowed"
 

@@ -1,5 +1,5 @@
 -- Parameters and class members: `handle_func_param` and its parts, `infer_expr_fallback_any`, `class_body_to_type`.
--- Assumes nothing: these are definitions. The typing of expressions is a parameter.
+-- The typing of expressions is a parameter.
 use Prim.Native.Nat.{ℕ, zero, suc}
 use mathlib.Core.List.{List, [], _∷_}
 use mathlib.Core.Bool.{Bool, false, cond, _||_}

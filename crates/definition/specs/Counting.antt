@@ -1,4 +1,4 @@
--- The number of records of a tree, and what a step may cost when it is counted in records. Assumes nothing: these are definitions.
+-- The number of records of a tree, and what a step may cost when it is counted in records.
 use Prim.Native.Nat.{ℕ, suc, _+_, _≤_}
 use lib.ListN.{length}
 use Rattle.definition.specs.Tree.{Rec, Recs, rec, nil, cons}

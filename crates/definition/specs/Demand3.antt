@@ -1,4 +1,4 @@
--- What demand 3 says of trees and of buffers. Assumes nothing: these are definitions.
+-- What demand 3 says of trees and of buffers.
 use Prim.Native.Nat.{ℕ, _≤_}
 use mathlib.Core.Path.{_≡_}
 use mathlib.Core.List.{List}

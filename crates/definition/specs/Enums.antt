@@ -1,4 +1,4 @@
--- Enum members: `valid_enum_init_expr`, `valid_enum_ts_type`. Assumes nothing: these are definitions.
+-- Enum members: `valid_enum_init_expr`, `valid_enum_ts_type`.
 use Prim.Native.Nat.{ℕ}
 use mathlib.Core.Bool.{Bool, true, false, cond, _&&_, _||_}
 use lib.Dec.{eqb}

@@ -1,5 +1,5 @@
 -- The grammar of document 01, "Items", "Functions and classes" and "Expressions", as a table: a row for each mark, with the form of its
--- text, the slots of its children and, behind it, what the mark stands for. Assumes nothing: these are definitions. The code's tables are
+-- text, the slots of its children and, behind it, what the mark stands for. The code's tables are
 -- printed from this file: after a change of it run `tools/grammar-tables`.
 use Prim.Native.Nat.{ℕ, suc, _+_, _*_}
 use Prim.Native.Char.{Char, code}

@@ -1,4 +1,4 @@
--- swc_helpers.rs: small types, types of literals and of templates, the argument of `Object.freeze`. Assumes nothing: these are definitions.
+-- swc_helpers.rs: small types, types of literals and of templates, the argument of `Object.freeze`.
 use Prim.Native.Nat.{ℕ}
 use Prim.Native.String.{String}
 use mathlib.Core.List.{List, []}

@@ -1,5 +1,5 @@
 -- Items, declarations and namespaces: `transform_module_items`, `transform_module_stmt`, `decl_to_type_decl`, `transform_ts_ns_body`.
--- Assumes nothing: these are definitions. The typing of expressions is a parameter.
+-- The typing of expressions is a parameter.
 use Prim.Native.Nat.{ℕ, zero, suc}
 use mathlib.Core.List.{List, [], _∷_, _++_}
 use mathlib.Core.Bool.{Bool, true, false, cond, _||_}

@@ -1,5 +1,4 @@
 -- Names that are made, and the keys of class members: `gen_unique_name`, `is_well_known_symbol_expr`, `valid_prop_name`.
--- Assumes nothing: these are definitions.
 use Prim.Native.Nat.{ℕ, zero, suc, _+_, _/_, _%_}
 use Prim.Native.Char.{code}
 use mathlib.Core.List.{List, [], _∷_, _++_}

@@ -1,4 +1,4 @@
--- `prescan_module_ids`: the three sets of module-level names, as questions put to the items of the module. Assumes nothing: these are definitions.
+-- `prescan_module_ids`: the three sets of module-level names, as questions put to the items of the module.
 use Prim.Native.Nat.{ℕ}
 use mathlib.Core.List.{List}
 use mathlib.Core.Bool.{Bool, true, false, cond, not, _&&_, _||_}

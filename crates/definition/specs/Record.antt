@@ -1,6 +1,5 @@
 -- The parts of a record, ranges, records made afresh, flags, diagnostics, and what a step of the transform gives, with the combinators that steps
 -- are built of.
--- Assumes nothing: these are definitions.
 use Prim.Native.Nat.{ℕ, zero, suc, _+_, _*_, _/_, _%_}
 use Prim.Native.Char.{code}
 use Prim.Native.String.{String, [] as ε, _∷_ as _∷ₛ_}

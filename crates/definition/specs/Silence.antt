@@ -1,5 +1,5 @@
 -- What it says that no member of an object literal is left out in silence: "Ob: untyped value any, d2 at it; untyped Sh and every Pq skipped, d3 at
--- it; Sp skipped, d4 at it." Assumes nothing: these are definitions.
+-- it; Sp skipped, d4 at it."
 use Prim.Native.Nat.{ℕ, _*_, _<_}
 use mathlib.Core.Path.{_≡_}
 use mathlib.Core.List.{List, [], _∷_, _++_}

@@ -1,4 +1,4 @@
--- The transform of a module, and the exported call. Assumes nothing: these are definitions.
+-- The transform of a module, and the exported call.
 use Prim.Native.Nat.{ℕ}
 use mathlib.Core.List.{List, _++_}
 use mathlib.Core.Bool.{Bool, true, cond, _&&_}

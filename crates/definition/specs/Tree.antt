@@ -1,4 +1,4 @@
--- Trees of records and their bytes, from document 01, "The record". Assumes nothing: these are definitions.
+-- Trees of records and their bytes, from document 01, "The record".
 use Prim.Native.Nat.{ℕ, zero, suc, _+_, _*_, _/_, _%_, _<_, max}
 use mathlib.Core.List.{List, [], _∷_, _++_}
 use lib.ListN.{length, getD, take, drop}
@@ -128,15 +128,15 @@ unfoldable pub endOfAll : (ℕ → ℕ) → ℕ → ℕ → ℕ
 endOfAll end zero at = at
 endOfAll end (suc n) at = endOfAll end n (end at)
 
--- the offset past the record at `at`, with `left` levels left
+-- the offset past the record at `at`, with `levels` levels left
 unfoldable pub endAt : ℕ → List ℕ → ℕ → ℕ
 endAt zero s at = at
-endAt (suc left) s at = endOfAll (endAt left s) (countAt s at) (bodyAt s at)
+endAt (suc levels) s at = endOfAll (endAt levels s) (countAt s at) (bodyAt s at)
 
--- the record at `at`, with `left` levels left
+-- the record at `at`, with `levels` levels left
 unfoldable pub treeAt : ℕ → List ℕ → ℕ → Rec
 treeAt zero s at = rec (headAt s at) nil
-treeAt (suc left) s at = rec (headAt s at) (readAll (treeAt left s) (endAt left s) (countAt s at) (bodyAt s at))
+treeAt (suc levels) s at = rec (headAt s at) (readAll (treeAt levels s) (endAt levels s) (countAt s at) (bodyAt s at))
 
 -- ---- trees that bytes can hold
 

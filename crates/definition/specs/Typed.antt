@@ -1,5 +1,5 @@
 -- Where the transform of a module types an expression: the initial value of a variable, an expression exported as default, the value of a class
--- property, the default of a parameter. Assumes nothing: these are definitions.
+-- property, the default of a parameter.
 use Prim.Native.Nat.{ℕ}
 use mathlib.Core.Path.{_≡_}
 use mathlib.Core.List.{List}

@@ -1,4 +1,4 @@
--- The types of expressions: `expr_to_ts_type`, `ident_to_ts_type`, `pat_to_ts_fn_param`, `readonly_of`. Assumes nothing: these are definitions.
+-- The types of expressions: `expr_to_ts_type`, `ident_to_ts_type`, `pat_to_ts_fn_param`, `readonly_of`.
 -- In every step the arguments `c` and `r` are as_const and as_readonly, and `n` is the name counter.
 use Prim.Native.Nat.{ℕ, zero, suc, _+_, _%_}
 use mathlib.Core.List.{List, [], _∷_, _++_}

@@ -1,4 +1,4 @@
--- Reading 20: how long the keys are of which an Id is made. Assumes nothing: these are definitions.
+-- Reading 20: how long the keys are of which an Id is made.
 use Prim.Native.Nat.{ℕ, _≤_}
 use mathlib.Core.Path.{_≡_}
 use lib.ListN.{length}

@@ -1,4 +1,4 @@
--- What a C function returns and its two numbers follow from the answer of the function below it. Assumes nothing.
+-- What a C function returns and its two numbers follow from the answer of the function below it.
 use mathlib.Core.Path.{_≡_, sym, ap, _∙_}
 use mathlib.Core.List.{List, [], _∷_}
 use Prim.Native.Nat.{ℕ}

@@ -1,4 +1,4 @@
--- What the C functions return and the two numbers of their `answer`, in the terms of document 01. Assumes nothing: these are definitions.
+-- What the C functions return and the two numbers of their `answer`, in the terms of document 01.
 use Prim.Native.Nat.{ℕ}
 use mathlib.Core.List.{List, [], _∷_}
 use Rattle.definition.specs.Check.{Checked, fine, refused as rejected}

@@ -1,4 +1,4 @@
--- A record with what it holds: the loop over its children, and a law for each answer of the code. Assumes nothing.
+-- A record with what it holds: the loop over its children, and a law for each answer of the code.
 use mathlib.Core.Path.{_≡_, sym, ap, _∙_}
 use mathlib.Core.List.{List}
 use Prim.Native.Nat.{ℕ, suc, _+_, _-_, _<_, _≤_}
@@ -9,27 +9,27 @@ use Rattle.definition.specs.Grammar.{Part, after}
 use Rattle.definition.specs.Check.{Opening.opened, Opening.stopped, openAt, Checked.fine, Checked.refused, checkAll, checkAt}
 use Rattle.definition.proofs.Accepted.{Open, record-open, accepted, accepted-left, check-lies}
 
-pub no-level : (s : List ℕ) (at : ℕ) (ps : List Part) (left : ℕ) → left ≡ 0 → refused 7 at ≡ checkAt left s at ps
+pub no-level : (s : List ℕ) (at : ℕ) (ps : List Part) (levels : ℕ) → levels ≡ 0 → refused 7 at ≡ checkAt levels s at ps
 unfolding checkAt
-no-level s at ps left e = rw e
+no-level s at ps levels e = rw e
 
 -- an accepted record is in order by itself
-pub fine-open : (left : ℕ) (s : List ℕ) (at : ℕ) (ps : List Part) (e : ℕ) → checkAt left s at ps ≡ fine e → Open s at ps
-fine-open left s at ps e f =
-    accepted (left - 1) s at ps e (sym (ap (λ (d : ℕ). checkAt d s at ps) (accepted-left left s at ps e f)) ∙ f) .itself
+pub fine-open : (levels : ℕ) (s : List ℕ) (at : ℕ) (ps : List Part) (e : ℕ) → checkAt levels s at ps ≡ fine e → Open s at ps
+fine-open levels s at ps e f =
+    accepted (levels - 1) s at ps e (sym (ap (λ (d : ℕ). checkAt d s at ps) (accepted-left levels s at ps e f)) ∙ f) .itself
 
-module _ (left : ℕ) (s : List ℕ) (at : ℕ) (ps : List Part) where
+module _ (levels : ℕ) (s : List ℕ) (at : ℕ) (ps : List Part) where
   -- i of the record's n children are accepted, and the next one begins at p, at the slots qs: the rest of the check is the check of those left
   pub record Passed (n i p : ℕ) (qs : List Part) : Type 0 where
     pub within : i ≤ n
     pub inside : p ≤ length s
-    pub same : checkAt left s at ps ≡ checkAll (checkAt (left - 1) s) s (n - i) p qs
+    pub same : checkAt levels s at ps ≡ checkAll (checkAt (levels - 1) s) s (n - i) p qs
 
-  module _ (h : left ≡ 0 → ⊥) where
-    some-left : left ≡ suc (left - 1)
+  module _ (h : levels ≡ 0 → ⊥) where
+    some-left : levels ≡ suc (levels - 1)
     some-left = omega arith
 
-    pub stopped-here : (k : ℕ) → stopped k ≡ openAt s at ps → refused k at ≡ checkAt left s at ps
+    pub stopped-here : (k : ℕ) → stopped k ≡ openAt s at ps → refused k at ≡ checkAt levels s at ps
     unfolding checkAt
     stopped-here k e = rw (some-left, ← e)
 
@@ -50,18 +50,18 @@ module _ (left : ℕ) (s : List ℕ) (at : ℕ) (ps : List Part) where
       one-more : n - i ≡ suc (n - (i + 1))
       one-more = omega arith
 
-      pub passed-turn : (e : ℕ) → checkAt (left - 1) s p qs ≡ fine e → Passed n (i + 1) e (after qs (markAt s p))
+      pub passed-turn : (e : ℕ) → checkAt (levels - 1) s p qs ≡ fine e → Passed n (i + 1) e (after qs (markAt s p))
       unfolding checkAll
       passed-turn e f = record {
         within = omega arith;
-        inside = check-lies (left - 1) s p qs e f .inside;
+        inside = check-lies (levels - 1) s p qs e f .inside;
         same = d .same ∙ rw (one-more, f);
       }
 
-      pub passed-refused : (k q : ℕ) → checkAt (left - 1) s p qs ≡ refused k q → refused k q ≡ checkAt left s at ps
+      pub passed-refused : (k q : ℕ) → checkAt (levels - 1) s p qs ≡ refused k q → refused k q ≡ checkAt levels s at ps
       unfolding checkAll
       passed-refused k q f = sym (d .same ∙ rw (one-more, f))
 
-    pub passed-all : n ≤ i → fine p ≡ checkAt left s at ps
+    pub passed-all : n ≤ i → fine p ≡ checkAt levels s at ps
     unfolding checkAll
     passed-all h = let z : n - i ≡ 0 = omega arith in sym (d .same ∙ rw z)

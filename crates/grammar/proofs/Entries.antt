@@ -1,4 +1,4 @@
--- The overload list, entry by entry. Assumes nothing.
+-- The overload list, entry by entry.
 use mathlib.Core.Path.{_≡_, sym, _∙_}
 use mathlib.Core.List.{List}
 use mathlib.Core.Bool.{true, false}

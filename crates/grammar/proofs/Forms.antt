@@ -1,4 +1,4 @@
--- The forms of a text: the digits of an integer one by one, and the number of a form. Assumes nothing.
+-- The forms of a text: the digits of an integer one by one, and the number of a form.
 use mathlib.Core.Path.{_≡_, refl, _∙_}
 use mathlib.Core.List.{List}
 use mathlib.Core.Bool.{true, false, cond}

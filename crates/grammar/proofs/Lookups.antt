@@ -1,5 +1,4 @@
 -- The look-ups in the code's tables of marks and of sets: each table agrees with the grammar, by one computation over the whole of it.
--- Assumes nothing.
 use mathlib.Core.Path.{_≡_, refl, sym, _∙_, subst}
 use mathlib.Core.List.{List, [], _∷_, map}
 use mathlib.Core.Bool.{Bool, true, false, _&&_, _||_, Bool·beq}

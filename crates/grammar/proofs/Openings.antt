@@ -1,4 +1,4 @@
--- The tests of a record by itself, a law for each answer of the code. Assumes nothing.
+-- The tests of a record by itself, a law for each answer of the code.
 use mathlib.Core.Path.{_≡_, refl, sym, ap, _∙_}
 use mathlib.Core.List.{List, [], _∷_}
 use mathlib.Core.Bool.{Bool, true, false, cond}

@@ -1,4 +1,4 @@
--- What stands at a place of the table of slots, and what the code's search through it says of the slots. Assumes nothing.
+-- What stands at a place of the table of slots, and what the code's search through it says of the slots.
 use mathlib.Core.Path.{_≡_, refl, _∙_}
 use mathlib.Core.List.{[], _∷_}
 use mathlib.Core.Bool.{true, false}

@@ -1,5 +1,4 @@
--- The code's tables by mark and by set, and its numbers. Printed by tools/grammar-tables from definition/specs/Grammar.antt. Assumes nothing:
--- these are definitions.
+-- The code's tables by mark and by set, and its numbers. Printed by tools/grammar-tables from definition/specs/Grammar.antt.
 use Prim.Native.Nat.{ℕ}
 use mathlib.Core.List.{List, [], _∷_}
 

@@ -1,4 +1,4 @@
--- A whole tree with its list, a law for each answer of the code. Assumes nothing.
+-- A whole tree with its list, a law for each answer of the code.
 use mathlib.Core.Path.{_≡_}
 use mathlib.Core.List.{List}
 use mathlib.Core.Bool.{true, false}

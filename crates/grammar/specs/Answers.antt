@@ -1,4 +1,4 @@
--- The code's answers in the terms of document 01: each refusal's number in its table. Assumes nothing: these are definitions.
+-- The code's answers in the terms of document 01: each refusal's number in its table.
 use Prim.Native.Nat.{ℕ}
 use Rattle.definition.specs.Check.{Opening.opened, Opening.stopped, Checked.fine, Checked.refused}
 use Rattle.definition.specs.Check as Check

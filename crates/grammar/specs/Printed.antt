@@ -1,5 +1,4 @@
--- The sets of marks and the slots, as the code numbers them. Printed by tools/grammar-tables from definition/specs/Grammar.antt. Assumes
--- nothing: these are definitions.
+-- The sets of marks and the slots, as the code numbers them. Printed by tools/grammar-tables from definition/specs/Grammar.antt.
 use Prim.Native.Nat.{ℕ}
 use Prim.Native.String.{String}
 use mathlib.Core.List.{List, [], _∷_}

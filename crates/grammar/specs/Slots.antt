@@ -1,4 +1,4 @@
--- How the code numbers sets of marks, slots and forms of a text: a slot is a place in `partsTable`. Assumes nothing: these are definitions.
+-- How the code numbers sets of marks, slots and forms of a text: a slot is a place in `partsTable`.
 use Prim.Native.Nat.{ℕ, _-_}
 use Prim.Native.String.{String}
 use mathlib.Core.List.{List, [], _∷_}

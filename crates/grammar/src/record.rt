@@ -77,12 +77,12 @@ fn slot_after(tree: &[u8], at: usize, k: usize) -> usize
     crate::tables::next_slot(k, records::marks::mark_number(records::mark_at(tree, at)))
 }
 
-// The record at `at`, which stands at the slot k, with what it holds; `left` is how many levels are left.
-pub fn check_record(tree: &[u8], at: usize, left: usize, k: usize) -> Checked
+// The record at `at`, which stands at the slot k, with what it holds; `levels` is how many levels are left.
+pub fn check_record(tree: &[u8], at: usize, levels: usize, k: usize) -> Checked
     requires { ⌜ at ≤ length (now tree) ⌝ }
-    ensures { λ r. ⌜ checked r ≡ checkAt left (now (tree .entry)) at (partsFrom k) ⌝ }
+    ensures { λ r. ⌜ checked r ≡ checkAt levels (now (tree .entry)) at (partsFrom k) ⌝ }
 {
-    if left == 0 {
+    if levels == 0 {
         return Checked::Refused(Refusal::TooDeep, at);
     }
     match open_record(tree, at, k) {
@@ -92,7 +92,7 @@ pub fn check_record(tree: &[u8], at: usize, left: usize, k: usize) -> Checked
             let mut p = body;
             let mut next = slot;
             while i < count {
-                let found = check_record(tree, p, left - 1, next);
+                let found = check_record(tree, p, levels - 1, next);
                 let Checked::Fine(e) = found else {
                     return found;
                 };

@@ -1,4 +1,4 @@
--- Records of which some children are written one after the other behind their front. Assumes nothing.
+-- Records of which some children are written one after the other behind their front.
 use mathlib.Core.Path.{_≡_, refl, sym, ap, _∙_}
 use mathlib.Core.List.{List, [], _++_, append-nil, append-assoc}
 use mathlib.Core.Bool.{Bool, true, _&&_}
@@ -59,70 +59,70 @@ puts-length {o} {x = x} {E = E} w = ap length (w .put .bytes) ∙ length-sets o 
 
 -- ---- the children behind the first ones, by the count that the code has read
 
-pub others-one : {left : ℕ} {s : List ℕ} {at p0 p1 : ℕ} → One left s at p0 p1 → {h : Fields} → h ≡ fieldsAt s at → AllAccepted (left - 1) s (h .count - 1) p1
+pub others-one : {levels : ℕ} {s : List ℕ} {at p0 p1 : ℕ} → One levels s at p0 p1 → {h : Fields} → h ≡ fieldsAt s at → AllAccepted (levels - 1) s (h .count - 1) p1
 others-one {s = s} {at = at} u e = others-as s at e 1 (u .others)
 
-pub others-two : {left : ℕ} {s : List ℕ} {at p0 p1 p2 : ℕ} → Two left s at p0 p1 p2 → {h : Fields} → h ≡ fieldsAt s at → AllAccepted (left - 1) s (h .count - 2) p2
+pub others-two : {levels : ℕ} {s : List ℕ} {at p0 p1 p2 : ℕ} → Two levels s at p0 p1 p2 → {h : Fields} → h ≡ fieldsAt s at → AllAccepted (levels - 1) s (h .count - 2) p2
 others-two {s = s} {at = at} u e = others-as s at e 2 (u .others)
 
-pub others-three : {left : ℕ} {s : List ℕ} {at p0 p1 p2 p3 : ℕ} → Three left s at p0 p1 p2 p3 → {h : Fields} → h ≡ fieldsAt s at → AllAccepted (left - 1) s (h .count - 3) p3
+pub others-three : {levels : ℕ} {s : List ℕ} {at p0 p1 p2 p3 : ℕ} → Three levels s at p0 p1 p2 p3 → {h : Fields} → h ≡ fieldsAt s at → AllAccepted (levels - 1) s (h .count - 3) p3
 others-three {s = s} {at = at} u e = others-as s at e 3 (u .others)
 
 -- ---- a record of the tree with another child in the place of its first, its second or its third
 
-module _ (left : ℕ) (s : List ℕ) (at : ℕ) {h : Fields} (e : h ≡ fieldsAt s at) {o o1 : List ℕ} {x x1 : State} (l : length o < 2 ^ 64) (H : Head) (v : Puts o o1 x x1 (frontBytes H (countAt s at)) true)
+module _ (levels : ℕ) (s : List ℕ) (at : ℕ) {h : Fields} (e : h ≡ fieldsAt s at) {o o1 : List ℕ} {x x1 : State} (l : length o < 2 ^ 64) (H : Head) (v : Puts o o1 x x1 (frontBytes H (countAt s at)) true)
     (short : length (H .text) < 65536) (t : Rec) where
-  pub keeps-first : {p0 p1 : ℕ} → One left s at p0 p1 → {o2 o3 : List ℕ} {x2 x3 : State} → Keeps o1 o2 x1 x2 t → KeepsAll o2 o3 x2 x3 (rest left s (h .count - 1) p1)
-      → Keeps o o3 x x3 (rec H (cons t (rest left s (countAt s at - 1) p1)))
+  pub keeps-first : {p0 p1 : ℕ} → One levels s at p0 p1 → {o2 o3 : List ℕ} {x2 x3 : State} → Keeps o1 o2 x1 x2 t → KeepsAll o2 o3 x2 x3 (rest levels s (h .count - 1) p1)
+      → Keeps o o3 x x3 (rec H (cons t (rest levels s (countAt s at - 1) p1)))
   keeps-first {p0} {p1} u a z =
-      begun-done (begun-all l (begun-one l (begun H (countAt s at) v) t a) (rest left s (countAt s at - 1) p1) (kept-as s at e (left - 1) 1 p1 z)) (u .many) short
+      begun-done (begun-all l (begun-one l (begun H (countAt s at) v) t a) (rest levels s (countAt s at - 1) p1) (kept-as s at e (levels - 1) 1 p1 z)) (u .many) short
 
-  pub keeps-second : {p0 p1 p2 : ℕ} → Two left s at p0 p1 p2 → {o2 o3 o4 : List ℕ} {x2 x3 x4 : State} → Keeps o1 o2 x1 x2 (treeAt (left - 1) s p0) → Keeps o2 o3 x2 x3 t
-      → KeepsAll o3 o4 x3 x4 (rest left s (h .count - 2) p2) → Keeps o o4 x x4 (rec H (cons (treeAt (left - 1) s p0) (cons t (rest left s (countAt s at - 2) p2))))
+  pub keeps-second : {p0 p1 p2 : ℕ} → Two levels s at p0 p1 p2 → {o2 o3 o4 : List ℕ} {x2 x3 x4 : State} → Keeps o1 o2 x1 x2 (treeAt (levels - 1) s p0) → Keeps o2 o3 x2 x3 t
+      → KeepsAll o3 o4 x3 x4 (rest levels s (h .count - 2) p2) → Keeps o o4 x x4 (rec H (cons (treeAt (levels - 1) s p0) (cons t (rest levels s (countAt s at - 2) p2))))
   keeps-second {p0} {p1} {p2} u a b z =
       begun-done
-      (begun-all l (begun-one l (begun-one l (begun H (countAt s at) v) (treeAt (left - 1) s p0) a) t b) (rest left s (countAt s at - 2) p2) (kept-as s at e (left - 1) 2 p2 z)) (u .many) short
+      (begun-all l (begun-one l (begun-one l (begun H (countAt s at) v) (treeAt (levels - 1) s p0) a) t b) (rest levels s (countAt s at - 2) p2) (kept-as s at e (levels - 1) 2 p2 z)) (u .many) short
 
-  pub keeps-third : {p0 p1 p2 p3 : ℕ} → Three left s at p0 p1 p2 p3 → {o2 o3 o4 o5 : List ℕ} {x2 x3 x4 x5 : State} → Keeps o1 o2 x1 x2 (treeAt (left - 1) s p0) → Keeps o2 o3 x2 x3 (treeAt (left - 1) s p1)
-      → Keeps o3 o4 x3 x4 t → KeepsAll o4 o5 x4 x5 (rest left s (h .count - 3) p3)
-      → Keeps o o5 x x5 (rec H (cons (treeAt (left - 1) s p0) (cons (treeAt (left - 1) s p1) (cons t (rest left s (countAt s at - 3) p3)))))
+  pub keeps-third : {p0 p1 p2 p3 : ℕ} → Three levels s at p0 p1 p2 p3 → {o2 o3 o4 o5 : List ℕ} {x2 x3 x4 x5 : State} → Keeps o1 o2 x1 x2 (treeAt (levels - 1) s p0) → Keeps o2 o3 x2 x3 (treeAt (levels - 1) s p1)
+      → Keeps o3 o4 x3 x4 t → KeepsAll o4 o5 x4 x5 (rest levels s (h .count - 3) p3)
+      → Keeps o o5 x x5 (rec H (cons (treeAt (levels - 1) s p0) (cons (treeAt (levels - 1) s p1) (cons t (rest levels s (countAt s at - 3) p3)))))
   keeps-third {p0} {p1} {p2} {p3} u a b c z =
       begun-done
-      (begun-all l (begun-one l (begun-one l (begun-one l (begun H (countAt s at) v) (treeAt (left - 1) s p0) a) (treeAt (left - 1) s p1) b) t c) (rest left s (countAt s at - 3) p3) (kept-as s at e (left - 1) 3 p3 z))
+      (begun-all l (begun-one l (begun-one l (begun-one l (begun H (countAt s at) v) (treeAt (levels - 1) s p0) a) (treeAt (levels - 1) s p1) b) t c) (rest levels s (countAt s at - 3) p3) (kept-as s at e (levels - 1) 3 p3 z))
       (u .many) short
 
 -- ---- the same by a step on that child
 
-module _ {left : ℕ} {s : List ℕ} {at : ℕ} (a : AcceptedAt left s at) (known : (i : ℕ) → mir.Val.Fits w8 (getD s i 0)) {o o1 : List ℕ} {x x1 : State} (l : length o < 2 ^ 64) {h : Fields} (e : h ≡ fieldsAt s at)
+module _ {levels : ℕ} {s : List ℕ} {at : ℕ} (a : AcceptedAt levels s at) (known : (i : ℕ) → mir.Val.Fits w8 (getD s i 0)) {o o1 : List ℕ} {x x1 : State} (l : length o < 2 ^ 64) {h : Fields} (e : h ≡ fieldsAt s at)
     (v : Puts o o1 x x1 (frontBytes (withFlags (headAt s at) (h .flags)) (h .count)) true) where
-  pub first-step : (f : Rec → ℕ → Out Rec) → {p0 p1 : ℕ} → One left s at p0 p1 → {o2 o3 : List ℕ} {x2 x3 : State} → Keeps o1 o2 x1 x2 (f (treeAt (left - 1) s p0) (x1 .n) .0)
-      → KeepsAll o2 o3 x2 x3 (rest left s (h .count - 1) p1) → Keeps o o3 x x3 (wrap (headOf (treeAt left s at)) (atKid 0 f (kidsOf (treeAt left s at)) (x .n)) .0)
+  pub first-step : (f : Rec → ℕ → Out Rec) → {p0 p1 : ℕ} → One levels s at p0 p1 → {o2 o3 : List ℕ} {x2 x3 : State} → Keeps o1 o2 x1 x2 (f (treeAt (levels - 1) s p0) (x1 .n) .0)
+      → KeepsAll o2 o3 x2 x3 (rest levels s (h .count - 1) p1) → Keeps o o3 x x3 (wrap (headOf (treeAt levels s at)) (atKid 0 f (kidsOf (treeAt levels s at)) (x .n)) .0)
   first-step f {p0} {p1} u b z =
-      puts-as (keeps-first left s at e l (headAt s at) (front-as s at e v) (head-short left s at a known) (f (treeAt (left - 1) s p0) (x1 .n) .0) u b z)
-      (ap (λ (n : ℕ). rec (headAt s at) (cons (f (treeAt (left - 1) s p0) n .0) (rest left s (countAt s at - 1) p1))) (puts-counter v)
+      puts-as (keeps-first levels s at e l (headAt s at) (front-as s at e v) (head-short levels s at a known) (f (treeAt (levels - 1) s p0) (x1 .n) .0) u b z)
+      (ap (λ (n : ℕ). rec (headAt s at) (cons (f (treeAt (levels - 1) s p0) n .0) (rest levels s (countAt s at - 1) p1))) (puts-counter v)
       ∙ ap (λ (r : Rec). wrap (headOf r) (atKid 0 f (kidsOf r) (x .n)) .0) (sym (u .is)))
 
-  pub second-step : (f : Rec → ℕ → Out Rec) → {p0 p1 p2 : ℕ} → Two left s at p0 p1 p2 → {o2 o3 o4 : List ℕ} {x2 x3 x4 : State} → Keeps o1 o2 x1 x2 (treeAt (left - 1) s p0)
-      → Keeps o2 o3 x2 x3 (f (treeAt (left - 1) s p1) (x2 .n) .0) → KeepsAll o3 o4 x3 x4 (rest left s (h .count - 2) p2) → Keeps o o4 x x4 (second f (treeAt left s at) (x .n) .0)
+  pub second-step : (f : Rec → ℕ → Out Rec) → {p0 p1 p2 : ℕ} → Two levels s at p0 p1 p2 → {o2 o3 o4 : List ℕ} {x2 x3 x4 : State} → Keeps o1 o2 x1 x2 (treeAt (levels - 1) s p0)
+      → Keeps o2 o3 x2 x3 (f (treeAt (levels - 1) s p1) (x2 .n) .0) → KeepsAll o3 o4 x3 x4 (rest levels s (h .count - 2) p2) → Keeps o o4 x x4 (second f (treeAt levels s at) (x .n) .0)
   unfolding second
   second-step f {p0} {p1} {p2} u {x2 = x2} b c z =
-      puts-as (keeps-second left s at e l (headAt s at) (front-as s at e v) (head-short left s at a known) (f (treeAt (left - 1) s p1) (x2 .n) .0) u b c z)
-      (ap (λ (n : ℕ). rec (headAt s at) (cons (treeAt (left - 1) s p0) (cons (f (treeAt (left - 1) s p1) n .0) (rest left s (countAt s at - 2) p2)))) (puts-counter b ∙ puts-counter v)
+      puts-as (keeps-second levels s at e l (headAt s at) (front-as s at e v) (head-short levels s at a known) (f (treeAt (levels - 1) s p1) (x2 .n) .0) u b c z)
+      (ap (λ (n : ℕ). rec (headAt s at) (cons (treeAt (levels - 1) s p0) (cons (f (treeAt (levels - 1) s p1) n .0) (rest levels s (countAt s at - 2) p2)))) (puts-counter b ∙ puts-counter v)
       ∙ ap (λ (r : Rec). second f r (x .n) .0) (sym (u .is)))
 
 -- ---- the same where the step may give diagnostics and raise the counter
 
-module _ (left : ℕ) (s : List ℕ) (at : ℕ) (H : Head) (short : length (H .text) < 65536) {o o1 : List ℕ} {x x1 : State} (d : x .d ≤ top) (v : Puts o o1 x x1 (frontBytes H (countAt s at)) true) {h : Fields} (e : h ≡ fieldsAt s at)
+module _ (levels : ℕ) (s : List ℕ) (at : ℕ) (H : Head) (short : length (H .text) < 65536) {o o1 : List ℕ} {x x1 : State} (d : x .d ≤ top) (v : Puts o o1 x x1 (frontBytes H (countAt s at)) true) {h : Fields} (e : h ≡ fieldsAt s at)
     (f : Rec → ℕ → Out Rec) where
-  pub makes-first : {p0 p1 : ℕ} → One left s at p0 p1 → {o2 o3 g g' : List ℕ} {x2 x3 : State} → Makes o1 o2 g g' x1 x2 (f (treeAt (left - 1) s p0) (x1 .n)) → KeepsAll o2 o3 x2 x3 (rest left s (h .count - 1) p1)
-      → Makes o o3 g g' x x3 (wrap H (atKid 0 f (kidsOf (treeAt left s at)) (x .n)))
+  pub makes-first : {p0 p1 : ℕ} → One levels s at p0 p1 → {o2 o3 g g' : List ℕ} {x2 x3 : State} → Makes o1 o2 g g' x1 x2 (f (treeAt (levels - 1) s p0) (x1 .n)) → KeepsAll o2 o3 x2 x3 (rest levels s (h .count - 1) p1)
+      → Makes o o3 g g' x x3 (wrap H (atKid 0 f (kidsOf (treeAt levels s at)) (x .n)))
   makes-first {p0} {p1} u b z =
-      makes-as (framed-first left s at H short d v u (f (treeAt (left - 1) s p0)) b (kept-as s at e (left - 1) 1 p1 z)) (ap (λ (r : Rec). wrap H (atKid 0 f (kidsOf r) (x .n))) (sym (u .is)))
+      makes-as (framed-first levels s at H short d v u (f (treeAt (levels - 1) s p0)) b (kept-as s at e (levels - 1) 1 p1 z)) (ap (λ (r : Rec). wrap H (atKid 0 f (kidsOf r) (x .n))) (sym (u .is)))
 
-  pub makes-second : {p0 p1 p2 : ℕ} → Two left s at p0 p1 p2 → {o2 o3 o4 g g' : List ℕ} {x2 x3 x4 : State} → Keeps o1 o2 x1 x2 (treeAt (left - 1) s p0)
-      → Makes o2 o3 g g' x2 x3 (f (treeAt (left - 1) s p1) (x2 .n)) → KeepsAll o3 o4 x3 x4 (rest left s (h .count - 2) p2) → Makes o o4 g g' x x4 (wrap H (atKid 1 f (kidsOf (treeAt left s at)) (x .n)))
+  pub makes-second : {p0 p1 p2 : ℕ} → Two levels s at p0 p1 p2 → {o2 o3 o4 g g' : List ℕ} {x2 x3 x4 : State} → Keeps o1 o2 x1 x2 (treeAt (levels - 1) s p0)
+      → Makes o2 o3 g g' x2 x3 (f (treeAt (levels - 1) s p1) (x2 .n)) → KeepsAll o3 o4 x3 x4 (rest levels s (h .count - 2) p2) → Makes o o4 g g' x x4 (wrap H (atKid 1 f (kidsOf (treeAt levels s at)) (x .n)))
   makes-second {p0} {p1} {p2} u b c z =
-      makes-as (framed-second left s at H short d v u (treeAt (left - 1) s p0) (f (treeAt (left - 1) s p1)) b c (kept-as s at e (left - 1) 2 p2 z))
+      makes-as (framed-second levels s at H short d v u (treeAt (levels - 1) s p0) (f (treeAt (levels - 1) s p1)) b c (kept-as s at e (levels - 1) 2 p2 z))
       (ap (λ (r : Rec). wrap H (atKid 1 f (kidsOf r) (x .n))) (sym (u .is)))
 
 -- ---- steps that leave no diagnostic, and the counter as it is

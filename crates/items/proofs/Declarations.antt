@@ -1,4 +1,4 @@
--- Declarations with other flags, and functions without their body: what is written, as the definition has it. Assumes nothing.
+-- Declarations with other flags, and functions without their body: what is written, as the definition has it.
 use mathlib.Core.Path.{_≡_, refl, sym, ap, _∙_}
 use mathlib.Core.List.{List}
 use mathlib.Core.Bool.{Bool, true, false}
@@ -44,92 +44,92 @@ declared-cleared b f e = rw e
 
 -- ---- a step on every child of a declaration
 
-module _ (left : ℕ) (s : List ℕ) (at : ℕ) (a : AcceptedAt left s at) where
+module _ (levels : ℕ) (s : List ℕ) (at : ℕ) (a : AcceptedAt levels s at) where
   abbrev childrenOf : Recs
-  childrenOf = rest left s (countAt s at) (bodyAt s at)
+  childrenOf = rest levels s (countAt s at) (bodyAt s at)
 
   each-many : (f : ℕ → Rec → ℕ → Out Rec) (n : ℕ) → countAt s at ≡ count (each f 0 childrenOf n .0)
-  each-many f n = sym (each-count f 0 childrenOf n ∙ count-readAll (treeAt (left - 1) s) (endAt (left - 1) s) (countAt s at) (bodyAt s at))
+  each-many f n = sym (each-count f 0 childrenOf n ∙ count-readAll (treeAt (levels - 1) s) (endAt (levels - 1) s) (countAt s at) (bodyAt s at))
 
-  pub all-kids : {h : Fields} {b : ℕ} → h ≡ fieldsAt s at → b ≡ bodyAt s at → AllAccepted (left - 1) s (h .count) b
-  all-kids e f = rw (e, f) (children left s at a)
+  pub all-kids : {h : Fields} {b : ℕ} → h ≡ fieldsAt s at → b ≡ bodyAt s at → AllAccepted (levels - 1) s (h .count) b
+  all-kids e f = rw (e, f) (children levels s at a)
 
-  each-is : (f : ℕ → Rec → ℕ → Out Rec) (flags n : ℕ) → wrap (withFlags (headAt s at) flags) (each f 0 childrenOf n) ≡ wrap (withFlags (headOf (treeAt left s at)) flags) (each f 0 (kidsOf (treeAt left s at)) n)
-  each-is f flags n = ap (λ (r : Rec). wrap (withFlags (headOf r) flags) (each f 0 (kidsOf r) n)) (sym (tree-is left s at a))
+  each-is : (f : ℕ → Rec → ℕ → Out Rec) (flags n : ℕ) → wrap (withFlags (headAt s at) flags) (each f 0 childrenOf n) ≡ wrap (withFlags (headOf (treeAt levels s at)) flags) (each f 0 (kidsOf (treeAt levels s at)) n)
+  each-is f flags n = ap (λ (r : Rec). wrap (withFlags (headOf r) flags) (each f 0 (kidsOf r) n)) (sym (tree-is levels s at a))
 
   pub members-written : ((i : ℕ) → mir.Val.Fits w8 (getD s i 0)) → (flags : ℕ) {o o1 o2 : List ℕ} {x x1 x2 : State} {h : Fields} {b : ℕ} → length o < 2 ^ 64 → h ≡ fieldsAt s at → b ≡ bodyAt s at
-      → Puts o o1 x x1 (frontBytes (withFlags (headAt s at) flags) (h .count)) true → KeepsAll o1 o2 x1 x2 (each (λ i. enumMember) 0 (recordsAt (left - 1) s (h .count) b) (x1 .n) .0)
-      → Keeps o o2 x x2 (withMembers flags (treeAt left s at) (x .n) .0)
+      → Puts o o1 x x1 (frontBytes (withFlags (headAt s at) flags) (h .count)) true → KeepsAll o1 o2 x1 x2 (each (λ i. enumMember) 0 (recordsAt (levels - 1) s (h .count) b) (x1 .n) .0)
+      → Keeps o o2 x x2 (withMembers flags (treeAt levels s at) (x .n) .0)
   members-written known flags {x = x} {x1 = x1} l e f v w =
       let H : Head = withFlags (headAt s at) flags in
       puts-as
-      (begun-done (begun-all l (begun H (countAt s at) (front-flags s at e (λ _. flags) v)) (each (λ i. enumMember) 0 childrenOf (x1 .n) .0) (rw (e, f) at w)) (each-many (λ i. enumMember) (x1 .n)) (head-short left s at a known))
+      (begun-done (begun-all l (begun H (countAt s at) (front-flags s at e (λ _. flags) v)) (each (λ i. enumMember) 0 childrenOf (x1 .n) .0) (rw (e, f) at w)) (each-many (λ i. enumMember) (x1 .n)) (head-short levels s at a known))
       (ap (λ (n : ℕ). rec H (each (λ i. enumMember) 0 childrenOf n .0)) (puts-counter v) ∙ ap (λ (o : Out Rec). o .0) (each-is (λ i. enumMember) flags (x .n)))
 
   pub declarators-made : ((i : ℕ) → mir.Val.Fits w8 (getD s i 0)) → (scope : Scope) (flags : ℕ) {o o1 o2 g g' : List ℕ} {x x1 x2 : State} {h : Fields} {b : ℕ} → x .d ≤ top → h ≡ fieldsAt s at → b ≡ bodyAt s at
       → Puts o o1 x x1 (frontBytes (withFlags (headAt s at) flags) (h .count)) true
-      → MakesAll o1 o2 g g' x1 x2 (each (λ i. declarator (typingOf s scope)) 0 (recordsAt (left - 1) s (h .count) b) (x1 .n))
-      → Makes o o2 g g' x x2 (withDeclarators s scope flags (treeAt left s at) (x .n))
+      → MakesAll o1 o2 g g' x1 x2 (each (λ i. declarator (typingOf s scope)) 0 (recordsAt (levels - 1) s (h .count) b) (x1 .n))
+      → Makes o o2 g g' x x2 (withDeclarators s scope flags (treeAt levels s at) (x .n))
   declarators-made known scope flags {o} {o1} {o2} {g} {g'} {x} {x1} {x2} d e f v w =
       let H : Head = withFlags (headAt s at) flags in
       let y : Out Recs = each (λ i. declarator (typingOf s scope)) 0 childrenOf (x1 .n) in
       let w' : MakesAll o1 o2 g g' x1 x2 y = rw (e, f) at w in
-      makes-as (makes-front H {y = y} (front-flags s at e (λ _. flags) v) (each-many (λ i. declarator (typingOf s scope)) (x1 .n)) w' (head-short left s at a known) d)
+      makes-as (makes-front H {y = y} (front-flags s at e (λ _. flags) v) (each-many (λ i. declarator (typingOf s scope)) (x1 .n)) w' (head-short levels s at a known) d)
       (ap (λ (n : ℕ). wrap H (each (λ i. declarator (typingOf s scope)) 0 childrenOf n)) (puts-counter v) ∙ each-is (λ i. declarator (typingOf s scope)) flags (x .n))
 
   -- ---- a function without its body
 
-  pub fu-kids : markAt s at ≡ mark "Fu" → {p0 p1 p2 p3 : ℕ} → p0 ≡ bodyAt s at → p1 ≡ endAt (left - 1) s p0 → p2 ≡ endAt (left - 1) s p1 → p3 ≡ endAt (left - 1) s p2 → Three left s at p0 p1 p2 p3
-  fu-kids m e f g h = kids-three left s at a (has (mark "Fu") left s at a m) e f g h
+  pub fu-kids : markAt s at ≡ mark "Fu" → {p0 p1 p2 p3 : ℕ} → p0 ≡ bodyAt s at → p1 ≡ endAt (levels - 1) s p0 → p2 ≡ endAt (levels - 1) s p1 → p3 ≡ endAt (levels - 1) s p2 → Three levels s at p0 p1 p2 p3
+  fu-kids m e f g h = kids-three levels s at a (has (mark "Fu") levels s at a m) e f g h
 
-  pub fx-kids : markAt s at ≡ mark "Fx" → {p0 p1 p2 : ℕ} → p0 ≡ bodyAt s at → p1 ≡ endAt (left - 1) s p0 → p2 ≡ endAt (left - 1) s p1 → Two left s at p0 p1 p2
-  fx-kids m e f g = kids-two left s at a (has (mark "Fx") left s at a m) e f g
+  pub fx-kids : markAt s at ≡ mark "Fx" → {p0 p1 p2 : ℕ} → p0 ≡ bodyAt s at → p1 ≡ endAt (levels - 1) s p0 → p2 ≡ endAt (levels - 1) s p1 → Two levels s at p0 p1 p2
+  fx-kids m e f g = kids-two levels s at a (has (mark "Fx") levels s at a m) e f g
 
-  pub fx-fu : markAt s at ≡ mark "Fx" → {p0 p1 : ℕ} → p0 ≡ bodyAt s at → p1 ≡ endAt (left - 1) s p0 → markAt s p1 ≡ mark "Fu"
+  pub fx-fu : markAt s at ≡ mark "Fx" → {p0 p1 : ℕ} → p0 ≡ bodyAt s at → p1 ≡ endAt (levels - 1) s p0 → markAt s p1 ≡ mark "Fu"
   unfolding marks
-  fx-fu m e f = member-one _ _ (placed (fx-function left s at a m) (f ∙ ap (endAt (left - 1) s) e) .marks)
+  fx-fu m e f = member-one _ _ (placed (fx-function levels s at a m) (f ∙ ap (endAt (levels - 1) s) e) .marks)
 
-  body-gone : {p0 p1 p2 p3 : ℕ} → Three left s at p0 p1 p2 p3 → (n : ℕ)
-      → rec (headAt s at) (cons (treeAt (left - 1) s p0) (cons (treeAt (left - 1) s p1) (cons (gone (treeAt (left - 1) s p2)) (rest left s (countAt s at - 3) p3)))) ≡ withoutBody (treeAt left s at) n .0
+  body-gone : {p0 p1 p2 p3 : ℕ} → Three levels s at p0 p1 p2 p3 → (n : ℕ)
+      → rec (headAt s at) (cons (treeAt (levels - 1) s p0) (cons (treeAt (levels - 1) s p1) (cons (gone (treeAt (levels - 1) s p2)) (rest levels s (countAt s at - 3) p3)))) ≡ withoutBody (treeAt levels s at) n .0
   unfolding withoutBody each
   body-gone {p0} {p1} {p2} {p3} u n =
-      ap (λ (o : Out Recs). rec (headAt s at) (cons (treeAt (left - 1) s p0) (cons (treeAt (left - 1) s p1) (cons (gone (treeAt (left - 1) s p2)) (o .0)))))
-      (sym (each-behind pure bodyPart (λ i. suc (suc (suc i))) (λ i. refl) (λ i r n. refl) 0 0 (rest left s (countAt s at - 3) p3) n ∙ each-pure 0 (rest left s (countAt s at - 3) p3) n))
+      ap (λ (o : Out Recs). rec (headAt s at) (cons (treeAt (levels - 1) s p0) (cons (treeAt (levels - 1) s p1) (cons (gone (treeAt (levels - 1) s p2)) (o .0)))))
+      (sym (each-behind pure bodyPart (λ i. suc (suc (suc i))) (λ i. refl) (λ i r n. refl) 0 0 (rest levels s (countAt s at - 3) p3) n ∙ each-pure 0 (rest levels s (countAt s at - 3) p3) n))
       ∙ ap (λ (r : Rec). withoutBody r n .0) (sym (u .is))
 
-  pub body-written : ((i : ℕ) → mir.Val.Fits w8 (getD s i 0)) → {o o1 o2 o3 o4 o5 : List ℕ} {x x1 x2 x3 x4 x5 : State} {h : Fields} {p0 p1 p2 p3 : ℕ} → Three left s at p0 p1 p2 p3 → length o < 2 ^ 64 → h ≡ fieldsAt s at
-      → Puts o o1 x x1 (frontBytes (withFlags (headAt s at) (h .flags)) (h .count)) true → Keeps o1 o2 x1 x2 (treeAt (left - 1) s p0) → Keeps o2 o3 x2 x3 (treeAt (left - 1) s p1)
-      → Keeps o3 o4 x3 x4 (gone (treeAt (left - 1) s p2)) → KeepsAll o4 o5 x4 x5 (rest left s (h .count - 3) p3) → Keeps o o5 x x5 (withoutBody (treeAt left s at) (x .n) .0)
+  pub body-written : ((i : ℕ) → mir.Val.Fits w8 (getD s i 0)) → {o o1 o2 o3 o4 o5 : List ℕ} {x x1 x2 x3 x4 x5 : State} {h : Fields} {p0 p1 p2 p3 : ℕ} → Three levels s at p0 p1 p2 p3 → length o < 2 ^ 64 → h ≡ fieldsAt s at
+      → Puts o o1 x x1 (frontBytes (withFlags (headAt s at) (h .flags)) (h .count)) true → Keeps o1 o2 x1 x2 (treeAt (levels - 1) s p0) → Keeps o2 o3 x2 x3 (treeAt (levels - 1) s p1)
+      → Keeps o3 o4 x3 x4 (gone (treeAt (levels - 1) s p2)) → KeepsAll o4 o5 x4 x5 (rest levels s (h .count - 3) p3) → Keeps o o5 x x5 (withoutBody (treeAt levels s at) (x .n) .0)
   body-written known {x = x} {p2 = p2} u l e v b c d z =
-      puts-as (keeps-third left s at e l (headAt s at) (front-as s at e v) (head-short left s at a known) (gone (treeAt (left - 1) s p2)) u b c d z) (body-gone u (x .n))
+      puts-as (keeps-third levels s at e l (headAt s at) (front-as s at e v) (head-short levels s at a known) (gone (treeAt (levels - 1) s p2)) u b c d z) (body-gone u (x .n))
 
   -- ---- a class, and a function
 
   pub class-two : (markAt s at ≡ mark "Cd") ⊎ (markAt s at ≡ mark "Cx") → 2 ≤ countAt s at
   unfolding grammar known slots place least
-  class-two = ⊎-elim (λ e. has (mark "Cd") left s at a e) (λ e. has (mark "Cx") left s at a e)
+  class-two = ⊎-elim (λ e. has (mark "Cd") levels s at a e) (λ e. has (mark "Cx") levels s at a e)
 
-  pub class-kids : (markAt s at ≡ mark "Cd") ⊎ (markAt s at ≡ mark "Cx") → {p0 p1 p2 : ℕ} → p0 ≡ bodyAt s at → p1 ≡ endAt (left - 1) s p0 → p2 ≡ endAt (left - 1) s p1 → Two left s at p0 p1 p2
-  class-kids m e f g = kids-two left s at a (class-two m) e f g
+  pub class-kids : (markAt s at ≡ mark "Cd") ⊎ (markAt s at ≡ mark "Cx") → {p0 p1 p2 : ℕ} → p0 ≡ bodyAt s at → p1 ≡ endAt (levels - 1) s p0 → p2 ≡ endAt (levels - 1) s p1 → Two levels s at p0 p1 p2
+  class-kids m e f g = kids-two levels s at a (class-two m) e f g
 
-  pub class-cl : (markAt s at ≡ mark "Cd") ⊎ (markAt s at ≡ mark "Cx") → {p0 p1 : ℕ} → p0 ≡ bodyAt s at → p1 ≡ endAt (left - 1) s p0 → markAt s p1 ≡ mark "Cl"
+  pub class-cl : (markAt s at ≡ mark "Cd") ⊎ (markAt s at ≡ mark "Cx") → {p0 p1 : ℕ} → p0 ≡ bodyAt s at → p1 ≡ endAt (levels - 1) s p0 → markAt s p1 ≡ mark "Cl"
   unfolding grammar known slots place fixed marks
   class-cl m {p0} {p1} e f =
-      ⊎-elim (λ q. member-one (markAt s p1) (mark "Cl") (placed (second-in left s at a (mark "Cd") q refl "Cl" refl) (f ∙ ap (endAt (left - 1) s) e) .marks))
-      (λ q. member-one (markAt s p1) (mark "Cl") (placed (second-in left s at a (mark "Cx") q refl "Cl" refl) (f ∙ ap (endAt (left - 1) s) e) .marks)) m
+      ⊎-elim (λ q. member-one (markAt s p1) (mark "Cl") (placed (second-in levels s at a (mark "Cd") q refl "Cl" refl) (f ∙ ap (endAt (levels - 1) s) e) .marks))
+      (λ q. member-one (markAt s p1) (mark "Cl") (placed (second-in levels s at a (mark "Cx") q refl "Cl" refl) (f ∙ ap (endAt (levels - 1) s) e) .marks)) m
 
-  pub fd-kids : markAt s at ≡ mark "Fd" → {p0 p1 p2 : ℕ} → p0 ≡ bodyAt s at → p1 ≡ endAt (left - 1) s p0 → p2 ≡ endAt (left - 1) s p1 → Two left s at p0 p1 p2
-  fd-kids m e f g = kids-two left s at a (has (mark "Fd") left s at a m) e f g
+  pub fd-kids : markAt s at ≡ mark "Fd" → {p0 p1 p2 : ℕ} → p0 ≡ bodyAt s at → p1 ≡ endAt (levels - 1) s p0 → p2 ≡ endAt (levels - 1) s p1 → Two levels s at p0 p1 p2
+  fd-kids m e f g = kids-two levels s at a (has (mark "Fd") levels s at a m) e f g
 
-  pub fd-fu : markAt s at ≡ mark "Fd" → {p0 p1 : ℕ} → p0 ≡ bodyAt s at → p1 ≡ endAt (left - 1) s p0 → markAt s p1 ≡ mark "Fu"
+  pub fd-fu : markAt s at ≡ mark "Fd" → {p0 p1 : ℕ} → p0 ≡ bodyAt s at → p1 ≡ endAt (levels - 1) s p0 → markAt s p1 ≡ mark "Fu"
   unfolding grammar known slots place fixed marks
-  fd-fu m {p0} {p1} e f = member-one (markAt s p1) (mark "Fu") (placed (second-in left s at a (mark "Fd") m refl "Fu" refl) (f ∙ ap (endAt (left - 1) s) e) .marks)
+  fd-fu m {p0} {p1} e f = member-one (markAt s p1) (mark "Fu") (placed (second-in levels s at a (mark "Fd") m refl "Fu" refl) (f ∙ ap (endAt (levels - 1) s) e) .marks)
 
   -- a step on the second child, with other flags
-  pub flagged-second : ((i : ℕ) → mir.Val.Fits w8 (getD s i 0)) → (f : Rec → ℕ → Out Rec) (flags : ℕ) {p0 p1 p2 : ℕ} → Two left s at p0 p1 p2
+  pub flagged-second : ((i : ℕ) → mir.Val.Fits w8 (getD s i 0)) → (f : Rec → ℕ → Out Rec) (flags : ℕ) {p0 p1 p2 : ℕ} → Two levels s at p0 p1 p2
       → {o o1 o2 o3 o4 g g' : List ℕ} {x x1 x2 x3 x4 : State} {h : Fields} → x .d ≤ top → h ≡ fieldsAt s at
-      → Puts o o1 x x1 (frontBytes (withFlags (headAt s at) flags) (h .count)) true → Keeps o1 o2 x1 x2 (treeAt (left - 1) s p0) → Makes o2 o3 g g' x2 x3 (f (treeAt (left - 1) s p1) (x2 .n))
-      → KeepsAll o3 o4 x3 x4 (rest left s (h .count - 2) p2) → Makes o o4 g g' x x4 (wrap (withFlags (headOf (treeAt left s at)) flags) (atKid 1 f (kidsOf (treeAt left s at)) (x .n)))
+      → Puts o o1 x x1 (frontBytes (withFlags (headAt s at) flags) (h .count)) true → Keeps o1 o2 x1 x2 (treeAt (levels - 1) s p0) → Makes o2 o3 g g' x2 x3 (f (treeAt (levels - 1) s p1) (x2 .n))
+      → KeepsAll o3 o4 x3 x4 (rest levels s (h .count - 2) p2) → Makes o o4 g g' x x4 (wrap (withFlags (headOf (treeAt levels s at)) flags) (atKid 1 f (kidsOf (treeAt levels s at)) (x .n)))
   flagged-second known f flags u {x = x} d e v b c z =
-      makes-as (makes-second left s at (withFlags (headAt s at) flags) (head-short left s at a known) d (front-flags s at e (λ _. flags) v) e f u b c z)
-      (ap (λ (h : Head). wrap (withFlags h flags) (atKid 1 f (kidsOf (treeAt left s at)) (x .n))) (sym (head-is left s at)))
+      makes-as (makes-second levels s at (withFlags (headAt s at) flags) (head-short levels s at a known) d (front-flags s at e (λ _. flags) v) e f u b c z)
+      (ap (λ (h : Head). wrap (withFlags h flags) (atKid 1 f (kidsOf (treeAt levels s at)) (x .n))) (sym (head-is levels s at)))

@@ -1,4 +1,4 @@
--- Declarators and their types: the arms of `declarator` from the marks at offsets, and the loop over a Vd. Assumes nothing.
+-- Declarators and their types: the arms of `declarator` from the marks at offsets, and the loop over a Vd.
 use mathlib.Core.Path.{_≡_, refl, sym, ap, _∙_}
 use mathlib.Core.List.{List, [], _∷_}
 use mathlib.Core.Bool.{true}
@@ -41,111 +41,111 @@ use Rattle.items.proofs.Begun.{makes-second}
 
 -- ---- the modes and the children
 
-pub ready-mode : {left : ℕ} {tree : List ℕ} {at n : ℕ} {scope : Scope} {m : Mode} → m ≡ readonlyMode scope → Ready left tree at n scope → Ready left tree at n (m .scope)
+pub ready-mode : {levels : ℕ} {tree : List ℕ} {at n : ℕ} {scope : Scope} {m : Mode} → m ≡ readonlyMode scope → Ready levels tree at n scope → Ready levels tree at n (m .scope)
 ready-mode e r = rw e r
 
-module _ (left : ℕ) (s : List ℕ) (at : ℕ) (a : AcceptedAt left s at) where
-  pub vr-kids : markAt s at ≡ mark "Vr" → {p0 p1 p2 : ℕ} → p0 ≡ bodyAt s at → p1 ≡ endAt (left - 1) s p0 → p2 ≡ endAt (left - 1) s p1 → Two left s at p0 p1 p2
-  vr-kids m e f g = kids-two left s at a (has (mark "Vr") left s at a m) e f g
+module _ (levels : ℕ) (s : List ℕ) (at : ℕ) (a : AcceptedAt levels s at) where
+  pub vr-kids : markAt s at ≡ mark "Vr" → {p0 p1 p2 : ℕ} → p0 ≡ bodyAt s at → p1 ≡ endAt (levels - 1) s p0 → p2 ≡ endAt (levels - 1) s p1 → Two levels s at p0 p1 p2
+  vr-kids m e f g = kids-two levels s at a (has (mark "Vr") levels s at a m) e f g
 
-  pub bd-kids : markAt s at ≡ mark "Bd" → {p0 p1 p2 : ℕ} → p0 ≡ bodyAt s at → p1 ≡ endAt (left - 1) s p0 → p2 ≡ endAt (left - 1) s p1 → Two left s at p0 p1 p2
-  bd-kids m e f g = kids-two left s at a (has (mark "Bd") left s at a m) e f g
+  pub bd-kids : markAt s at ≡ mark "Bd" → {p0 p1 p2 : ℕ} → p0 ≡ bodyAt s at → p1 ≡ endAt (levels - 1) s p0 → p2 ≡ endAt (levels - 1) s p1 → Two levels s at p0 p1 p2
+  bd-kids m e f g = kids-two levels s at a (has (mark "Bd") levels s at a m) e f g
 
 -- ---- the type of a Bd that has none
 
-module _ (tree : List ℕ) (scope : Scope) (left at init n : ℕ) where
-  any-type : markAt tree init ≡ mark "No" → (anyTypeAnn dummySp, diagAt tree at (mark "d2") ∷ [], n) ≡ declaratorType (typingOf tree scope) (headAt tree at) (treeAt left tree init) n
+module _ (tree : List ℕ) (scope : Scope) (levels at init n : ℕ) where
+  any-type : markAt tree init ≡ mark "No" → (anyTypeAnn dummySp, diagAt tree at (mark "d2") ∷ [], n) ≡ declaratorType (typingOf tree scope) (headAt tree at) (treeAt levels tree init) n
   unfolding headAt
-  any-type e = rw (is-mark left tree init (mark "No") e)
+  any-type e = rw (is-mark levels tree init (mark "No") e)
 
-  init-type : (markAt tree init ≡ mark "No" → ⊥) → orAny (typeOf tree (readonlyMode scope) left init n) (diagAt tree at (mark "d2") ∷ []) ≡ declaratorType (typingOf tree scope) (headAt tree at) (treeAt left tree init) n
+  init-type : (markAt tree init ≡ mark "No" → ⊥) → orAny (typeOf tree (readonlyMode scope) levels init n) (diagAt tree at (mark "d2") ∷ []) ≡ declaratorType (typingOf tree scope) (headAt tree at) (treeAt levels tree init) n
   unfolding headAt typeOf
-  init-type e = rw (not-mark left tree init (mark "No") e)
+  init-type e = rw (not-mark levels tree init (mark "No") e)
 
-pub type-any : (tree : List ℕ) (scope : Scope) (left at init : ℕ) {o o' g g' : List ℕ} {s s1 s2 : State} → markAt tree init ≡ mark "No" → s .d ≤ top → Keeps o o' s s1 (anyTypeAnn dummySp)
-    → Marks g g' s1 s2 (diagAt tree at (mark "d2")) → Makes o o' g g' s s2 (declaratorType (typingOf tree scope) (headAt tree at) (treeAt left tree init) (s .n))
-type-any tree scope left at init {g = g} {s = s} m d v w = makes-as (makes-mark (makes-keeps g v d) w) (any-type tree scope left at init (s .n) m)
+pub type-any : (tree : List ℕ) (scope : Scope) (levels at init : ℕ) {o o' g g' : List ℕ} {s s1 s2 : State} → markAt tree init ≡ mark "No" → s .d ≤ top → Keeps o o' s s1 (anyTypeAnn dummySp)
+    → Marks g g' s1 s2 (diagAt tree at (mark "d2")) → Makes o o' g g' s s2 (declaratorType (typingOf tree scope) (headAt tree at) (treeAt levels tree init) (s .n))
+type-any tree scope levels at init {g = g} {s = s} m d v w = makes-as (makes-mark (makes-keeps g v d) w) (any-type tree scope levels at init (s .n) m)
 
-pub type-init : (tree : List ℕ) (scope : Scope) (left at init : ℕ) {o o1 o2 g g1 g2 : List ℕ} {s r : State} {t : Typed} {m : Mode} → (markAt tree init ≡ mark "No" → ⊥) → m ≡ readonlyMode scope
-    → Did o o1 g g1 s t (typeOf tree m left init (s .n)) → Filled o1 o2 g1 g2 t r (diagAt tree at (mark "d2")) → Makes o o2 g g2 s r (declaratorType (typingOf tree scope) (headAt tree at) (treeAt left tree init) (s .n))
-type-init tree scope left at init {s = s} n e v w = makes-as (record { step = filled (rw e at v) w }) (init-type tree scope left at init (s .n) n)
+pub type-init : (tree : List ℕ) (scope : Scope) (levels at init : ℕ) {o o1 o2 g g1 g2 : List ℕ} {s r : State} {t : Typed} {m : Mode} → (markAt tree init ≡ mark "No" → ⊥) → m ≡ readonlyMode scope
+    → Did o o1 g g1 s t (typeOf tree m levels init (s .n)) → Filled o1 o2 g1 g2 t r (diagAt tree at (mark "d2")) → Makes o o2 g g2 s r (declaratorType (typingOf tree scope) (headAt tree at) (treeAt levels tree init) (s .n))
+type-init tree scope levels at init {s = s} n e v w = makes-as (record { step = filled (rw e at v) w }) (init-type tree scope levels at init (s .n) n)
 
 -- ---- a Bd as the pattern
 
-type-kept : (f : ℕ → Out Rec) (left : ℕ) (tree : List ℕ) (at n : ℕ) → (markAt tree at ≡ mark "No" → ⊥) → pure (treeAt left tree at) n ≡ typeOr f (treeAt left tree at) n
-type-kept f left tree at n e = rw (not-mark left tree at (mark "No") e)
+type-kept : (f : ℕ → Out Rec) (levels : ℕ) (tree : List ℕ) (at n : ℕ) → (markAt tree at ≡ mark "No" → ⊥) → pure (treeAt levels tree at) n ≡ typeOr f (treeAt levels tree at) n
+type-kept f levels tree at n e = rw (not-mark levels tree at (mark "No") e)
 
-type-new : (f : ℕ → Out Rec) (left : ℕ) (tree : List ℕ) (at n : ℕ) → markAt tree at ≡ mark "No" → f n ≡ typeOr f (treeAt left tree at) n
-type-new f left tree at n e = rw (is-mark left tree at (mark "No") e)
+type-new : (f : ℕ → Out Rec) (levels : ℕ) (tree : List ℕ) (at n : ℕ) → markAt tree at ≡ mark "No" → f n ≡ typeOr f (treeAt levels tree at) n
+type-new f levels tree at n e = rw (is-mark levels tree at (mark "No") e)
 
 abbrev bindingOf : List ℕ → Scope → ℕ → ℕ → ℕ → ℕ → Out Rec
-bindingOf tree scope left at init n =
-    wrap (headOf (treeAt left tree at)) (atKid 1 (typeOr (declaratorType (typingOf tree scope) (headOf (treeAt left tree at)) (treeAt left tree init))) (kidsOf (treeAt left tree at)) n)
+bindingOf tree scope levels at init n =
+    wrap (headOf (treeAt levels tree at)) (atKid 1 (typeOr (declaratorType (typingOf tree scope) (headOf (treeAt levels tree at)) (treeAt levels tree init))) (kidsOf (treeAt levels tree at)) n)
 
-module _ (tree : List ℕ) (scope : Scope) (left at init : ℕ) {p0 p1 p2 : ℕ} (u : Two left tree at p0 p1 p2) where
+module _ (tree : List ℕ) (scope : Scope) (levels at init : ℕ) {p0 p1 p2 : ℕ} (u : Two levels tree at p0 p1 p2) where
   -- it has a type
-  pub binding-kept : {o o' : List ℕ} (g : List ℕ) {s s' : State} → (markAt tree p1 ≡ mark "No" → ⊥) → Keeps o o' s s' (treeAt left tree at) → s .d ≤ top → Makes o o' g g s s' (bindingOf tree scope left at init (s .n))
+  pub binding-kept : {o o' : List ℕ} (g : List ℕ) {s s' : State} → (markAt tree p1 ≡ mark "No" → ⊥) → Keeps o o' s s' (treeAt levels tree at) → s .d ≤ top → Makes o o' g g s s' (bindingOf tree scope levels at init (s .n))
   binding-kept g {s} m w d =
-      let f : ℕ → Out Rec = declaratorType (typingOf tree scope) (headOf (treeAt left tree at)) (treeAt left tree init) in
+      let f : ℕ → Out Rec = declaratorType (typingOf tree scope) (headOf (treeAt levels tree at)) (treeAt levels tree init) in
       makes-as (makes-keeps g w d)
       (ap (λ (r : Rec). pure r (s .n)) (u .is)
-      ∙ (ap (λ (o : Out Rec). onValue (λ (v : Rec). rec (headAt tree at) (cons (treeAt (left - 1) tree p0) (cons v (rest left tree (countAt tree at - 2) p2)))) o) (type-kept f (left - 1) tree p1 (s .n) m)
+      ∙ (ap (λ (o : Out Rec). onValue (λ (v : Rec). rec (headAt tree at) (cons (treeAt (levels - 1) tree p0) (cons v (rest levels tree (countAt tree at - 2) p2)))) o) (type-kept f (levels - 1) tree p1 (s .n) m)
       ∙ ap (λ (r : Rec). wrap (headOf r) (atKid 1 (typeOr f) (kidsOf r) (s .n))) (sym (u .is))))
 
   -- it has none
-  pub binding-typed : AcceptedAt left tree at → ((i : ℕ) → mir.Val.Fits w8 (getD tree i 0)) → {o o1 o2 o3 o4 g g' : List ℕ} {s s1 s2 s3 s4 : State} {h : Fields} → h ≡ fieldsAt tree at → markAt tree p1 ≡ mark "No" → s .d ≤ top
-      → Puts o o1 s s1 (frontBytes (withFlags (headAt tree at) (h .flags)) (h .count)) true → Keeps o1 o2 s1 s2 (treeAt (left - 1) tree p0)
-      → Makes o2 o3 g g' s2 s3 (declaratorType (typingOf tree scope) (headAt tree at) (treeAt left tree init) (s2 .n)) → KeepsAll o3 o4 s3 s4 (rest left tree (h .count - 2) p2)
-      → Makes o o4 g g' s s4 (bindingOf tree scope left at init (s .n))
+  pub binding-typed : AcceptedAt levels tree at → ((i : ℕ) → mir.Val.Fits w8 (getD tree i 0)) → {o o1 o2 o3 o4 g g' : List ℕ} {s s1 s2 s3 s4 : State} {h : Fields} → h ≡ fieldsAt tree at → markAt tree p1 ≡ mark "No" → s .d ≤ top
+      → Puts o o1 s s1 (frontBytes (withFlags (headAt tree at) (h .flags)) (h .count)) true → Keeps o1 o2 s1 s2 (treeAt (levels - 1) tree p0)
+      → Makes o2 o3 g g' s2 s3 (declaratorType (typingOf tree scope) (headAt tree at) (treeAt levels tree init) (s2 .n)) → KeepsAll o3 o4 s3 s4 (rest levels tree (h .count - 2) p2)
+      → Makes o o4 g g' s s4 (bindingOf tree scope levels at init (s .n))
   binding-typed a known {s2 = s2} e m d v b c z =
-      rw (head-is left tree at)
-      (makes-second left tree at (headAt tree at) (head-short left tree at a known) d (front-as tree at e v) e
-      (typeOr (declaratorType (typingOf tree scope) (headAt tree at) (treeAt left tree init))) u b
-      (makes-as c (type-new (declaratorType (typingOf tree scope) (headAt tree at) (treeAt left tree init)) (left - 1) tree p1 (s2 .n) m)) z)
+      rw (head-is levels tree at)
+      (makes-second levels tree at (headAt tree at) (head-short levels tree at a known) d (front-as tree at e v) e
+      (typeOr (declaratorType (typingOf tree scope) (headAt tree at) (treeAt levels tree init))) u b
+      (makes-as c (type-new (declaratorType (typingOf tree scope) (headAt tree at) (treeAt levels tree init)) (levels - 1) tree p1 (s2 .n) m)) z)
 
 -- ---- the pattern of a Vr
 
-module _ (tree : List ℕ) (scope : Scope) (left at : ℕ) {p0 p1 p2 : ℕ} (u : Two left tree at p0 p1 p2) where
-  pattern-is : (n : ℕ) → declaratorPattern (typingOf tree scope) (headAt tree at) (treeAt (left - 1) tree p1) (treeAt (left - 1) tree p0) n ≡ patternOf tree scope (treeAt left tree at) n
+module _ (tree : List ℕ) (scope : Scope) (levels at : ℕ) {p0 p1 p2 : ℕ} (u : Two levels tree at p0 p1 p2) where
+  pattern-is : (n : ℕ) → declaratorPattern (typingOf tree scope) (headAt tree at) (treeAt (levels - 1) tree p1) (treeAt (levels - 1) tree p0) n ≡ patternOf tree scope (treeAt levels tree at) n
   pattern-is n = ap (λ (r : Rec). patternOf tree scope r n) (sym (u .is))
 
-  pub pattern-other : {o o' g g' : List ℕ} {s s1 s2 : State} → (markAt tree p0 ≡ mark "Bd" → ⊥) → s .d ≤ top → Keeps o o' s s1 (treeAt (left - 1) tree p0) → Marks g g' s1 s2 (diagAt tree at (mark "d1"))
-      → Makes o o' g g' s s2 (patternOf tree scope (treeAt left tree at) (s .n))
+  pub pattern-other : {o o' g g' : List ℕ} {s s1 s2 : State} → (markAt tree p0 ≡ mark "Bd" → ⊥) → s .d ≤ top → Keeps o o' s s1 (treeAt (levels - 1) tree p0) → Marks g g' s1 s2 (diagAt tree at (mark "d1"))
+      → Makes o o' g g' s s2 (patternOf tree scope (treeAt levels tree at) (s .n))
   unfolding headAt declaratorPattern
   pattern-other {g = g} {s = s} m d v w =
-      let z : (treeAt (left - 1) tree p0, diagAt tree at (mark "d1") ∷ [], s .n) ≡ declaratorPattern (typingOf tree scope) (headAt tree at) (treeAt (left - 1) tree p1) (treeAt (left - 1) tree p0) (s .n) =
-      rw (not-mark (left - 1) tree p0 (mark "Bd") m) in
+      let z : (treeAt (levels - 1) tree p0, diagAt tree at (mark "d1") ∷ [], s .n) ≡ declaratorPattern (typingOf tree scope) (headAt tree at) (treeAt (levels - 1) tree p1) (treeAt (levels - 1) tree p0) (s .n) =
+      rw (not-mark (levels - 1) tree p0 (mark "Bd") m) in
       makes-as (makes-mark (makes-keeps g v d) w) (z ∙ pattern-is (s .n))
 
-  pub pattern-ident : {o o' g g' : List ℕ} {s s' : State} → markAt tree p0 ≡ mark "Bd" → Makes o o' g g' s s' (bindingOf tree scope (left - 1) p0 p1 (s .n)) → Makes o o' g g' s s' (patternOf tree scope (treeAt left tree at) (s .n))
+  pub pattern-ident : {o o' g g' : List ℕ} {s s' : State} → markAt tree p0 ≡ mark "Bd" → Makes o o' g g' s s' (bindingOf tree scope (levels - 1) p0 p1 (s .n)) → Makes o o' g g' s s' (patternOf tree scope (treeAt levels tree at) (s .n))
   unfolding declaratorPattern
   pattern-ident {s = s} m w =
-      let z : bindingOf tree scope (left - 1) p0 p1 (s .n) ≡ declaratorPattern (typingOf tree scope) (headAt tree at) (treeAt (left - 1) tree p1) (treeAt (left - 1) tree p0) (s .n) =
-      rw (is-mark (left - 1) tree p0 (mark "Bd") m) in
+      let z : bindingOf tree scope (levels - 1) p0 p1 (s .n) ≡ declaratorPattern (typingOf tree scope) (headAt tree at) (treeAt (levels - 1) tree p1) (treeAt (levels - 1) tree p0) (s .n) =
+      rw (is-mark (levels - 1) tree p0 (mark "Bd") m) in
       makes-as w (z ∙ pattern-is (s .n))
 
 -- ---- a Vr, or another child of a Vd
 
-pub declarator-other : (tree : List ℕ) (scope : Scope) (left at : ℕ) {o o' : List ℕ} (g : List ℕ) {s s' : State} → (markAt tree at ≡ mark "Vr" → ⊥) → Keeps o o' s s' (treeAt left tree at) → s .d ≤ top
-    → Makes o o' g g s s' (declarator (typingOf tree scope) (treeAt left tree at) (s .n))
+pub declarator-other : (tree : List ℕ) (scope : Scope) (levels at : ℕ) {o o' : List ℕ} (g : List ℕ) {s s' : State} → (markAt tree at ≡ mark "Vr" → ⊥) → Keeps o o' s s' (treeAt levels tree at) → s .d ≤ top
+    → Makes o o' g g s s' (declarator (typingOf tree scope) (treeAt levels tree at) (s .n))
 unfolding declarator
-declarator-other tree scope left at g {s} m w d =
-    let z : pure (treeAt left tree at) (s .n) ≡ declarator (typingOf tree scope) (treeAt left tree at) (s .n) = rw (not-mark left tree at (mark "Vr") m) in
+declarator-other tree scope levels at g {s} m w d =
+    let z : pure (treeAt levels tree at) (s .n) ≡ declarator (typingOf tree scope) (treeAt levels tree at) (s .n) = rw (not-mark levels tree at (mark "Vr") m) in
     makes-as (makes-keeps g w d) z
 
-pub declarator-made : (tree : List ℕ) (scope : Scope) (left at : ℕ) → AcceptedAt left tree at → ((i : ℕ) → mir.Val.Fits w8 (getD tree i 0)) → {p0 p1 p2 : ℕ} → Two left tree at p0 p1 p2 → markAt tree at ≡ mark "Vr"
+pub declarator-made : (tree : List ℕ) (scope : Scope) (levels at : ℕ) → AcceptedAt levels tree at → ((i : ℕ) → mir.Val.Fits w8 (getD tree i 0)) → {p0 p1 p2 : ℕ} → Two levels tree at p0 p1 p2 → markAt tree at ≡ mark "Vr"
     → {o o1 o2 o3 o4 g g' : List ℕ} {s s1 s2 s3 s4 : State} {h : Fields} → h ≡ fieldsAt tree at → s .d ≤ top
-    → Puts o o1 s s1 (frontBytes (withFlags (headAt tree at) (h .flags)) (h .count)) true → Makes o1 o2 g g' s1 s2 (patternOf tree scope (treeAt left tree at) (s1 .n))
-    → Keeps o2 o3 s2 s3 (gone (treeAt (left - 1) tree p1)) → KeepsAll o3 o4 s3 s4 (rest left tree (h .count - 2) p2) → Makes o o4 g g' s s4 (declarator (typingOf tree scope) (treeAt left tree at) (s .n))
+    → Puts o o1 s s1 (frontBytes (withFlags (headAt tree at) (h .flags)) (h .count)) true → Makes o1 o2 g g' s1 s2 (patternOf tree scope (treeAt levels tree at) (s1 .n))
+    → Keeps o2 o3 s2 s3 (gone (treeAt (levels - 1) tree p1)) → KeepsAll o3 o4 s3 s4 (rest levels tree (h .count - 2) p2) → Makes o o4 g g' s s4 (declarator (typingOf tree scope) (treeAt levels tree at) (s .n))
 unfolding declarator
-declarator-made tree scope left at a known {p0} {p1} {p2} u m {g' = g'} {s = s} e d v b c z =
+declarator-made tree scope levels at a known {p0} {p1} {p2} u m {g' = g'} {s = s} e d v b c z =
     let ty : Typing = typingOf tree scope in
-    let t : Rec = treeAt left tree at in
-    let f : Out Rec → Out Rec = λ (o : Out Rec). onValue (λ (w : Rec). rec (headAt tree at) (cons w (cons (gone (treeAt (left - 1) tree p1)) (rest left tree (countAt tree at - 2) p2)))) o in
+    let t : Rec = treeAt levels tree at in
+    let f : Out Rec → Out Rec = λ (o : Out Rec). onValue (λ (w : Rec). rec (headAt tree at) (cons w (cons (gone (treeAt (levels - 1) tree p1)) (rest levels tree (countAt tree at - 2) p2)))) o in
     let q : onValue (λ (ks : Recs). rec (headOf t) (setKid 1 (gone (kid 1 (kidsOf t))) ks)) (atKid 0 (declaratorPattern ty (headOf t) (kid 1 (kidsOf t))) (kidsOf t) (s .n)) ≡ declarator ty t (s .n) =
-    rw (is-mark left tree at (mark "Vr") m) in
+    rw (is-mark levels tree at (mark "Vr") m) in
     makes-as
-    (makes-front (headAt tree at) (front-as tree at e v) (u .many) (all-behind b (all-kept g' c (kept-as tree at e (left - 1) 2 p2 z) (made-diagnostics b))) (head-short left tree at a known) d)
+    (makes-front (headAt tree at) (front-as tree at e v) (u .many) (all-behind b (all-kept g' c (kept-as tree at e (levels - 1) 2 p2 z) (made-diagnostics b))) (head-short levels tree at a known) d)
     (ap (λ (n : ℕ). f (patternOf tree scope t n)) (puts-counter v)
     ∙ (ap (λ (r : Rec). f (patternOf tree scope r (s .n))) (u .is)
     ∙ (ap (λ (r : Rec). onValue (λ (ks : Recs). rec (headOf r) (setKid 1 (gone (kid 1 (kidsOf r))) ks)) (atKid 0 (declaratorPattern ty (headOf r) (kid 1 (kidsOf r))) (kidsOf r) (s .n))) (sym (u .is)) ∙ q)))
@@ -156,39 +156,39 @@ declarator-made tree scope left at a known {p0} {p1} {p2} u m {g' = g'} {s = s} 
 abbrev pub declaratorStep : List ℕ → Scope → Rec → ℕ → Out Recs
 declaratorStep tree scope r n = single (declarator (typingOf tree scope) r n)
 
-module _ (tree : List ℕ) (scope : Scope) (left : ℕ) where
-  declarators-are : (n at m : ℕ) → remaining (declaratorStep tree scope) left tree n at m ≡ each (λ i. declarator (typingOf tree scope)) 0 (recordsAt left tree n at) m
-  declarators-are n at m = sym (each-flat (declarator (typingOf tree scope)) 0 (recordsAt left tree n at) m)
+module _ (tree : List ℕ) (scope : Scope) (levels : ℕ) where
+  declarators-are : (n at m : ℕ) → remaining (declaratorStep tree scope) levels tree n at m ≡ each (λ i. declarator (typingOf tree scope)) 0 (recordsAt levels tree n at) m
+  declarators-are n at m = sym (each-flat (declarator (typingOf tree scope)) 0 (recordsAt levels tree n at) m)
 
   -- the loop: k are left from c on, of the n from `at` on
   abbrev pub Declaring : ℕ → ℕ → List ℕ → List ℕ → List ℕ → List ℕ → State → State → ℕ → ℕ → Type 0
-  Declaring n at o0 o g0 g s0 s k c = Making (declaratorStep tree scope) left tree (remaining (declaratorStep tree scope) left tree n at (s0 .n)) o0 o g0 g s0 s k c
+  Declaring n at o0 o g0 g s0 s k c = Making (declaratorStep tree scope) levels tree (remaining (declaratorStep tree scope) levels tree n at (s0 .n)) o0 o g0 g s0 s k c
 
-  pub declaring-start : (o g : List ℕ) (s : State) {n at : ℕ} → ReadyAll left tree n at (s .n) scope → s .p ≤ top → s .d ≤ top → Declaring n at o o g g s s n at
-  declaring-start o g s r h k = making-start (declaratorStep tree scope) left tree o g s (r .accepted) (r .low) h k
+  pub declaring-start : (o g : List ℕ) (s : State) {n at : ℕ} → ReadyAll levels tree n at (s .n) scope → s .p ≤ top → s .d ≤ top → Declaring n at o o g g s s n at
+  declaring-start o g s r h k = making-start (declaratorStep tree scope) levels tree o g s (r .accepted) (r .low) h k
 
   module _ (n at : ℕ) {o0 o g0 g : List ℕ} {s0 s : State} {k c : ℕ} (l : Declaring n at o0 o g0 g s0 s k c) where
-    pub declaring-first : 0 < k → AcceptedAt left tree c
-    declaring-first h = making-first (declaratorStep tree scope) left tree l h
+    pub declaring-first : 0 < k → AcceptedAt levels tree c
+    declaring-first h = making-first (declaratorStep tree scope) levels tree l h
 
-    pub declaring-turn : 0 < k → {o' g' : List ℕ} {s' : State} → Makes o o' g g' s s' (declarator (typingOf tree scope) (treeAt left tree c) (s .n)) → {d : ℕ} → d ≡ endAt left tree c
+    pub declaring-turn : 0 < k → {o' g' : List ℕ} {s' : State} → Makes o o' g g' s s' (declarator (typingOf tree scope) (treeAt levels tree c) (s .n)) → {d : ℕ} → d ≡ endAt levels tree c
         → Declaring n at o0 o' g0 g' s0 s' (k - 1) d
     declaring-turn h w e =
         rw e
-        (making-turn (declaratorStep tree scope) left tree l h (declarator-within (typingOf tree scope) (exprToTsType-within (idsOf tree) (scope .unresolved)) (treeAt left tree c) (s .n) .high) (all-one-is w))
+        (making-turn (declaratorStep tree scope) levels tree l h (declarator-within (typingOf tree scope) (exprToTsType-within (idsOf tree) (scope .unresolved)) (treeAt levels tree c) (s .n) .high) (all-one-is w))
 
-    pub declaring-done : k ≤ 0 → MakesAll o0 o g0 g s0 s (each (λ i. declarator (typingOf tree scope)) 0 (recordsAt left tree n at) (s0 .n))
-    declaring-done h = all-as (making-done (declaratorStep tree scope) left tree l h) (declarators-are n at (s0 .n))
+    pub declaring-done : k ≤ 0 → MakesAll o0 o g0 g s0 s (each (λ i. declarator (typingOf tree scope)) 0 (recordsAt levels tree n at) (s0 .n))
+    declaring-done h = all-as (making-done (declaratorStep tree scope) levels tree l h) (declarators-are n at (s0 .n))
 
     pub declaring-out : length o ≡ length o0
-    declaring-out = making-out (declaratorStep tree scope) left tree l
+    declaring-out = making-out (declaratorStep tree scope) levels tree l
 
     pub declaring-diagnostics : length g ≡ length g0
-    declaring-diagnostics = making-diagnostics (declaratorStep tree scope) left tree l
+    declaring-diagnostics = making-diagnostics (declaratorStep tree scope) levels tree l
 
 -- what is asked of one of them, and of the children of a record
-pub one-ready : {left : ℕ} {tree : List ℕ} {n at m : ℕ} {scope : Scope} → ReadyAll left tree n at m scope → {c k : ℕ} → AcceptedAt left tree c → k ≤ c → Ready left tree c k scope
+pub one-ready : {levels : ℕ} {tree : List ℕ} {n at m : ℕ} {scope : Scope} → ReadyAll levels tree n at m scope → {c k : ℕ} → AcceptedAt levels tree c → k ≤ c → Ready levels tree c k scope
 one-ready r a h = record { accepted = a; root = r .root; low = h; skips = r .skips }
 
-pub kids-ready : {left : ℕ} {tree : List ℕ} {at n : ℕ} {scope : Scope} → Ready left tree at n scope → {h : Fields} {b m : ℕ} → h ≡ fieldsAt tree at → b ≡ bodyAt tree at → m ≡ n → ReadyAll (left - 1) tree (h .count) b m scope
-kids-ready {left} {tree} {at} r e f g = record { accepted = rw (e, f) (children left tree at (r .accepted)); root = r .root; low = omega (arith, r .low, f, g); skips = r .skips }
+pub kids-ready : {levels : ℕ} {tree : List ℕ} {at n : ℕ} {scope : Scope} → Ready levels tree at n scope → {h : Fields} {b m : ℕ} → h ≡ fieldsAt tree at → b ≡ bodyAt tree at → m ≡ n → ReadyAll (levels - 1) tree (h .count) b m scope
+kids-ready {levels} {tree} {at} r e f g = record { accepted = rw (e, f) (children levels tree at (r .accepted)); root = r .root; low = omega (arith, r .low, f, g); skips = r .skips }

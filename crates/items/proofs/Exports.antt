@@ -1,4 +1,4 @@
--- What is exported as default: a function without its body, and an expression as a declared const and its name. Assumes nothing.
+-- What is exported as default: a function without its body, and an expression as a declared const and its name.
 use mathlib.Core.Path.{_≡_, refl, sym, ap, _∙_, subst}
 use mathlib.Core.List.{List, [], _++_, append-nil, append-assoc}
 use mathlib.Core.Bool.{Bool, true, false, _&&_}
@@ -54,12 +54,12 @@ gives-kept g w d = gives-one (makes-keeps g w d)
 
 -- ---- the children
 
-module _ (left : ℕ) (s : List ℕ) (at : ℕ) (a : AcceptedAt left s at) where
-  pub xd-kids : markAt s at ≡ mark "Xd" → {p0 p1 : ℕ} → p0 ≡ bodyAt s at → p1 ≡ endAt (left - 1) s p0 → One left s at p0 p1
-  xd-kids m e f = kids-one left s at a (has (mark "Xd") left s at a m) e f
+module _ (levels : ℕ) (s : List ℕ) (at : ℕ) (a : AcceptedAt levels s at) where
+  pub xd-kids : markAt s at ≡ mark "Xd" → {p0 p1 : ℕ} → p0 ≡ bodyAt s at → p1 ≡ endAt (levels - 1) s p0 → One levels s at p0 p1
+  xd-kids m e f = kids-one levels s at a (has (mark "Xd") levels s at a m) e f
 
-  pub xe-kids : markAt s at ≡ mark "Xe" → {p0 p1 : ℕ} → p0 ≡ bodyAt s at → p1 ≡ endAt (left - 1) s p0 → One left s at p0 p1
-  xe-kids m e f = kids-one left s at a (has (mark "Xe") left s at a m) e f
+  pub xe-kids : markAt s at ≡ mark "Xe" → {p0 p1 : ℕ} → p0 ≡ bodyAt s at → p1 ≡ endAt (levels - 1) s p0 → One levels s at p0 p1
+  xe-kids m e f = kids-one levels s at a (has (mark "Xe") levels s at a m) e f
 
 -- the mark of the first child, at the place that the code computed
 pub mark-there : (s : List ℕ) (at : ℕ) {p n : ℕ} → p ≡ bodyAt s at → markAt s (bodyAt s at) ≡ n → markAt s p ≡ n
@@ -68,8 +68,8 @@ mark-there s at e m = ap (markAt s) e ∙ m
 pub mark-at-body : (s : List ℕ) (at : ℕ) {p n : ℕ} → p ≡ bodyAt s at → markAt s p ≡ n → markAt s (bodyAt s at) ≡ n
 mark-at-body s at e m = ap (markAt s) (sym e) ∙ m
 
-pub second-there : (left : ℕ) (s : List ℕ) (at : ℕ) {p q : ℕ} → p ≡ bodyAt s at → q ≡ endAt (left - 1) s p → q ≡ childAt left s at 1
-second-there left s at e f = f ∙ (ap (endAt (left - 1) s) e ∙ sym (child-1 left s at))
+pub second-there : (levels : ℕ) (s : List ℕ) (at : ℕ) {p q : ℕ} → p ≡ bodyAt s at → q ≡ endAt (levels - 1) s p → q ≡ childAt levels s at 1
+second-there levels s at e f = f ∙ (ap (endAt (levels - 1) s) e ∙ sym (child-1 levels s at))
 
 -- ---- a generated name
 
@@ -78,18 +78,18 @@ unique-fits counter h = name-fits (fresh "Id" 0 []) (genUniqueName counter) (ome
 
 -- ---- an Xe with the name
 
-pub name-written : (left : ℕ) (s : List ℕ) (at : ℕ) → AcceptedAt left s at → ((i : ℕ) → mir.Val.Fits w8 (getD s i 0)) → {p1 : ℕ} → One left s at (bodyAt s at) p1 → (counter : ℕ) → counter < 2 ^ 64
+pub name-written : (levels : ℕ) (s : List ℕ) (at : ℕ) → AcceptedAt levels s at → ((i : ℕ) → mir.Val.Fits w8 (getD s i 0)) → {p1 : ℕ} → One levels s at (bodyAt s at) p1 → (counter : ℕ) → counter < 2 ^ 64
     → {o o1 o2 o3 : List ℕ} {x x1 x3 : State} {h : Fields} {q : ℕ} → length o < 2 ^ 64 → h ≡ fieldsAt s at
     → Puts o o1 x x1 (frontBytes (withFlags (headAt s at) (h .flags)) (h .count)) true → Put o1 o2 (x1 .p) (encode (ident dummySp (genUniqueName counter))) q
-    → KeepsAll o2 o3 (movedTo x1 q) x3 (rest left s (h .count - 1) p1) → Keeps o o3 x x3 (rec (headAt s at) (setKid 0 (ident dummySp (genUniqueName counter)) (kidsOf (treeAt left s at))))
-name-written left s at a known u counter small {x1 = x1} l e v w z =
+    → KeepsAll o2 o3 (movedTo x1 q) x3 (rest levels s (h .count - 1) p1) → Keeps o o3 x x3 (rec (headAt s at) (setKid 0 (ident dummySp (genUniqueName counter)) (kidsOf (treeAt levels s at))))
+name-written levels s at a known u counter small {x1 = x1} l e v w z =
     puts-as
-    (keeps-first left s at e l (headAt s at) (front-as s at e v) (head-short left s at a known) (ident dummySp (genUniqueName counter)) u (puts-fitting x1 w (unique-fits counter small)) z)
+    (keeps-first levels s at e l (headAt s at) (front-as s at e v) (head-short levels s at a known) (ident dummySp (genUniqueName counter)) u (puts-fitting x1 w (unique-fits counter small)) z)
     (ap (λ (r : Rec). rec (headAt s at) (setKid 0 (ident dummySp (genUniqueName counter)) (kidsOf r))) (sym (u .is)))
 
 -- where it stands
-pub name-kids : (left : ℕ) (s : List ℕ) (at : ℕ) (a : AcceptedAt left s at) → markAt s at ≡ mark "Xe" → {p1 : ℕ} → p1 ≡ childAt left s at 1 → One left s at (bodyAt s at) p1
-name-kids left s at a m e = xe-kids left s at a m refl (e ∙ child-1 left s at)
+pub name-kids : (levels : ℕ) (s : List ℕ) (at : ℕ) (a : AcceptedAt levels s at) → markAt s at ≡ mark "Xe" → {p1 : ℕ} → p1 ≡ childAt levels s at 1 → One levels s at (bodyAt s at) p1
+name-kids levels s at a m e = xe-kids levels s at a m refl (e ∙ child-1 levels s at)
 
 -- ---- the const as a record
 
@@ -132,24 +132,24 @@ step-from : {o o' g g' : List ℕ} (s : State) {n : ℕ} {s' : State} {E : List 
     → Step o o' g g' s s' E ds m f
 step-from s w = record { ran = w .ran; counter = w .counter; fits = w .fits }
 
-module _ (tree : List ℕ) (scope : Scope) (left at : ℕ) {p0 p1 : ℕ} (u : One left tree at p0 p1) where
+module _ (tree : List ℕ) (scope : Scope) (levels at : ℕ) {p0 p1 : ℕ} (u : One levels tree at p0 p1) where
   -- "Xe of Id passes"
-  pub expr-name : {o o' : List ℕ} (g : List ℕ) {s s' : State} → markAt tree p0 ≡ mark "Id" → Keeps o o' s s' (treeAt left tree at) → s .d ≤ top
-      → Gives o o' g g s (record { s = s'; count = 1 }) (defaultExprOf tree scope (treeAt left tree at) (s .n))
+  pub expr-name : {o o' : List ℕ} (g : List ℕ) {s s' : State} → markAt tree p0 ≡ mark "Id" → Keeps o o' s s' (treeAt levels tree at) → s .d ≤ top
+      → Gives o o' g g s (record { s = s'; count = 1 }) (defaultExprOf tree scope (treeAt levels tree at) (s .n))
   unfolding exportDefaultExpr
   expr-name g {s} m w d =
-      let r : Rec = rec (headAt tree at) (cons (treeAt (left - 1) tree p0) (rest left tree (countAt tree at - 1) p1)) in
-      let z : pure (one r) (s .n) ≡ defaultExprOf tree scope r (s .n) = rw (is-mark (left - 1) tree p0 (mark "Id") m) in
+      let r : Rec = rec (headAt tree at) (cons (treeAt (levels - 1) tree p0) (rest levels tree (countAt tree at - 1) p1)) in
+      let z : pure (one r) (s .n) ≡ defaultExprOf tree scope r (s .n) = rw (is-mark (levels - 1) tree p0 (mark "Id") m) in
       gives-as (gives-kept g w d) (ap (λ (r : Rec). pure (one r) (s .n)) (u .is) ∙ (z ∙ ap (λ (r : Rec). defaultExprOf tree scope r (s .n)) (sym (u .is))))
 
   -- what it gives otherwise, by the type of its expression
-  typed-is : (n : ℕ) → (markAt tree p0 ≡ mark "Id" → ⊥) → onValue (defaultTyped (headOf (treeAt left tree at)) (kidsOf (treeAt left tree at)) (suc n)) (typingOf tree scope (treeAt (left - 1) tree p0) false true (suc n))
-      ≡ defaultExprOf tree scope (treeAt left tree at) n
+  typed-is : (n : ℕ) → (markAt tree p0 ≡ mark "Id" → ⊥) → onValue (defaultTyped (headOf (treeAt levels tree at)) (kidsOf (treeAt levels tree at)) (suc n)) (typingOf tree scope (treeAt (levels - 1) tree p0) false true (suc n))
+      ≡ defaultExprOf tree scope (treeAt levels tree at) n
   unfolding exportDefaultExpr
   typed-is n m =
-      let f : Rec → Out Recs = λ (r : Rec). onValue (defaultTyped (headOf r) (kidsOf r) (suc n)) (typingOf tree scope (treeAt (left - 1) tree p0) false true (suc n)) in
-      let r : Rec = rec (headAt tree at) (cons (treeAt (left - 1) tree p0) (rest left tree (countAt tree at - 1) p1)) in
-      let z : f r ≡ defaultExprOf tree scope r n = rw (not-mark (left - 1) tree p0 (mark "Id") m) in
+      let f : Rec → Out Recs = λ (r : Rec). onValue (defaultTyped (headOf r) (kidsOf r) (suc n)) (typingOf tree scope (treeAt (levels - 1) tree p0) false true (suc n)) in
+      let r : Rec = rec (headAt tree at) (cons (treeAt (levels - 1) tree p0) (rest levels tree (countAt tree at - 1) p1)) in
+      let z : f r ≡ defaultExprOf tree scope r n = rw (not-mark (levels - 1) tree p0 (mark "Id") m) in
       ap f (u .is) ∙ (z ∙ ap (λ (r : Rec). defaultExprOf tree scope r n) (sym (u .is)))
 
   -- the state of the typing, and its type
@@ -157,35 +157,35 @@ module _ (tree : List ℕ) (scope : Scope) (left at : ℕ) {p0 p1 : ℕ} (u : On
   raised s q = record { p = q; d = s .d; n = s .n + 1; fits = s .fits }
 
   abbrev exprType : Mode → State → Out (Option Rec)
-  exprType m s = typeOf tree m (left - 1) p0 (s .n + 1)
+  exprType m s = typeOf tree m (levels - 1) p0 (s .n + 1)
 
-  type-is : (m : Mode) (s : State) → m ≡ readonlyMode scope → exprType m s ≡ typingOf tree scope (treeAt (left - 1) tree p0) false true (suc (s .n))
+  type-is : (m : Mode) (s : State) → m ≡ readonlyMode scope → exprType m s ≡ typingOf tree scope (treeAt (levels - 1) tree p0) false true (suc (s .n))
   unfolding typeOf
   type-is m s e = rw (e, add-one (s .n))
 
   pair-is : (n : ℕ) (type : Rec) (v : Option Rec) → v ≡ some type
-      → cons (constOf (n + 1) type) (one (rec (headAt tree at) (setKid 0 (ident dummySp (genUniqueName (n + 1))) (kidsOf (treeAt left tree at))))) ≡ defaultTyped (headOf (treeAt left tree at)) (kidsOf (treeAt left tree at)) (suc n) v
+      → cons (constOf (n + 1) type) (one (rec (headAt tree at) (setKid 0 (ident dummySp (genUniqueName (n + 1))) (kidsOf (treeAt levels tree at))))) ≡ defaultTyped (headOf (treeAt levels tree at)) (kidsOf (treeAt levels tree at)) (suc n) v
   unfolding defaultTyped
   pair-is n type v e =
-      let ks : Recs = kidsOf (treeAt left tree at) in
+      let ks : Recs = kidsOf (treeAt levels tree at) in
       ap (λ (k : ℕ). cons (constOf k type) (one (rec (headAt tree at) (setKid 0 (ident dummySp (genUniqueName k)) ks)))) (add-one n)
-      ∙ (ap (λ (h : Head). cons (constOf (suc n) type) (one (rec h (setKid 0 (ident dummySp (genUniqueName (suc n))) ks)))) (sym (head-is left tree at))
-      ∙ ap (λ (v : Option Rec). defaultTyped (headOf (treeAt left tree at)) ks (suc n) v) (sym e))
+      ∙ (ap (λ (h : Head). cons (constOf (suc n) type) (one (rec h (setKid 0 (ident dummySp (genUniqueName (suc n))) ks)))) (sym (head-is levels tree at))
+      ∙ ap (λ (v : Option Rec). defaultTyped (headOf (treeAt levels tree at)) ks (suc n) v) (sym e))
 
-  whole-is : (n : ℕ) (v : Option Rec) → v ≡ none → one (treeAt left tree at) ≡ defaultTyped (headOf (treeAt left tree at)) (kidsOf (treeAt left tree at)) (suc n) v
+  whole-is : (n : ℕ) (v : Option Rec) → v ≡ none → one (treeAt levels tree at) ≡ defaultTyped (headOf (treeAt levels tree at)) (kidsOf (treeAt levels tree at)) (suc n) v
   unfolding defaultTyped
   whole-is n v e =
-      ap one (sym (whole (treeAt left tree at))) ∙ ap (λ (v : Option Rec). defaultTyped (headOf (treeAt left tree at)) (kidsOf (treeAt left tree at)) (suc n) v) (sym e)
+      ap one (sym (whole (treeAt levels tree at))) ∙ ap (λ (v : Option Rec). defaultTyped (headOf (treeAt levels tree at)) (kidsOf (treeAt levels tree at)) (suc n) v) (sym e)
 
   -- typed: a const with that type, and the Xe of its name
   pub expr-typed : {o o1 o2 o3 o4 g g' : List ℕ} (s : State) {t : Typed} {typed next : State} {m : Mode} {q r : ℕ} → (markAt tree p0 ≡ mark "Id" → ⊥) → m ≡ readonlyMode scope → s .n + 1 < 2 ^ 64 → s .d ≤ top
       → Put o o1 (s .p) (constFront (s .n + 1)) q → Did o1 o2 g g' (raised s q) t (exprType m s) → t ≡ Some typed → Put o2 o3 (typed .p) (encode absent) r
-      → Keeps o3 o4 (movedTo typed r) next (rec (headAt tree at) (setKid 0 (ident dummySp (genUniqueName (s .n + 1))) (kidsOf (treeAt left tree at))))
-      → Gives o o4 g g' s (record { s = next; count = 2 }) (defaultExprOf tree scope (treeAt left tree at) (s .n))
+      → Keeps o3 o4 (movedTo typed r) next (rec (headAt tree at) (setKid 0 (ident dummySp (genUniqueName (s .n + 1))) (kidsOf (treeAt levels tree at))))
+      → Gives o o4 g g' s (record { s = next; count = 2 }) (defaultExprOf tree scope (treeAt levels tree at) (s .n))
   expr-typed {o} {o1} {o2} {o3} {o4} {g} {g'} s {typed = typed} {next = next} {m = m} {q = q} n e small d a w z b c =
       let x : Out (Option Rec) = exprType m s in
       let i : IsSome o1 o2 g g' (raised s q) typed x = is-some w z in
-      let xe : Rec = rec (headAt tree at) (setKid 0 (ident dummySp (genUniqueName (s .n + 1))) (kidsOf (treeAt left tree at))) in
+      let xe : Rec = rec (headAt tree at) (setKid 0 (ident dummySp (genUniqueName (s .n + 1))) (kidsOf (treeAt levels tree at))) in
       let below : typed .d ≤ top = (let y = i .step .ran .atd in omega arith) in
       let all = step-then (step-put g (raised s (s .p)) a d) (step-then (i .step) (step-then (step-put g' typed b below) (step-puts g' c below))) in
       let made : Gives o o4 g g' s (record { s = next; count = 2 }) (cons (constOf (s .n + 1) (i .type)) (one xe), x .1, x .2) =
@@ -195,15 +195,15 @@ module _ (tree : List ℕ) (scope : Scope) (left at : ℕ) {p0 p1 : ℕ} (u : On
       } in
       gives-as made
       ((λ j. (pair-is (s .n) (i .type) (x .0) (i .same) j, x .1, x .2))
-      ∙ (ap (onValue (defaultTyped (headOf (treeAt left tree at)) (kidsOf (treeAt left tree at)) (suc (s .n)))) (type-is m s e) ∙ typed-is (s .n) n))
+      ∙ (ap (onValue (defaultTyped (headOf (treeAt levels tree at)) (kidsOf (treeAt levels tree at)) (suc (s .n)))) (type-is m s e) ∙ typed-is (s .n) n))
 
   -- "Untyped: kept whole, no diagnostic of its own"
   pub expr-untyped : {o o1 o2 o3 g g' : List ℕ} (s : State) {t : Typed} {failed back next : State} {m : Mode} {q : ℕ} → (markAt tree p0 ≡ mark "Id" → ⊥) → m ≡ readonlyMode scope → s .p ≤ top → s .d ≤ top
-      → Put o o1 (s .p) (constFront (s .n + 1)) q → Did o1 o2 g g' (raised s q) t (exprType m s) → t ≡ None failed → back ≡ backTo s failed → Keeps o2 o3 back next (treeAt left tree at)
-      → Gives o o3 g g' s (record { s = next; count = 1 }) (defaultExprOf tree scope (treeAt left tree at) (s .n))
+      → Put o o1 (s .p) (constFront (s .n + 1)) q → Did o1 o2 g g' (raised s q) t (exprType m s) → t ≡ None failed → back ≡ backTo s failed → Keeps o2 o3 back next (treeAt levels tree at)
+      → Gives o o3 g g' s (record { s = next; count = 1 }) (defaultExprOf tree scope (treeAt levels tree at) (s .n))
   expr-untyped {o} {o1} {o2} {o3} {g} {g'} s {failed = failed} {next = next} {m = m} {q = q} n e p d a w z f c =
       let x : Out (Option Rec) = exprType m s in
-      let t : Rec = treeAt left tree at in
+      let t : Rec = treeAt levels tree at in
       let i : IsNone o1 o2 g g' (raised s q) failed x = is-none w z in
       let below : failed .d ≤ top = (let y = i .step .ran .atd in omega arith) in
       let c' : Keeps o2 o3 (backTo s failed) next t = subst (λ (b : State). Keeps o2 o3 b next t) f c in
@@ -215,7 +215,7 @@ module _ (tree : List ℕ) (scope : Scope) (left at : ℕ) {p0 p1 : ℕ} (u : On
       ∙ (ap (onValue (defaultTyped (headOf t) (kidsOf t) (suc (s .n)))) (type-is m s e) ∙ typed-is (s .n) n))
 
 -- what its typing asks
-pub expr-ready : {left : ℕ} {tree : List ℕ} {at n : ℕ} {scope : Scope} → Ready left tree at n scope → {p0 p1 : ℕ} → One left tree at p0 p1 → p0 ≡ bodyAt tree at → Ready (left - 1) tree p0 (n + 1) scope
+pub expr-ready : {levels : ℕ} {tree : List ℕ} {at n : ℕ} {scope : Scope} → Ready levels tree at n scope → {p0 p1 : ℕ} → One levels tree at p0 p1 → p0 ≡ bodyAt tree at → Ready (levels - 1) tree p0 (n + 1) scope
 expr-ready r u e = ready-at r (u .first) (omega (arith, r .low, e))
 
 -- ---- an Xd
@@ -237,50 +237,50 @@ fn-silent r n =
     let z = each-silent bodyPart part-silent 0 (kidsOf (kid 1 (kidsOf (kid 0 (kidsOf r))))) n in
     λ j. (defaultFn r n .0, ap (λ (o : Out Recs). o .1) z j, ap (λ (o : Out Recs). o .2) z j)
 
-module _ (list tree : List ℕ) (scope : Scope) (left at : ℕ) {p0 p1 : ℕ} (u : One left tree at p0 p1) where
+module _ (list tree : List ℕ) (scope : Scope) (levels at : ℕ) {p0 p1 : ℕ} (u : One levels tree at p0 p1) where
   default-by : (n : ℕ) (k : Default) → defaultKind (markAt tree p0) ≡ k
-      → exportDefaultDecl list (scope .unresolved) (typingOf tree scope) k (headOf (treeAt left tree at)) (kidsOf (treeAt left tree at)) n ≡ defaultDeclOf list tree scope (treeAt left tree at) n
+      → exportDefaultDecl list (scope .unresolved) (typingOf tree scope) k (headOf (treeAt levels tree at)) (kidsOf (treeAt levels tree at)) n ≡ defaultDeclOf list tree scope (treeAt levels tree at) n
   default-by n k e =
-      ap (λ (k : Default). exportDefaultDecl list (scope .unresolved) (typingOf tree scope) k (headOf (treeAt left tree at)) (kidsOf (treeAt left tree at)) n)
-      (sym e ∙ ap defaultKind (sym (mark-is (left - 1) tree p0) ∙ ap (λ (r : Rec). markOf (kid 0 (kidsOf r))) (sym (u .is))))
+      ap (λ (k : Default). exportDefaultDecl list (scope .unresolved) (typingOf tree scope) k (headOf (treeAt levels tree at)) (kidsOf (treeAt levels tree at)) n)
+      (sym e ∙ ap defaultKind (sym (mark-is (levels - 1) tree p0) ∙ ap (λ (r : Rec). markOf (kid 0 (kidsOf r))) (sym (u .is))))
 
   -- a class
-  pub default-class : AcceptedAt left tree at → ((i : ℕ) → mir.Val.Fits w8 (getD tree i 0)) → markAt tree p0 ≡ mark "Cx" → {o o1 o2 o3 g g' : List ℕ} {s s1 s2 s3 : State} {h k : Fields} → s .d ≤ top
+  pub default-class : AcceptedAt levels tree at → ((i : ℕ) → mir.Val.Fits w8 (getD tree i 0)) → markAt tree p0 ≡ mark "Cx" → {o o1 o2 o3 g g' : List ℕ} {s s1 s2 s3 : State} {h k : Fields} → s .d ≤ top
       → h ≡ fieldsAt tree at → k ≡ fieldsAt tree p0 → Puts o o1 s s1 (frontBytes (withFlags (headAt tree at) (h .flags)) (h .count)) true
-      → Makes o1 o2 g g' s1 s2 (withClass list tree scope (k .flags) (treeAt (left - 1) tree p0) (s1 .n)) → KeepsAll o2 o3 s2 s3 (rest left tree (h .count - 1) p1)
-      → Gives o o3 g g' s (record { s = s3; count = 1 }) (defaultDeclOf list tree scope (treeAt left tree at) (s .n))
+      → Makes o1 o2 g g' s1 s2 (withClass list tree scope (k .flags) (treeAt (levels - 1) tree p0) (s1 .n)) → KeepsAll o2 o3 s2 s3 (rest levels tree (h .count - 1) p1)
+      → Gives o o3 g g' s (record { s = s3; count = 1 }) (defaultDeclOf list tree scope (treeAt levels tree at) (s .n))
   unfolding second defaultKind exportDefaultDecl
   default-class a known m {s = s} {s1 = s1} {k = k} d e f v b z =
       let F : Rec → ℕ → Out Rec = second (class list (scope .unresolved) (typingOf tree scope)) in
-      let t : Rec = treeAt (left - 1) tree p0 in
-      let q : k .flags ≡ headOf t .flags = ap (λ (x : Fields). x .flags) f ∙ sym (flags-is (left - 1) tree p0) in
+      let t : Rec = treeAt (levels - 1) tree p0 in
+      let q : k .flags ≡ headOf t .flags = ap (λ (x : Fields). x .flags) f ∙ sym (flags-is (levels - 1) tree p0) in
       let c : withClass list tree scope (k .flags) t (s1 .n) ≡ F t (s1 .n) = ap (λ (x : ℕ). withClass list tree scope x t (s1 .n)) q in
       let kind : defaultKind (markAt tree p0) ≡ xClass = rw m in
-      gives-as (gives-one (makes-first left tree at (headAt tree at) (head-short left tree at a known) d (front-as tree at e v) e F u (makes-as b c) z))
-      (ap (λ (h : Head). single (wrap h (atKid 0 F (kidsOf (treeAt left tree at)) (s .n)))) (sym (head-is left tree at)) ∙ default-by (s .n) xClass kind)
+      gives-as (gives-one (makes-first levels tree at (headAt tree at) (head-short levels tree at a known) d (front-as tree at e v) e F u (makes-as b c) z))
+      (ap (λ (h : Head). single (wrap h (atKid 0 F (kidsOf (treeAt levels tree at)) (s .n)))) (sym (head-is levels tree at)) ∙ default-by (s .n) xClass kind)
 
   -- a function: "goes if the range .. is in the overload list"
-  fn-is : (n : ℕ) → markAt tree p0 ≡ mark "Fx" → ifM (listed list (headAt tree at)) (pure nil) (λ n. single (defaultFn (treeAt left tree at) n)) n ≡ defaultDeclOf list tree scope (treeAt left tree at) n
+  fn-is : (n : ℕ) → markAt tree p0 ≡ mark "Fx" → ifM (listed list (headAt tree at)) (pure nil) (λ n. single (defaultFn (treeAt levels tree at) n)) n ≡ defaultDeclOf list tree scope (treeAt levels tree at) n
   unfolding defaultKind exportDefaultDecl
   fn-is n m =
       let kind : defaultKind (markAt tree p0) ≡ xFn = rw m in
-      ap (λ (h : Head). ifM (listed list h) (pure nil) (λ n. single (defaultFn (treeAt left tree at) n)) n) (sym (head-is left tree at)) ∙ default-by n xFn kind
+      ap (λ (h : Head). ifM (listed list h) (pure nil) (λ n. single (defaultFn (treeAt levels tree at) n)) n) (sym (head-is levels tree at)) ∙ default-by n xFn kind
 
   pub default-gone : markAt tree p0 ≡ mark "Fx" → {b : Bool} → b ≡ listed list (headAt tree at) → b ≡ true → (o g : List ℕ) (s : State) → s .p ≤ top → s .d ≤ top
-      → Gives o o g g s (record { s = s; count = 0 }) (defaultDeclOf list tree scope (treeAt left tree at) (s .n))
+      → Gives o o g g s (record { s = s; count = 0 }) (defaultDeclOf list tree scope (treeAt levels tree at) (s .n))
   default-gone m e q o g s p d =
-      gives-as (gives-none o g s p d) (ap (λ (b : Bool). ifM b (pure nil) (λ n. single (defaultFn (treeAt left tree at) n)) (s .n)) (sym q ∙ e) ∙ fn-is (s .n) m)
+      gives-as (gives-none o g s p d) (ap (λ (b : Bool). ifM b (pure nil) (λ n. single (defaultFn (treeAt levels tree at) n)) (s .n)) (sym q ∙ e) ∙ fn-is (s .n) m)
 
   pub default-bare : markAt tree p0 ≡ mark "Fx" → {b : Bool} → b ≡ listed list (headAt tree at) → b ≡ false → {o o' : List ℕ} (g : List ℕ) {s s' : State} → s .d ≤ top
-      → Keeps o o' s s' (defaultFn (treeAt left tree at) (s .n) .0) → Gives o o' g g s (record { s = s'; count = 1 }) (defaultDeclOf list tree scope (treeAt left tree at) (s .n))
+      → Keeps o o' s s' (defaultFn (treeAt levels tree at) (s .n) .0) → Gives o o' g g s (record { s = s'; count = 1 }) (defaultDeclOf list tree scope (treeAt levels tree at) (s .n))
   default-bare m e q g {s} d w =
       gives-as (gives-kept g w d)
-      (ap single (sym (fn-silent (treeAt left tree at) (s .n)))
-      ∙ (ap (λ (b : Bool). ifM b (pure nil) (λ n. single (defaultFn (treeAt left tree at) n)) (s .n)) (sym q ∙ e) ∙ fn-is (s .n) m))
+      (ap single (sym (fn-silent (treeAt levels tree at) (s .n)))
+      ∙ (ap (λ (b : Bool). ifM b (pure nil) (λ n. single (defaultFn (treeAt levels tree at) n)) (s .n)) (sym q ∙ e) ∙ fn-is (s .n) m))
 
   -- an In
-  pub default-other : (markAt tree p0 ≡ mark "Cx" → ⊥) → (markAt tree p0 ≡ mark "Fx" → ⊥) → {o o' : List ℕ} (g : List ℕ) {s s' : State} → s .d ≤ top → Keeps o o' s s' (treeAt left tree at)
-      → Gives o o' g g s (record { s = s'; count = 1 }) (defaultDeclOf list tree scope (treeAt left tree at) (s .n))
+  pub default-other : (markAt tree p0 ≡ mark "Cx" → ⊥) → (markAt tree p0 ≡ mark "Fx" → ⊥) → {o o' : List ℕ} (g : List ℕ) {s s' : State} → s .d ≤ top → Keeps o o' s s' (treeAt levels tree at)
+      → Gives o o' g g s (record { s = s'; count = 1 }) (defaultDeclOf list tree scope (treeAt levels tree at) (s .n))
   unfolding exportDefaultDecl
   default-other m k g {s} d w =
-      gives-as (gives-kept g w d) (ap (λ (r : Rec). pure (one r) (s .n)) (sym (whole (treeAt left tree at))) ∙ default-by (s .n) xOther (default-kind (markAt tree p0) m k))
+      gives-as (gives-kept g w d) (ap (λ (r : Rec). pure (one r) (s .n)) (sym (whole (treeAt levels tree at))) ∙ default-by (s .n) xOther (default-kind (markAt tree p0) m k))

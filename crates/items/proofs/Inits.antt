@@ -1,5 +1,4 @@
 -- Enum members: the arms of `validEnumInitExpr` from the mark at an offset, the loop over a template's expressions, and the members that are written.
--- Assumes nothing.
 use mathlib.Core.Path.{_≡_, refl, sym, ap, _∙_, subst}
 use mathlib.Core.List.{List, _++_}
 use mathlib.Core.Bool.{Bool, true, false, not, _&&_, _||_}
@@ -33,14 +32,14 @@ use Rattle.items.specs.Steps.{recordsAt}
 
 -- ---- how many children there are
 
-module _ (left : ℕ) (s : List ℕ) (at : ℕ) (a : AcceptedAt left s at) where
+module _ (levels : ℕ) (s : List ℕ) (at : ℕ) (a : AcceptedAt levels s at) where
   pub over-one : (markAt s at ≡ mark "Mb") ⊎ (markAt s at ≡ mark "Pr") → 1 ≤ countAt s at
   unfolding grammar known slots place least
-  over-one = ⊎-elim (λ e. let z = has (mark "Mb") left s at a e in omega arith) (λ e. has (mark "Pr") left s at a e)
+  over-one = ⊎-elim (λ e. let z = has (mark "Mb") levels s at a e in omega arith) (λ e. has (mark "Pr") levels s at a e)
 
   pub typed-two : (markAt s at ≡ mark "Ta") ⊎ (markAt s at ≡ mark "As") → 2 ≤ countAt s at
   unfolding grammar known slots place least
-  typed-two = ⊎-elim (λ e. has (mark "Ta") left s at a e) (λ e. has (mark "As") left s at a e)
+  typed-two = ⊎-elim (λ e. has (mark "Ta") levels s at a e) (λ e. has (mark "As") levels s at a e)
 
 -- a test of the code tells the mark
 pub told : {m x n : ℕ} → m ≡ x → m ≡ n → x ≡ n
@@ -111,179 +110,179 @@ module _ (h : Head) where
 
 -- ---- the same from the mark at an offset
 
-module _ (left : ℕ) (s : List ℕ) (at : ℕ) (a : AcceptedAt left s at) where
-  valid-at : (k : Init) {ks : Recs} → treeAt left s at ≡ rec (headAt s at) ks → initKind (markAt s at) ≡ k → validEnumInitExpr (treeAt left s at) ≡ validBy k ks (validFirst ks) (validBoth ks) (validAll ks)
+module _ (levels : ℕ) (s : List ℕ) (at : ℕ) (a : AcceptedAt levels s at) where
+  valid-at : (k : Init) {ks : Recs} → treeAt levels s at ≡ rec (headAt s at) ks → initKind (markAt s at) ≡ k → validEnumInitExpr (treeAt levels s at) ≡ validBy k ks (validFirst ks) (validBoth ks) (validAll ks)
   unfolding headAt
   valid-at k {ks} e q = ap validEnumInitExpr e ∙ arm (headAt s at) k ks q
 
   -- Bn
   module _ (m : markAt s at ≡ mark "Bn") {p : ℕ} (e : p ≡ bodyAt s at) where
-    bn-kids : {q : ℕ} → q ≡ endAt (left - 1) s p → Two left s at p q (endAt (left - 1) s q)
-    bn-kids f = kids-two left s at a (has (mark "Bn") left s at a m) e f refl
+    bn-kids : {q : ℕ} → q ≡ endAt (levels - 1) s p → Two levels s at p q (endAt (levels - 1) s q)
+    bn-kids f = kids-two levels s at a (has (mark "Bn") levels s at a m) e f refl
 
-    pub bn-first : AcceptedAt (left - 1) s p
+    pub bn-first : AcceptedAt (levels - 1) s p
     bn-first = bn-kids refl .first
 
-    pub bn-second : {q : ℕ} → q ≡ endAt (left - 1) s p → AcceptedAt (left - 1) s q
+    pub bn-second : {q : ℕ} → q ≡ endAt (levels - 1) s p → AcceptedAt (levels - 1) s q
     bn-second f = bn-kids f .second
 
-    bn-both : {q : ℕ} → q ≡ endAt (left - 1) s p → validEnumInitExpr (treeAt left s at) ≡ (validEnumInitExpr (treeAt (left - 1) s p) && validEnumInitExpr (treeAt (left - 1) s q))
+    bn-both : {q : ℕ} → q ≡ endAt (levels - 1) s p → validEnumInitExpr (treeAt levels s at) ≡ (validEnumInitExpr (treeAt (levels - 1) s p) && validEnumInitExpr (treeAt (levels - 1) s q))
     unfolding headAt validBy validBoth validFirst
     bn-both f = valid-at iBin (bn-kids f .is) (kind-bin (headAt s at) m)
 
-    pub bn-false : {b : Bool} → b ≡ validEnumInitExpr (treeAt (left - 1) s p) → not b ≡ true → false ≡ validEnumInitExpr (treeAt left s at)
-    bn-false {b} f g = and-stop (validEnumInitExpr (treeAt (left - 1) s (endAt (left - 1) s p))) (bn-both refl) f (not-true b g)
+    pub bn-false : {b : Bool} → b ≡ validEnumInitExpr (treeAt (levels - 1) s p) → not b ≡ true → false ≡ validEnumInitExpr (treeAt levels s at)
+    bn-false {b} f g = and-stop (validEnumInitExpr (treeAt (levels - 1) s (endAt (levels - 1) s p))) (bn-both refl) f (not-true b g)
 
-    pub bn-true : {b c : Bool} {q : ℕ} → b ≡ validEnumInitExpr (treeAt (left - 1) s p) → not b ≡ false → q ≡ endAt (left - 1) s p → c ≡ validEnumInitExpr (treeAt (left - 1) s q)
-        → c ≡ validEnumInitExpr (treeAt left s at)
+    pub bn-true : {b c : Bool} {q : ℕ} → b ≡ validEnumInitExpr (treeAt (levels - 1) s p) → not b ≡ false → q ≡ endAt (levels - 1) s p → c ≡ validEnumInitExpr (treeAt (levels - 1) s q)
+        → c ≡ validEnumInitExpr (treeAt levels s at)
     bn-true {b} f g h i = and-on (bn-both h) f (not-false b g) i
 
   -- Mb and Pr
   module _ (m : (markAt s at ≡ mark "Mb") ⊎ (markAt s at ≡ mark "Pr")) {p : ℕ} (e : p ≡ bodyAt s at) where
-    over-kids : One left s at p (endAt (left - 1) s p)
-    over-kids = kids-one left s at a (over-one left s at a m) e refl
+    over-kids : One levels s at p (endAt (levels - 1) s p)
+    over-kids = kids-one levels s at a (over-one levels s at a m) e refl
 
-    pub over-first : AcceptedAt (left - 1) s p
+    pub over-first : AcceptedAt (levels - 1) s p
     over-first = over-kids .first
 
-    pub over-is : {b : Bool} → b ≡ validEnumInitExpr (treeAt (left - 1) s p) → b ≡ validEnumInitExpr (treeAt left s at)
+    pub over-is : {b : Bool} → b ≡ validEnumInitExpr (treeAt (levels - 1) s p) → b ≡ validEnumInitExpr (treeAt levels s at)
     unfolding headAt validBy validFirst
     over-is f = f ∙ sym (valid-at iOver (over-kids .is) (kind-over (headAt s at) m))
 
   -- Oc
   module _ (m : markAt s at ≡ mark "Oc") {p : ℕ} (e : p ≡ bodyAt s at) where
-    oc-kids : One left s at p (endAt (left - 1) s p)
-    oc-kids = kids-one left s at a (has (mark "Oc") left s at a m) e refl
+    oc-kids : One levels s at p (endAt (levels - 1) s p)
+    oc-kids = kids-one levels s at a (has (mark "Oc") levels s at a m) e refl
 
-    pub oc-first : AcceptedAt (left - 1) s p
+    pub oc-first : AcceptedAt (levels - 1) s p
     oc-first = oc-kids .first
 
-    oc-both : validEnumInitExpr (treeAt left s at) ≡ (is "Mb" (treeAt (left - 1) s p) && validEnumInitExpr (treeAt (left - 1) s p))
+    oc-both : validEnumInitExpr (treeAt levels s at) ≡ (is "Mb" (treeAt (levels - 1) s p) && validEnumInitExpr (treeAt (levels - 1) s p))
     unfolding headAt validBy validFirst
     oc-both = valid-at iOptChain (oc-kids .is) (kind-chain (headAt s at) m)
 
-    pub oc-false : (markAt s p ≡ mark "Mb" → ⊥) → false ≡ validEnumInitExpr (treeAt left s at)
-    oc-false n = and-stop (validEnumInitExpr (treeAt (left - 1) s p)) oc-both refl (not-mark (left - 1) s p (mark "Mb") n)
+    pub oc-false : (markAt s p ≡ mark "Mb" → ⊥) → false ≡ validEnumInitExpr (treeAt levels s at)
+    oc-false n = and-stop (validEnumInitExpr (treeAt (levels - 1) s p)) oc-both refl (not-mark (levels - 1) s p (mark "Mb") n)
 
-    pub oc-is : markAt s p ≡ mark "Mb" → {b : Bool} → b ≡ validEnumInitExpr (treeAt (left - 1) s p) → b ≡ validEnumInitExpr (treeAt left s at)
-    oc-is n f = and-on oc-both refl (is-mark (left - 1) s p (mark "Mb") n) f
+    pub oc-is : markAt s p ≡ mark "Mb" → {b : Bool} → b ≡ validEnumInitExpr (treeAt (levels - 1) s p) → b ≡ validEnumInitExpr (treeAt levels s at)
+    oc-is n f = and-on oc-both refl (is-mark (levels - 1) s p (mark "Mb") n) f
 
   -- As and Ta
   module _ (m : (markAt s at ≡ mark "Ta") ⊎ (markAt s at ≡ mark "As")) {p : ℕ} (e : p ≡ bodyAt s at) where
-    typed-kids : {q : ℕ} → q ≡ endAt (left - 1) s p → Two left s at p q (endAt (left - 1) s q)
-    typed-kids f = kids-two left s at a (typed-two left s at a m) e f refl
+    typed-kids : {q : ℕ} → q ≡ endAt (levels - 1) s p → Two levels s at p q (endAt (levels - 1) s q)
+    typed-kids f = kids-two levels s at a (typed-two levels s at a m) e f refl
 
-    pub typed-first : AcceptedAt (left - 1) s p
+    pub typed-first : AcceptedAt (levels - 1) s p
     typed-first = typed-kids refl .first
 
-    pub typed-second : {q : ℕ} → q ≡ endAt (left - 1) s p → AcceptedAt (left - 1) s q
+    pub typed-second : {q : ℕ} → q ≡ endAt (levels - 1) s p → AcceptedAt (levels - 1) s q
     typed-second f = typed-kids f .second
 
-    pub typed-is : {q : ℕ} → q ≡ endAt (left - 1) s p → {b : Bool} → b ≡ validEnumTsType (treeAt (left - 1) s q) → b ≡ validEnumInitExpr (treeAt left s at)
+    pub typed-is : {q : ℕ} → q ≡ endAt (levels - 1) s p → {b : Bool} → b ≡ validEnumTsType (treeAt (levels - 1) s q) → b ≡ validEnumInitExpr (treeAt levels s at)
     unfolding headAt validBy
     typed-is f g = g ∙ sym (valid-at iTyped (typed-kids f .is) (kind-typed (headAt s at) m))
 
   -- the others
-  pub always : (markAt s at ≡ mark "Id") ⊎ ((markAt s at ≡ mark "Ss") ⊎ (markAt s at ≡ mark "Nu")) → true ≡ validEnumInitExpr (treeAt left s at)
+  pub always : (markAt s at ≡ mark "Id") ⊎ ((markAt s at ≡ mark "Ss") ⊎ (markAt s at ≡ mark "Nu")) → true ≡ validEnumInitExpr (treeAt levels s at)
   unfolding headAt validBy
-  always m = sym (valid-at iValid (tree-is left s at a) (kind-valid (headAt s at) m))
+  always m = sym (valid-at iValid (tree-is levels s at a) (kind-valid (headAt s at) m))
 
-  pub template-is : markAt s at ≡ mark "Te" → {b : Bool} → b ≡ validAll (kidsOf (treeAt left s at)) → b ≡ validEnumInitExpr (treeAt left s at)
+  pub template-is : markAt s at ≡ mark "Te" → {b : Bool} → b ≡ validAll (kidsOf (treeAt levels s at)) → b ≡ validEnumInitExpr (treeAt levels s at)
   unfolding headAt validBy
-  template-is m e = e ∙ (ap validAll (kids-are left s at a) ∙ sym (valid-at iTpl (tree-is left s at a) (kind-tpl (headAt s at) m)))
+  template-is m e = e ∙ (ap validAll (kids-are levels s at a) ∙ sym (valid-at iTpl (tree-is levels s at a) (kind-tpl (headAt s at) m)))
 
   pub never : (markAt s at ≡ mark "Bn" → ⊥) → ((markAt s at ≡ mark "Mb") ⊎ (markAt s at ≡ mark "Pr") → ⊥) → (markAt s at ≡ mark "Oc" → ⊥) → ((markAt s at ≡ mark "Id") ⊎ ((markAt s at ≡ mark "Ss") ⊎ (markAt s at ≡ mark "Nu")) → ⊥)
-      → (markAt s at ≡ mark "Te" → ⊥) → ((markAt s at ≡ mark "Ta") ⊎ (markAt s at ≡ mark "As") → ⊥) → false ≡ validEnumInitExpr (treeAt left s at)
+      → (markAt s at ≡ mark "Te" → ⊥) → ((markAt s at ≡ mark "Ta") ⊎ (markAt s at ≡ mark "As") → ⊥) → false ≡ validEnumInitExpr (treeAt levels s at)
   unfolding headAt validBy
-  never b c d e f g = sym (valid-at iOther (tree-is left s at a) (kind-other (headAt s at) b c d e f g))
+  never b c d e f g = sym (valid-at iOther (tree-is levels s at a) (kind-other (headAt s at) b c d e f g))
 
   -- ---- `valid_enum_ts_type`
 
-  pub type-false : (markAt s at ≡ mark "Tl" → ⊥) → false ≡ validEnumTsType (treeAt left s at)
-  type-false n = and-stop (is "Nu" (kid 0 (kidsOf (treeAt left s at)))) refl refl (not-mark left s at (mark "Tl") n)
+  pub type-false : (markAt s at ≡ mark "Tl" → ⊥) → false ≡ validEnumTsType (treeAt levels s at)
+  type-false n = and-stop (is "Nu" (kid 0 (kidsOf (treeAt levels s at)))) refl refl (not-mark levels s at (mark "Tl") n)
 
-  pub type-kids : markAt s at ≡ mark "Tl" → {p : ℕ} → p ≡ bodyAt s at → One left s at p (endAt (left - 1) s p)
-  type-kids m e = kids-one left s at a (has (mark "Tl") left s at a m) e refl
+  pub type-kids : markAt s at ≡ mark "Tl" → {p : ℕ} → p ≡ bodyAt s at → One levels s at p (endAt (levels - 1) s p)
+  type-kids m e = kids-one levels s at a (has (mark "Tl") levels s at a m) e refl
 
-  pub type-whole : markAt s at ≡ mark "Tl" → Whole (left - 1) s (bodyAt s at)
-  type-whole m = is-whole (left - 1) s (bodyAt s at) (type-kids m refl .first)
+  pub type-whole : markAt s at ≡ mark "Tl" → Whole (levels - 1) s (bodyAt s at)
+  type-whole m = is-whole (levels - 1) s (bodyAt s at) (type-kids m refl .first)
 
-  pub type-is : markAt s at ≡ mark "Tl" → {p : ℕ} → p ≡ bodyAt s at → {n : ℕ} → n ≡ markAt s p → eqb n (mark "Nu") ≡ validEnumTsType (treeAt left s at)
+  pub type-is : markAt s at ≡ mark "Tl" → {p : ℕ} → p ≡ bodyAt s at → {n : ℕ} → n ≡ markAt s p → eqb n (mark "Nu") ≡ validEnumTsType (treeAt levels s at)
   type-is m {p} e f =
-      and-on refl refl (is-mark left s at (mark "Tl") m)
-      (ap (λ (k : ℕ). eqb k (mark "Nu")) (f ∙ sym (mark-is (left - 1) s p)) ∙ ap (λ (t : Rec). is "Nu" (kid 0 (kidsOf t))) (sym (type-kids m e .is)))
+      and-on refl refl (is-mark levels s at (mark "Tl") m)
+      (ap (λ (k : ℕ). eqb k (mark "Nu")) (f ∙ sym (mark-is (levels - 1) s p)) ∙ ap (λ (t : Rec). is "Nu" (kid 0 (kidsOf t))) (sym (type-kids m e .is)))
 
 -- ---- the expressions of a template
 
 -- n children are left from c on, of the record at `at`
-pub record Validating (left : ℕ) (s : List ℕ) (at n c : ℕ) : Type 0 where
-  pub kids : AllAccepted (left - 1) s n c
-  pub same : validAll (kidsOf (treeAt left s at)) ≡ validAll (rest left s n c)
+pub record Validating (levels : ℕ) (s : List ℕ) (at n c : ℕ) : Type 0 where
+  pub kids : AllAccepted (levels - 1) s n c
+  pub same : validAll (kidsOf (treeAt levels s at)) ≡ validAll (rest levels s n c)
 
 -- one of them
 abbrev pub validPart : Rec → Bool
 validPart r = (is "Qu" r || is "Op" r) || validEnumInitExpr r
 
-pub validating-start : (left : ℕ) (s : List ℕ) (at : ℕ) → AcceptedAt left s at → {n c : ℕ} → n ≡ countAt s at → c ≡ bodyAt s at → Validating left s at n c
-validating-start left s at a e f = rw (e, f) (record { kids = children left s at a; same = ap validAll (kids-are left s at a) })
+pub validating-start : (levels : ℕ) (s : List ℕ) (at : ℕ) → AcceptedAt levels s at → {n c : ℕ} → n ≡ countAt s at → c ≡ bodyAt s at → Validating levels s at n c
+validating-start levels s at a e f = rw (e, f) (record { kids = children levels s at a; same = ap validAll (kids-are levels s at a) })
 
-module _ {left : ℕ} {s : List ℕ} {at n c : ℕ} (l : Validating left s at n c) where
-  pub validating-first : 0 < n → AcceptedAt (left - 1) s c
-  validating-first h = first-one (left - 1) s n c (l .kids) h
+module _ {levels : ℕ} {s : List ℕ} {at n c : ℕ} (l : Validating levels s at n c) where
+  pub validating-first : 0 < n → AcceptedAt (levels - 1) s c
+  validating-first h = first-one (levels - 1) s n c (l .kids) h
 
-  validating-both : 0 < n → validAll (kidsOf (treeAt left s at)) ≡ (validPart (treeAt (left - 1) s c) && validAll (rest left s (n - 1) (endAt (left - 1) s c)))
+  validating-both : 0 < n → validAll (kidsOf (treeAt levels s at)) ≡ (validPart (treeAt (levels - 1) s c) && validAll (rest levels s (n - 1) (endAt (levels - 1) s c)))
   unfolding validAll
-  validating-both h = l .same ∙ ap validAll (rest-more left s n c h)
+  validating-both h = l .same ∙ ap validAll (rest-more levels s n c h)
 
-  pub validating-stop : 0 < n → {b : Bool} → b ≡ validPart (treeAt (left - 1) s c) → not b ≡ true → false ≡ validAll (kidsOf (treeAt left s at))
-  validating-stop h {b} e f = and-stop (validAll (rest left s (n - 1) (endAt (left - 1) s c))) (validating-both h) e (not-true b f)
+  pub validating-stop : 0 < n → {b : Bool} → b ≡ validPart (treeAt (levels - 1) s c) → not b ≡ true → false ≡ validAll (kidsOf (treeAt levels s at))
+  validating-stop h {b} e f = and-stop (validAll (rest levels s (n - 1) (endAt (levels - 1) s c))) (validating-both h) e (not-true b f)
 
-  pub validating-turn : 0 < n → {b : Bool} → b ≡ validPart (treeAt (left - 1) s c) → not b ≡ false → {d : ℕ} → d ≡ endAt (left - 1) s c → Validating left s at (n - 1) d
-  validating-turn h {b} e f g = rw g (record { kids = others (left - 1) s n c (l .kids) h; same = sym (and-on (validating-both h) e (not-false b f) refl) })
+  pub validating-turn : 0 < n → {b : Bool} → b ≡ validPart (treeAt (levels - 1) s c) → not b ≡ false → {d : ℕ} → d ≡ endAt (levels - 1) s c → Validating levels s at (n - 1) d
+  validating-turn h {b} e f g = rw g (record { kids = others (levels - 1) s n c (l .kids) h; same = sym (and-on (validating-both h) e (not-false b f) refl) })
 
-  pub validating-done : n ≤ 0 → true ≡ validAll (kidsOf (treeAt left s at))
+  pub validating-done : n ≤ 0 → true ≡ validAll (kidsOf (treeAt levels s at))
   unfolding validAll
-  validating-done h = sym (l .same ∙ ap validAll (rest-none left s n c h))
+  validating-done h = sym (l .same ∙ ap validAll (rest-none levels s n c h))
 
 -- a child of a template that is no expression, or is one
-module _ (left : ℕ) (s : List ℕ) (at : ℕ) where
-  pub part-other : (markAt s at ≡ mark "Op") ⊎ (markAt s at ≡ mark "Qu") → true ≡ validPart (treeAt left s at)
-  part-other = ⊎-elim (λ e. go (is "Qu" (treeAt left s at)) (is-mark left s at (mark "Op") e)) (λ e. rw (is-mark left s at (mark "Qu") e))
+module _ (levels : ℕ) (s : List ℕ) (at : ℕ) where
+  pub part-other : (markAt s at ≡ mark "Op") ⊎ (markAt s at ≡ mark "Qu") → true ≡ validPart (treeAt levels s at)
+  part-other = ⊎-elim (λ e. go (is "Qu" (treeAt levels s at)) (is-mark levels s at (mark "Op") e)) (λ e. rw (is-mark levels s at (mark "Qu") e))
     where
-      go : (b : Bool) → is "Op" (treeAt left s at) ≡ true → true ≡ ((b || is "Op" (treeAt left s at)) || validEnumInitExpr (treeAt left s at))
+      go : (b : Bool) → is "Op" (treeAt levels s at) ≡ true → true ≡ ((b || is "Op" (treeAt levels s at)) || validEnumInitExpr (treeAt levels s at))
       go true q = refl
       go false q = rw q
 
-  pub part-expr : ((markAt s at ≡ mark "Op") ⊎ (markAt s at ≡ mark "Qu") → ⊥) → {b : Bool} → b ≡ validEnumInitExpr (treeAt left s at) → b ≡ validPart (treeAt left s at)
-  part-expr n e = rw (not-mark left s at (mark "Qu") (λ q. n (inr q)), not-mark left s at (mark "Op") (λ q. n (inl q))) e
+  pub part-expr : ((markAt s at ≡ mark "Op") ⊎ (markAt s at ≡ mark "Qu") → ⊥) → {b : Bool} → b ≡ validEnumInitExpr (treeAt levels s at) → b ≡ validPart (treeAt levels s at)
+  part-expr n e = rw (not-mark levels s at (mark "Qu") (λ q. n (inr q)), not-mark levels s at (mark "Op") (λ q. n (inl q))) e
 
 -- ---- the init of a member
 
-module _ (left : ℕ) (s : List ℕ) (at n : ℕ) where
-  pub init-none : markAt s at ≡ mark "No" → treeAt left s at ≡ enumInit (treeAt left s at) n .0
+module _ (levels : ℕ) (s : List ℕ) (at n : ℕ) where
+  pub init-none : markAt s at ≡ mark "No" → treeAt levels s at ≡ enumInit (treeAt levels s at) n .0
   unfolding enumInit
-  init-none e = rw (is-mark left s at (mark "No") e)
+  init-none e = rw (is-mark levels s at (mark "No") e)
 
-  pub init-kept : (markAt s at ≡ mark "No" → ⊥) → {b : Bool} → b ≡ validEnumInitExpr (treeAt left s at) → b ≡ true → treeAt left s at ≡ enumInit (treeAt left s at) n .0
+  pub init-kept : (markAt s at ≡ mark "No" → ⊥) → {b : Bool} → b ≡ validEnumInitExpr (treeAt levels s at) → b ≡ true → treeAt levels s at ≡ enumInit (treeAt levels s at) n .0
   unfolding enumInit
-  init-kept m e f = let z = sym e ∙ f in rw (not-mark left s at (mark "No") m, z)
+  init-kept m e f = let z = sym e ∙ f in rw (not-mark levels s at (mark "No") m, z)
 
-  pub init-gone : (markAt s at ≡ mark "No" → ⊥) → {b : Bool} → b ≡ validEnumInitExpr (treeAt left s at) → b ≡ false → absent ≡ enumInit (treeAt left s at) n .0
+  pub init-gone : (markAt s at ≡ mark "No" → ⊥) → {b : Bool} → b ≡ validEnumInitExpr (treeAt levels s at) → b ≡ false → absent ≡ enumInit (treeAt levels s at) n .0
   unfolding enumInit
-  init-gone m e f = let z = sym e ∙ f in rw (not-mark left s at (mark "No") m, z)
+  init-gone m e f = let z = sym e ∙ f in rw (not-mark levels s at (mark "No") m, z)
 
   -- ---- a member, or another child of an En
 
-  pub member-other : (markAt s at ≡ mark "Em" → ⊥) → treeAt left s at ≡ enumMember (treeAt left s at) n .0
+  pub member-other : (markAt s at ≡ mark "Em" → ⊥) → treeAt levels s at ≡ enumMember (treeAt levels s at) n .0
   unfolding enumMember
-  member-other m = rw (not-mark left s at (mark "Em") m)
+  member-other m = rw (not-mark levels s at (mark "Em") m)
 
-  pub member-is : markAt s at ≡ mark "Em" → second enumInit (treeAt left s at) n .0 ≡ enumMember (treeAt left s at) n .0
+  pub member-is : markAt s at ≡ mark "Em" → second enumInit (treeAt levels s at) n .0 ≡ enumMember (treeAt levels s at) n .0
   unfolding enumMember
-  member-is m = rw (is-mark left s at (mark "Em") m)
+  member-is m = rw (is-mark levels s at (mark "Em") m)
 
-pub em-kids : (left : ℕ) (s : List ℕ) (at : ℕ) → AcceptedAt left s at → markAt s at ≡ mark "Em" → {p0 p1 : ℕ} → p0 ≡ bodyAt s at → p1 ≡ endAt (left - 1) s p0 → {p2 : ℕ} → p2 ≡ endAt (left - 1) s p1 → Two left s at p0 p1 p2
-em-kids left s at a m e f g = kids-two left s at a (has (mark "Em") left s at a m) e f g
+pub em-kids : (levels : ℕ) (s : List ℕ) (at : ℕ) → AcceptedAt levels s at → markAt s at ≡ mark "Em" → {p0 p1 : ℕ} → p0 ≡ bodyAt s at → p1 ≡ endAt (levels - 1) s p0 → {p2 : ℕ} → p2 ≡ endAt (levels - 1) s p1 → Two levels s at p0 p1 p2
+em-kids levels s at a m e f g = kids-two levels s at a (has (mark "Em") levels s at a m) e f g
 
 -- ---- the members, one after the other
 
@@ -309,42 +308,42 @@ members-cons r rs n =
     ∙ ap (λ (o : Out Recs). cons (enumMember r n .0) (o .0)) (each-anywhere enumMember 1 0 rs n)
 
 -- k are left from c on, of the n from `at` on
-pub record Members (left : ℕ) (tree : List ℕ) (at n : ℕ) (o0 o : List ℕ) (s0 s : State) (k c : ℕ) : Type 0 where
-  pub kids : AllAccepted left tree k c
+pub record Members (levels : ℕ) (tree : List ℕ) (at n : ℕ) (o0 o : List ℕ) (s0 s : State) (k c : ℕ) : Type 0 where
+  pub kids : AllAccepted levels tree k c
   pub size : length o ≡ length o0
   pub same : s .n ≡ s0 .n
   pub made : Recs
-  pub sum : membersOf (recordsAt left tree n at) (s0 .n) ≡ join made (membersOf (recordsAt left tree k c) (s0 .n))
+  pub sum : membersOf (recordsAt levels tree n at) (s0 .n) ≡ join made (membersOf (recordsAt levels tree k c) (s0 .n))
   pub put : KeepsAll o0 o s0 s made
 
-module _ (left : ℕ) (tree : List ℕ) (at n : ℕ) where
-  pub members-start : AllAccepted left tree n at → (o : List ℕ) (s : State) → s .p ≤ top → Members left tree at n o o s s n at
+module _ (levels : ℕ) (tree : List ℕ) (at n : ℕ) where
+  pub members-start : AllAccepted levels tree n at → (o : List ℕ) (s : State) → s .p ≤ top → Members levels tree at n o o s s n at
   unfolding encodes allTextsFit
   members-start a o s h = record { kids = a; size = refl; same = refl; made = nil; sum = refl; put = puts-none o s h }
 
-  module _ {o0 o : List ℕ} {s0 s : State} {k c : ℕ} (l : Members left tree at n o0 o s0 s k c) where
-    pub members-first : 0 < k → AcceptedAt left tree c
-    members-first h = first-one left tree k c (l .kids) h
+  module _ {o0 o : List ℕ} {s0 s : State} {k c : ℕ} (l : Members levels tree at n o0 o s0 s k c) where
+    pub members-first : 0 < k → AcceptedAt levels tree c
+    members-first h = first-one levels tree k c (l .kids) h
 
-    pub members-turn : length o0 < 2 ^ 64 → 0 < k → {o' : List ℕ} {s' : State} → Keeps o o' s s' (enumMember (treeAt left tree c) (s .n) .0) → {d : ℕ} → d ≡ endAt left tree c → Members left tree at n o0 o' s0 s' (k - 1) d
+    pub members-turn : length o0 < 2 ^ 64 → 0 < k → {o' : List ℕ} {s' : State} → Keeps o o' s s' (enumMember (treeAt levels tree c) (s .n) .0) → {d : ℕ} → d ≡ endAt levels tree c → Members levels tree at n o0 o' s0 s' (k - 1) d
     members-turn b h {o'} {s'} w e =
-        let t : Rec = enumMember (treeAt left tree c) (s0 .n) .0 in
-        let w' : Keeps o o' s s' t = subst (λ (m : ℕ). Keeps o o' s s' (enumMember (treeAt left tree c) m .0)) (l .same) w in
+        let t : Rec = enumMember (treeAt levels tree c) (s0 .n) .0 in
+        let w' : Keeps o o' s s' t = subst (λ (m : ℕ). Keeps o o' s s' (enumMember (treeAt levels tree c) m .0)) (l .same) w in
         rw e (record {
-          kids = others left tree k c (l .kids) h;
-          size = ap length (w .put .bytes) ∙ (length-sets o (s .p) (encode (enumMember (treeAt left tree c) (s .n) .0)) ∙ l .size);
+          kids = others levels tree k c (l .kids) h;
+          size = ap length (w .put .bytes) ∙ (length-sets o (s .p) (encode (enumMember (treeAt levels tree c) (s .n) .0)) ∙ l .size);
           same = puts-counter w ∙ l .same;
           made = join (l .made) (one t);
-          sum = l .sum ∙ (ap (λ (ks : Recs). join (l .made) (membersOf ks (s0 .n))) (readAll-more (treeAt left tree) (endAt left tree) k c h)
-              ∙ (ap (join (l .made)) (members-cons (treeAt left tree c) (recordsAt left tree (k - 1) (endAt left tree c)) (s0 .n))
-              ∙ sym (join-assoc (l .made) (one t) (membersOf (recordsAt left tree (k - 1) (endAt left tree c)) (s0 .n)))));
+          sum = l .sum ∙ (ap (λ (ks : Recs). join (l .made) (membersOf ks (s0 .n))) (readAll-more (treeAt levels tree) (endAt levels tree) k c h)
+              ∙ (ap (join (l .made)) (members-cons (treeAt levels tree c) (recordsAt levels tree (k - 1) (endAt levels tree c)) (s0 .n))
+              ∙ sym (join-assoc (l .made) (one t) (membersOf (recordsAt levels tree (k - 1) (endAt levels tree c)) (s0 .n)))));
           put = puts-to (puts-puts b (l .put) w')
               (ap (λ (E : List ℕ). encodes (l .made) ++ E) (sym (encodes-one t)) ∙ sym (encodes-join (l .made) (one t)))
               (ap (λ (f : Bool). allTextsFit (l .made) && f) (sym (all-one t)) ∙ sym (all-join (l .made) (one t)));
         })
 
-    pub members-done : k ≤ 0 → KeepsAll o0 o s0 s (membersOf (recordsAt left tree n at) (s0 .n))
+    pub members-done : k ≤ 0 → KeepsAll o0 o s0 s (membersOf (recordsAt levels tree n at) (s0 .n))
     unfolding each
     members-done h =
         subst (λ (ts : Recs). KeepsAll o0 o s0 s ts)
-        (sym (l .sum ∙ (ap (λ (ks : Recs). join (l .made) (membersOf ks (s0 .n))) (readAll-none (treeAt left tree) (endAt left tree) k c h) ∙ join-nil (l .made)))) (l .put)
+        (sym (l .sum ∙ (ap (λ (ks : Recs). join (l .made) (membersOf ks (s0 .n))) (readAll-none (treeAt levels tree) (endAt levels tree) k c h) ∙ join-nil (l .made)))) (l .put)

@@ -1,5 +1,4 @@
 -- Items, declarations and namespaces: the arms of the definition from the marks at offsets, the scope of an item, and the loop over items.
--- Assumes nothing.
 use mathlib.Core.Path.{_≡_, refl, sym, ap, _∙_, subst}
 use mathlib.Core.List.{List, [], _∷_, _++_, append-nil, append-assoc}
 use mathlib.Core.Bool.{Bool, true, false, cond, _&&_}
@@ -59,55 +58,55 @@ use Rattle.items.proofs.Exports.{whole}
 
 -- ---- the scope of an item
 
-module _ (scope : Scope) (left at end : ℕ) where
-  pub scope-own : left ≡ deepest - 1 → record { unresolved = scope .unresolved; item = at; end = end } ≡ scopeAt scope left at end
-  scope-own e = rw (eq-eqb left (deepest - 1) e)
+module _ (scope : Scope) (levels at end : ℕ) where
+  pub scope-own : levels ≡ deepest - 1 → record { unresolved = scope .unresolved; item = at; end = end } ≡ scopeAt scope levels at end
+  scope-own e = rw (eq-eqb levels (deepest - 1) e)
 
-  pub scope-same : (left ≡ deepest - 1 → ⊥) → scope ≡ scopeAt scope left at end
-  scope-same e = rw (ne-eqb left (deepest - 1) e)
+  pub scope-same : (levels ≡ deepest - 1 → ⊥) → scope ≡ scopeAt scope levels at end
+  scope-same e = rw (ne-eqb levels (deepest - 1) e)
 
-  scope-context : scopeAt scope left at end .unresolved ≡ scope .unresolved
-  scope-context = go (eqb left (deepest - 1))
+  scope-context : scopeAt scope levels at end .unresolved ≡ scope .unresolved
+  scope-context = go (eqb levels (deepest - 1))
     where
       go : (b : Bool) → cond b (record { unresolved = scope .unresolved; item = at; end = end }) scope .unresolved ≡ scope .unresolved
       go true = refl
       go false = refl
 
-  scope-skips : (tree : List ℕ) → Skips tree scope → end ≡ endAt left tree at → Skips tree (scopeAt scope left at end)
-  scope-skips tree s e = go (eqb left (deepest - 1)) refl
+  scope-skips : (tree : List ℕ) → Skips tree scope → end ≡ endAt levels tree at → Skips tree (scopeAt scope levels at end)
+  scope-skips tree s e = go (eqb levels (deepest - 1)) refl
     where
-      go : (b : Bool) → eqb left (deepest - 1) ≡ b → Skips tree (cond b (record { unresolved = scope .unresolved; item = at; end = end }) scope)
-      go true q = e ∙ ap (λ (k : ℕ). endAt k tree at) (eqb-true left (deepest - 1) q)
+      go : (b : Bool) → eqb levels (deepest - 1) ≡ b → Skips tree (cond b (record { unresolved = scope .unresolved; item = at; end = end }) scope)
+      go true q = e ∙ ap (λ (k : ℕ). endAt k tree at) (eqb-true levels (deepest - 1) q)
       go false q = s
 
   -- what an item is asked in its scope, and what it gives there
-  pub item-ready : {tree : List ℕ} {n c m : ℕ} → ReadyAll left tree n c m scope → AcceptedAt left tree at → {k : ℕ} → k ≤ at → end ≡ endAt left tree at → {here : Scope} → here ≡ scopeAt scope left at end → Ready left tree at k here
+  pub item-ready : {tree : List ℕ} {n c m : ℕ} → ReadyAll levels tree n c m scope → AcceptedAt levels tree at → {k : ℕ} → k ≤ at → end ≡ endAt levels tree at → {here : Scope} → here ≡ scopeAt scope levels at end → Ready levels tree at k here
   item-ready {tree} r a h e f = rw f (record { accepted = a; root = r .root; low = h; skips = scope-skips tree (r .skips) e })
 
-  pub item-same : (list tree : List ℕ) (top : Bool) (r : Rec) (n : ℕ) {here : Scope} → here ≡ scopeAt scope left at end → itemOf list tree here top r n ≡ itemOf list tree scope top r n
+  pub item-same : (list tree : List ℕ) (top : Bool) (r : Rec) (n : ℕ) {here : Scope} → here ≡ scopeAt scope levels at end → itemOf list tree here top r n ≡ itemOf list tree scope top r n
   item-same list tree top r n e =
       ap (λ (here : Scope). itemOf list tree here top r n) e
       ∙ ap (λ (ctx : ℕ). itemOf list tree (record { unresolved = ctx; item = scope .item; end = scope .end }) top r n) scope-context
 
 -- ---- the children
 
-module _ (left : ℕ) (s : List ℕ) (at : ℕ) (a : AcceptedAt left s at) where
-  pub ed-kids : markAt s at ≡ mark "Ed" → {p0 p1 : ℕ} → p0 ≡ bodyAt s at → p1 ≡ endAt (left - 1) s p0 → One left s at p0 p1
-  ed-kids m e f = kids-one left s at a (has (mark "Ed") left s at a m) e f
+module _ (levels : ℕ) (s : List ℕ) (at : ℕ) (a : AcceptedAt levels s at) where
+  pub ed-kids : markAt s at ≡ mark "Ed" → {p0 p1 : ℕ} → p0 ≡ bodyAt s at → p1 ≡ endAt (levels - 1) s p0 → One levels s at p0 p1
+  ed-kids m e f = kids-one levels s at a (has (mark "Ed") levels s at a m) e f
 
-  pub ns-kids : markAt s at ≡ mark "Ns" → {p0 p1 p2 : ℕ} → p0 ≡ bodyAt s at → p1 ≡ endAt (left - 1) s p0 → p2 ≡ endAt (left - 1) s p1 → Two left s at p0 p1 p2
-  ns-kids m e f g = kids-two left s at a (has (mark "Ns") left s at a m) e f g
+  pub ns-kids : markAt s at ≡ mark "Ns" → {p0 p1 p2 : ℕ} → p0 ≡ bodyAt s at → p1 ≡ endAt (levels - 1) s p0 → p2 ≡ endAt (levels - 1) s p1 → Two levels s at p0 p1 p2
+  ns-kids m e f g = kids-two levels s at a (has (mark "Ns") levels s at a m) e f g
 
-  pub nd-kids : markAt s at ≡ mark "Nd" → {p0 p1 p2 : ℕ} → p0 ≡ bodyAt s at → p1 ≡ endAt (left - 1) s p0 → p2 ≡ endAt (left - 1) s p1 → Two left s at p0 p1 p2
-  nd-kids m e f g = kids-two left s at a (has (mark "Nd") left s at a m) e f g
+  pub nd-kids : markAt s at ≡ mark "Nd" → {p0 p1 p2 : ℕ} → p0 ≡ bodyAt s at → p1 ≡ endAt (levels - 1) s p0 → p2 ≡ endAt (levels - 1) s p1 → Two levels s at p0 p1 p2
+  nd-kids m e f g = kids-two levels s at a (has (mark "Nd") levels s at a m) e f g
 
 -- a count fits
 pub count-small : (s : List ℕ) (at : ℕ) → ((i : ℕ) → mir.Val.Fits w8 (getD s i 0)) → {h : Fields} → h ≡ fieldsAt s at → h .count < 65536
 count-small s at known e = rw e (head-count-small s at (slice-bytes s known))
 
 -- what a test tells of the mark at an offset, said of the record
-pub mark-of : (left : ℕ) (tree : List ℕ) (at : ℕ) {m : ℕ} → m ≡ markAt tree at → m ≡ markOf (treeAt left tree at)
-mark-of left tree at e = e ∙ sym (mark-is left tree at)
+pub mark-of : (levels : ℕ) (tree : List ℕ) (at : ℕ) {m : ℕ} → m ≡ markAt tree at → m ≡ markOf (treeAt levels tree at)
+mark-of levels tree at e = e ∙ sym (mark-is levels tree at)
 
 pub told-in : (P : ℕ → Type 0) {m x : ℕ} → m ≡ x → P m → P x
 told-in P e p = subst P e p
@@ -334,9 +333,9 @@ module _ (list tree : List ℕ) (scope : Scope) (top : Bool) (r : Rec) (n : ℕ)
       → stmtWith (headOf r) (declOf list tree scope top r n) ≡ stmtOf list tree scope top r n
   stmt-made e q m = stmt-by (declKind (markOf r)) (fn-told e ∙ q) m
 
-pub stmt-told : (list : List ℕ) (left : ℕ) (tree : List ℕ) (at : ℕ) {b : Bool} → b ≡ (eqb (markAt tree at) (mark "Fd") && listed list (headAt tree at))
-    → b ≡ (eqb (markOf (treeAt left tree at)) (mark "Fd") && listed list (headOf (treeAt left tree at)))
-stmt-told list left tree at e = e ∙ λ i. eqb (sym (mark-is left tree at) i) (mark "Fd") && listed list (sym (head-is left tree at) i)
+pub stmt-told : (list : List ℕ) (levels : ℕ) (tree : List ℕ) (at : ℕ) {b : Bool} → b ≡ (eqb (markAt tree at) (mark "Fd") && listed list (headAt tree at))
+    → b ≡ (eqb (markOf (treeAt levels tree at)) (mark "Fd") && listed list (headOf (treeAt levels tree at)))
+stmt-told list levels tree at e = e ∙ λ i. eqb (sym (mark-is levels tree at) i) (mark "Fd") && listed list (sym (head-is levels tree at) i)
 
 -- which become another
 abbrev pub Made : ℕ → Type 0
@@ -395,8 +394,8 @@ module _ (list tree : List ℕ) (scope : Scope) (top : Bool) (r : Rec) (n : ℕ)
     decl-module m = rw f (decl-by dModule (kind-module (markOf r) m))
 
 -- the flags, as they were read and changed
-pub flags-made : (left : ℕ) (tree : List ℕ) (at : ℕ) (top : Bool) {h : Fields} {f : ℕ} → h ≡ fieldsAt tree at → f ≡ flag1 top (h .flags) → f ≡ flag1 top (headOf (treeAt left tree at) .flags)
-flags-made left tree at top e f = f ∙ ap (flag1 top) (ap (λ (x : Fields). x .flags) e ∙ sym (flags-is left tree at))
+pub flags-made : (levels : ℕ) (tree : List ℕ) (at : ℕ) (top : Bool) {h : Fields} {f : ℕ} → h ≡ fieldsAt tree at → f ≡ flag1 top (h .flags) → f ≡ flag1 top (headOf (treeAt levels tree at) .flags)
+flags-made levels tree at top e f = f ∙ ap (flag1 top) (ap (λ (x : Fields). x .flags) e ∙ sym (flags-is levels tree at))
 
 -- the members of an En, as a step
 pub members-silent : (flags : ℕ) (r : Rec) (n : ℕ) → pure (some (withMembers flags r n .0)) n ≡ onValue some (withMembers flags r n)
@@ -411,9 +410,9 @@ did-made w e = did-as (did-some (w .step)) e
 pub did-kept : {o o' : List ℕ} (g : List ℕ) {s s' : State} {t : Rec} {y : Out (Option Rec)} → Keeps o o' s s' t → s .d ≤ highest → pure (some t) (s .n) ≡ y → Did o o' g g s (Some s') y
 did-kept g w d e = did-made (makes-keeps g w d) e
 
-pub did-marked : (o : List ℕ) {g g' : List ℕ} {s s' : State} {y : Out (Option Rec)} (left : ℕ) (tree : List ℕ) (at : ℕ) → Marks g g' s s' (diagAt tree at (mark "d5")) → s .p ≤ highest
-    → (none, diag "d5" (headOf (treeAt left tree at)) ∷ [], s .n) ≡ y → Did o o g g' s (None s') y
-did-marked o {s = s} left tree at w p e = did-as (did-none (step-marks o w p)) (ap (λ (d : Diag). (none, d ∷ [], s .n)) (diag-is "d5" left tree at) ∙ e)
+pub did-marked : (o : List ℕ) {g g' : List ℕ} {s s' : State} {y : Out (Option Rec)} (levels : ℕ) (tree : List ℕ) (at : ℕ) → Marks g g' s s' (diagAt tree at (mark "d5")) → s .p ≤ highest
+    → (none, diag "d5" (headOf (treeAt levels tree at)) ∷ [], s .n) ≡ y → Did o o g g' s (None s') y
+did-marked o {s = s} levels tree at w p e = did-as (did-none (step-marks o w p)) (ap (λ (d : Diag). (none, d ∷ [], s .n)) (diag-is "d5" levels tree at) ∙ e)
 
 -- ---- an Ed
 
@@ -441,72 +440,72 @@ module _ (list tree : List ℕ) (scope : Scope) (top : Bool) (h : Head) (ops : R
   exported-is r n =
       ap (λ (b : Bool). ifM (b && listed list h) (pure nil) (λ n. exportWith h ops (declOf list tree scope top r n)) n) (is-fn (markOf r)) ∙ (export-by r n (declKind (markOf r)) ∙ exported-rec r n)
 
-module _ (list tree : List ℕ) (scope : Scope) (top : Bool) (left at : ℕ) {p0 p1 : ℕ} (u : One left tree at p0 p1) where
+module _ (list tree : List ℕ) (scope : Scope) (top : Bool) (levels at : ℕ) {p0 p1 : ℕ} (u : One levels tree at p0 p1) where
   -- the declaration, once it has become another, or none
   abbrev exportMade : ℕ → Out Recs
-  exportMade n = exportWith (headAt tree at) (rest left tree (countAt tree at - 1) p1) (declOf list tree scope top (treeAt (left - 1) tree p0) n)
+  exportMade n = exportWith (headAt tree at) (rest levels tree (countAt tree at - 1) p1) (declOf list tree scope top (treeAt (levels - 1) tree p0) n)
 
-  export-is : (n : ℕ) → ifM (eqb (markAt tree p0) (mark "Fd") && listed list (headAt tree at)) (pure nil) exportMade n ≡ exportOf list tree scope top (treeAt left tree at) n
+  export-is : (n : ℕ) → ifM (eqb (markAt tree p0) (mark "Fd") && listed list (headAt tree at)) (pure nil) exportMade n ≡ exportOf list tree scope top (treeAt levels tree at) n
   export-is n =
-      ap (λ (m : ℕ). ifM (eqb m (mark "Fd") && listed list (headAt tree at)) (pure nil) exportMade n) (sym (mark-is (left - 1) tree p0))
-      ∙ (exported-is list tree scope top (headAt tree at) (rest left tree (countAt tree at - 1) p1) (treeAt (left - 1) tree p0) n ∙ ap (λ (r : Rec). exportOf list tree scope top r n) (sym (u .is)))
+      ap (λ (m : ℕ). ifM (eqb m (mark "Fd") && listed list (headAt tree at)) (pure nil) exportMade n) (sym (mark-is (levels - 1) tree p0))
+      ∙ (exported-is list tree scope top (headAt tree at) (rest levels tree (countAt tree at - 1) p1) (treeAt (levels - 1) tree p0) n ∙ ap (λ (r : Rec). exportOf list tree scope top r n) (sym (u .is)))
 
   module _ {b : Bool} (e : b ≡ (eqb (markAt tree p0) (mark "Fd") && listed list (headAt tree at))) where
-    pub export-gone : (n : ℕ) → b ≡ true → exportOf list tree scope top (treeAt left tree at) n ≡ (nil, [], n)
+    pub export-gone : (n : ℕ) → b ≡ true → exportOf list tree scope top (treeAt levels tree at) n ≡ (nil, [], n)
     export-gone n q = sym (export-is n) ∙ ap (λ (b : Bool). ifM b (pure nil) exportMade n) (sym e ∙ q)
 
-    export-stays : (n : ℕ) → b ≡ false → exportMade n ≡ exportOf list tree scope top (treeAt left tree at) n
+    export-stays : (n : ℕ) → b ≡ false → exportMade n ≡ exportOf list tree scope top (treeAt levels tree at) n
     export-stays n q = sym (ap (λ (b : Bool). ifM b (pure nil) exportMade n) (sym e ∙ q)) ∙ export-is n
 
     module _ (q : b ≡ false) {o o1 o2 g g' : List ℕ} {s s1 : State} {t : Typed} (d : s .d ≤ highest) {h : Fields} (f : h ≡ fieldsAt tree at)
-        (v : Puts o o1 s s1 (frontBytes (withFlags (headAt tree at) (h .flags)) (h .count)) true) (w : Did o1 o2 g g' s1 t (declOf list tree scope top (treeAt (left - 1) tree p0) (s1 .n))) where
-      export-now : exportMade (s1 .n) ≡ exportOf list tree scope top (treeAt left tree at) (s .n)
+        (v : Puts o o1 s s1 (frontBytes (withFlags (headAt tree at) (h .flags)) (h .count)) true) (w : Did o1 o2 g g' s1 t (declOf list tree scope top (treeAt (levels - 1) tree p0) (s1 .n))) where
+      export-now : exportMade (s1 .n) ≡ exportOf list tree scope top (treeAt levels tree at) (s .n)
       export-now = ap exportMade (puts-counter v) ∙ export-stays (s .n) q
 
-      pub export-some : AcceptedAt left tree at → ((i : ℕ) → mir.Val.Fits w8 (getD tree i 0)) → {o3 : List ℕ} {made next : State} → t ≡ Some made → KeepsAll o2 o3 made next (rest left tree (h .count - 1) p1)
-          → Gives o o3 g g' s (record { s = next; count = 1 }) (exportOf list tree scope top (treeAt left tree at) (s .n))
+      pub export-some : AcceptedAt levels tree at → ((i : ℕ) → mir.Val.Fits w8 (getD tree i 0)) → {o3 : List ℕ} {made next : State} → t ≡ Some made → KeepsAll o2 o3 made next (rest levels tree (h .count - 1) p1)
+          → Gives o o3 g g' s (record { s = next; count = 1 }) (exportOf list tree scope top (treeAt levels tree at) (s .n))
       export-some a known z c =
-          let i : IsSome o1 o2 g g' s1 _ (declOf list tree scope top (treeAt (left - 1) tree p0) (s1 .n)) = is-some w z in
-          let x : Out (Option Rec) = declOf list tree scope top (treeAt (left - 1) tree p0) (s1 .n) in
-          let ops : Recs = rest left tree (countAt tree at - 1) p1 in
+          let i : IsSome o1 o2 g g' s1 _ (declOf list tree scope top (treeAt (levels - 1) tree p0) (s1 .n)) = is-some w z in
+          let x : Out (Option Rec) = declOf list tree scope top (treeAt (levels - 1) tree p0) (s1 .n) in
+          let ops : Recs = rest levels tree (countAt tree at - 1) p1 in
           gives-as
-          (gives-one (makes-front (headAt tree at) (front-as tree at f v) (u .many) (all-rest (makes (i .step)) (kept-as tree at f (left - 1) 1 p1 c)) (head-short left tree at a known) d))
+          (gives-one (makes-front (headAt tree at) (front-as tree at f v) (u .many) (all-rest (makes (i .step)) (kept-as tree at f (levels - 1) 1 p1 c)) (head-short levels tree at a known) d))
           (ap (λ (y : Option Rec). given y (nil, x .1 ++ (diag "d1" (headAt tree at) ∷ []), x .2) (λ d. (one (rec (headAt tree at) (cons d ops)), x .1, x .2))) (sym (i .same)) ∙ export-now)
 
       pub export-none : {failed back : State} {g'' : List ℕ} {r : Counted} → t ≡ None failed → s .p ≤ highest → back ≡ backTo s failed → Marks g' g'' back (r .s) (diagAt tree at (mark "d1")) → r .count ≡ 0
-          → Gives o o2 g g'' s r (exportOf list tree scope top (treeAt left tree at) (s .n))
+          → Gives o o2 g g'' s r (exportOf list tree scope top (treeAt levels tree at) (s .n))
       unfolding headAt encodes allTextsFit
       export-none {failed} {back} {g''} {r} z p y m k =
-          let x : Out (Option Rec) = declOf list tree scope top (treeAt (left - 1) tree p0) (s1 .n) in
+          let x : Out (Option Rec) = declOf list tree scope top (treeAt (levels - 1) tree p0) (s1 .n) in
           let i : IsNone o1 o2 g g' s1 failed x = is-none w z in
           let m' : Marks g' g'' (backTo s failed) (r .s) (diagAt tree at (mark "d1")) = subst (λ (b : State). Marks g' g'' b (r .s) (diagAt tree at (mark "d1"))) y m in
           let all = step-then (step-back p (step-then (step-puts g v d) (i .step))) (step-marks o2 m' p) in
           let made : Gives o o2 g g'' s r (nil, x .1 ++ (diagAt tree at (mark "d1") ∷ []), x .2) = record { many = k; step = step-as all refl refl (i .step .counter) refl } in
           gives-as made
-          (ap (λ (y : Option Rec). given y (nil, x .1 ++ (diag "d1" (headAt tree at) ∷ []), x .2) (λ d. (one (rec (headAt tree at) (cons d (rest left tree (countAt tree at - 1) p1))), x .1, x .2))) (sym (i .same)) ∙ export-now)
+          (ap (λ (y : Option Rec). given y (nil, x .1 ++ (diag "d1" (headAt tree at) ∷ []), x .2) (λ d. (one (rec (headAt tree at) (cons d (rest levels tree (countAt tree at - 1) p1))), x .1, x .2))) (sym (i .same)) ∙ export-now)
 
 -- ---- a statement, once its declaration has become another, or none
 
-module _ (list tree : List ℕ) (scope : Scope) (top : Bool) (left at : ℕ) {o o' g g' : List ℕ} {s : State} {t : Typed} (w : Did o o' g g' s t (declOf list tree scope top (treeAt left tree at) (s .n)))
-    (e : stmtWith (headOf (treeAt left tree at)) (declOf list tree scope top (treeAt left tree at) (s .n)) ≡ stmtOf list tree scope top (treeAt left tree at) (s .n)) where
-  pub stmt-some : {next : State} → t ≡ Some next → Gives o o' g g' s (record { s = next; count = 1 }) (stmtOf list tree scope top (treeAt left tree at) (s .n))
+module _ (list tree : List ℕ) (scope : Scope) (top : Bool) (levels at : ℕ) {o o' g g' : List ℕ} {s : State} {t : Typed} (w : Did o o' g g' s t (declOf list tree scope top (treeAt levels tree at) (s .n)))
+    (e : stmtWith (headOf (treeAt levels tree at)) (declOf list tree scope top (treeAt levels tree at) (s .n)) ≡ stmtOf list tree scope top (treeAt levels tree at) (s .n)) where
+  pub stmt-some : {next : State} → t ≡ Some next → Gives o o' g g' s (record { s = next; count = 1 }) (stmtOf list tree scope top (treeAt levels tree at) (s .n))
   stmt-some {next} z =
-      let x : Out (Option Rec) = declOf list tree scope top (treeAt left tree at) (s .n) in
+      let x : Out (Option Rec) = declOf list tree scope top (treeAt levels tree at) (s .n) in
       let i : IsSome o o' g g' s next x = is-some w z in
       gives-as (gives-one (makes (i .step)))
-      (ap (λ (y : Option Rec). given y (nil, x .1 ++ (diag "d1" (headOf (treeAt left tree at)) ∷ []), x .2) (λ d. (one d, x .1, x .2))) (sym (i .same)) ∙ e)
+      (ap (λ (y : Option Rec). given y (nil, x .1 ++ (diag "d1" (headOf (treeAt levels tree at)) ∷ []), x .2) (λ d. (one d, x .1, x .2))) (sym (i .same)) ∙ e)
 
   pub stmt-none : {failed : State} {g'' : List ℕ} {r : Counted} → t ≡ None failed → Marks g' g'' failed (r .s) (diagAt tree at (mark "d1")) → r .count ≡ 0
-      → Gives o o' g g'' s r (stmtOf list tree scope top (treeAt left tree at) (s .n))
+      → Gives o o' g g'' s r (stmtOf list tree scope top (treeAt levels tree at) (s .n))
   unfolding encodes allTextsFit
   stmt-none {failed} {g''} {r} z m k =
-      let x : Out (Option Rec) = declOf list tree scope top (treeAt left tree at) (s .n) in
+      let x : Out (Option Rec) = declOf list tree scope top (treeAt levels tree at) (s .n) in
       let i : IsNone o o' g g' s failed x = is-none w z in
       let p : failed .p ≤ highest = (let y = i .step .ran .atp in omega arith) in
       let made : Gives o o' g g'' s r (nil, x .1 ++ (diagAt tree at (mark "d1") ∷ []), x .2) = record { many = k; step = step-as (step-then (i .step) (step-marks o' m p)) refl refl (i .step .counter) refl } in
       gives-as made
-      (ap (λ (d : Diag). (nil, x .1 ++ (d ∷ []), x .2)) (diag-is "d1" left tree at)
-      ∙ (ap (λ (y : Option Rec). given y (nil, x .1 ++ (diag "d1" (headOf (treeAt left tree at)) ∷ []), x .2) (λ d. (one d, x .1, x .2))) (sym (i .same)) ∙ e))
+      (ap (λ (d : Diag). (nil, x .1 ++ (d ∷ []), x .2)) (diag-is "d1" levels tree at)
+      ∙ (ap (λ (y : Option Rec). given y (nil, x .1 ++ (diag "d1" (headOf (treeAt levels tree at)) ∷ []), x .2) (λ d. (one d, x .1, x .2))) (sym (i .same)) ∙ e))
 
 -- ---- the body of a namespace
 
@@ -536,54 +535,54 @@ module _ (list tree : List ℕ) (scope : Scope) (r : Rec) (n : ℕ) where
   unfolding bodyBy
   body-other a b = ap (λ (r : Rec). pure r n) (sym (whole r)) ∙ body-by bOther (kind-other (markOf r) a b)
 
-module _ (list tree : List ℕ) (scope : Scope) (left at : ℕ) {p0 p1 p2 : ℕ} (u : Two left tree at p0 p1 p2) (n : ℕ) where
+module _ (list tree : List ℕ) (scope : Scope) (levels at : ℕ) {p0 p1 p2 : ℕ} (u : Two levels tree at p0 p1 p2) (n : ℕ) where
   -- "Nd is replaced by its innermost Nb"
-  pub nested-is : markAt tree at ≡ mark "Nd" → bodyOf list tree scope (treeAt (left - 1) tree p1) n ≡ bodyOf list tree scope (treeAt left tree at) n
+  pub nested-is : markAt tree at ≡ mark "Nd" → bodyOf list tree scope (treeAt (levels - 1) tree p1) n ≡ bodyOf list tree scope (treeAt levels tree at) n
   unfolding nestedSecond
   nested-is m =
       ap (λ (r : Rec). nestedSecond list (scope .unresolved) (typingOf tree scope) (kidsOf r) n) (sym (u .is))
-      ∙ body-nested list tree scope (treeAt left tree at) n (mark-is left tree at ∙ m)
+      ∙ body-nested list tree scope (treeAt levels tree at) n (mark-is levels tree at ∙ m)
 
   -- the children of an Ns
-  parts-are : atKid 1 (bodyOf list tree scope) (kidsOf (treeAt left tree at)) n ≡ nsParts list (scope .unresolved) (typingOf tree scope) (kidsOf (treeAt left tree at)) n
+  parts-are : atKid 1 (bodyOf list tree scope) (kidsOf (treeAt levels tree at)) n ≡ nsParts list (scope .unresolved) (typingOf tree scope) (kidsOf (treeAt levels tree at)) n
   unfolding nsParts
   parts-are =
       ap (λ (r : Rec). atKid 1 (bodyOf list tree scope) (kidsOf r) n) (u .is) ∙ ap (λ (r : Rec). nsParts list (scope .unresolved) (typingOf tree scope) (kidsOf r) n) (sym (u .is))
 
-pub body-made : (list tree : List ℕ) (scope : Scope) (left at flags : ℕ) → AcceptedAt left tree at → ((i : ℕ) → mir.Val.Fits w8 (getD tree i 0)) → {p0 p1 p2 : ℕ} → Two left tree at p0 p1 p2
+pub body-made : (list tree : List ℕ) (scope : Scope) (levels at flags : ℕ) → AcceptedAt levels tree at → ((i : ℕ) → mir.Val.Fits w8 (getD tree i 0)) → {p0 p1 p2 : ℕ} → Two levels tree at p0 p1 p2
     → {o o1 o2 o3 o4 g g' : List ℕ} {s s1 s2 s3 s4 : State} {h : Fields} → h ≡ fieldsAt tree at → s .d ≤ highest
-    → Puts o o1 s s1 (frontBytes (withFlags (headAt tree at) flags) (h .count)) true → Keeps o1 o2 s1 s2 (treeAt (left - 1) tree p0)
-    → Makes o2 o3 g g' s2 s3 (bodyOf list tree scope (treeAt (left - 1) tree p1) (s2 .n)) → KeepsAll o3 o4 s3 s4 (rest left tree (h .count - 2) p2)
-    → Makes o o4 g g' s s4 (withBody list tree scope flags (treeAt left tree at) (s .n))
-body-made list tree scope left at flags a known u {s = s} e d v b c z =
+    → Puts o o1 s s1 (frontBytes (withFlags (headAt tree at) flags) (h .count)) true → Keeps o1 o2 s1 s2 (treeAt (levels - 1) tree p0)
+    → Makes o2 o3 g g' s2 s3 (bodyOf list tree scope (treeAt (levels - 1) tree p1) (s2 .n)) → KeepsAll o3 o4 s3 s4 (rest levels tree (h .count - 2) p2)
+    → Makes o o4 g g' s s4 (withBody list tree scope flags (treeAt levels tree at) (s .n))
+body-made list tree scope levels at flags a known u {s = s} e d v b c z =
     makes-as
-    (makes-second left tree at (withFlags (headAt tree at) flags) (head-short left tree at a known) d (front-flags tree at e (λ _. flags) v) e (bodyOf list tree scope) u b c z)
-    (ap (wrap (withFlags (headAt tree at) flags)) (parts-are list tree scope left at u (s .n))
-    ∙ ap (λ (h : Head). wrap (withFlags h flags) (nsParts list (scope .unresolved) (typingOf tree scope) (kidsOf (treeAt left tree at)) (s .n))) (sym (head-is left tree at)))
+    (makes-second levels tree at (withFlags (headAt tree at) flags) (head-short levels tree at a known) d (front-flags tree at e (λ _. flags) v) e (bodyOf list tree scope) u b c z)
+    (ap (wrap (withFlags (headAt tree at) flags)) (parts-are list tree scope levels at u (s .n))
+    ∙ ap (λ (h : Head). wrap (withFlags h flags) (nsParts list (scope .unresolved) (typingOf tree scope) (kidsOf (treeAt levels tree at)) (s .n))) (sym (head-is levels tree at)))
 
-text-size : (left : ℕ) (tree : List ℕ) (at : ℕ) → AcceptedAt left tree at → length (headAt tree at .text) ≡ lengthAt tree at
+text-size : (levels : ℕ) (tree : List ℕ) (at : ℕ) → AcceptedAt levels tree at → length (headAt tree at .text) ≡ lengthAt tree at
 unfolding headAt
-text-size left tree at a = text-length left tree at a
+text-size levels tree at a = text-length levels tree at a
 
 front-same : (tree : List ℕ) (at k : ℕ) {o o' : List ℕ} {s s' : State} {h : Fields} → h ≡ fieldsAt tree at → Puts o o' s s' (frontBytes (withFlags (headAt tree at) (h .flags)) k) true → Puts o o' s s' (frontBytes (headAt tree at) k) true
 unfolding headAt
 front-same tree at k e w = rw e at w
 
 -- an Nb: its front follows its items
-pub block-made : (list tree : List ℕ) (scope : Scope) (left at : ℕ) → AcceptedAt left tree at → ((i : ℕ) → mir.Val.Fits w8 (getD tree i 0)) → markAt tree at ≡ mark "Nb"
+pub block-made : (list tree : List ℕ) (scope : Scope) (levels at : ℕ) → AcceptedAt levels tree at → ((i : ℕ) → mir.Val.Fits w8 (getD tree i 0)) → markAt tree at ≡ mark "Nb"
     → {o o1 o2 g g' : List ℕ} (s : State) {s2 : State} {made : Counted} {h : Fields} {b size q : ℕ} → h ≡ fieldsAt tree at → b ≡ bodyAt tree at → size ≡ headSize + lengthAt tree at → q ≡ sat (s .p) size
-    → Gives o o1 g g' (movedTo s q) made (itemsOf list tree scope false (recordsAt (left - 1) tree (h .count) b) (s .n)) → Puts o1 o2 s s2 (frontBytes (withFlags (headAt tree at) (h .flags)) (made .count)) true
-    → Makes o o2 g g' s (made .s) (bodyOf list tree scope (treeAt left tree at) (s .n))
-block-made list tree scope left at a known m {o} {o1} {o2} {g} {g'} s {s2} {made} {h} {b} {size} {q} e f z y w v =
+    → Gives o o1 g g' (movedTo s q) made (itemsOf list tree scope false (recordsAt (levels - 1) tree (h .count) b) (s .n)) → Puts o1 o2 s s2 (frontBytes (withFlags (headAt tree at) (h .flags)) (made .count)) true
+    → Makes o o2 g g' s (made .s) (bodyOf list tree scope (treeAt levels tree at) (s .n))
+block-made list tree scope levels at a known m {o} {o1} {o2} {g} {g'} s {s2} {made} {h} {b} {size} {q} e f z y w v =
     let H : Head = headAt tree at in
-    let k : size ≡ headSize + length (H .text) = z ∙ ap (λ (n : ℕ). headSize + n) (sym (text-size left tree at a)) in
-    let items : Out Recs = itemsOf list tree scope false (rest left tree (countAt tree at) (bodyAt tree at)) (s .n) in
+    let k : size ≡ headSize + length (H .text) = z ∙ ap (λ (n : ℕ). headSize + n) (sym (text-size levels tree at a)) in
+    let items : Out Recs = itemsOf list tree scope false (rest levels tree (countAt tree at) (bodyAt tree at)) (s .n) in
     let w1 : Gives o o1 g g' (movedTo s q) made items = rw (e, f) at w in
     let w2 : MakesAll o o1 g g' (movedTo s (sat (s .p) (headSize + length (H .text)))) (made .s) items =
     subst (λ (q : ℕ). MakesAll o o1 g g' (movedTo s q) (made .s) items) (y ∙ ap (sat (s .p)) k) (record { step = w1 .step }) in
     let v' : Puts o1 o2 s s2 (frontBytes H (made .count)) true = front-same tree at (made .count) e v in
-    makes-as (makes-front-last s H {y = items} w2 v' (w1 .many) (head-short left tree at a known))
-    (ap (λ (r : Rec). wrap (headOf r) (itemsOf list tree scope false (kidsOf r) (s .n))) (sym (tree-is left tree at a)) ∙ body-block list tree scope (treeAt left tree at) (s .n) (mark-is left tree at ∙ m))
+    makes-as (makes-front-last s H {y = items} w2 v' (w1 .many) (head-short levels tree at a known))
+    (ap (λ (r : Rec). wrap (headOf r) (itemsOf list tree scope false (kidsOf r) (s .n))) (sym (tree-is levels tree at a)) ∙ body-block list tree scope (treeAt levels tree at) (s .n) (mark-is levels tree at ∙ m))
 
 -- ---- an item gives at most two records
 
@@ -658,53 +657,53 @@ module _ (list : List ℕ) (ctx : ℕ) (ty : Typing) where
 -- ---- the items, one after the other
 
 -- k are left from c on, of the n from `at` on, and `many` records were made
-pub record Itemizing (list tree : List ℕ) (scope : Scope) (top : Bool) (left n at : ℕ) (o0 o g0 g : List ℕ) (s0 s : State) (k c many : ℕ) : Type 0 where
-  pub kids : AllAccepted left tree k c
+pub record Itemizing (list tree : List ℕ) (scope : Scope) (top : Bool) (levels n at : ℕ) (o0 o g0 g : List ℕ) (s0 s : State) (k c many : ℕ) : Type 0 where
+  pub kids : AllAccepted levels tree k c
   pub low : s .n ≤ c
   pub done : Out Recs
   pub gives : Gives o0 o g0 g s0 (record { s = s; count = many }) done
-  pub sum : itemsOf list tree scope top (recordsAt left tree n at) (s0 .n) ≡ both done (itemsOf list tree scope top (recordsAt left tree k c) (s .n))
+  pub sum : itemsOf list tree scope top (recordsAt levels tree n at) (s0 .n) ≡ both done (itemsOf list tree scope top (recordsAt levels tree k c) (s .n))
   pub few : many + 2 * k < 131072
 
-module _ (list tree : List ℕ) (scope : Scope) (top : Bool) (left n at : ℕ) where
-  pub itemizing-start : (o g : List ℕ) (s : State) → ReadyAll left tree n at (s .n) scope → n < 65536 → s .p ≤ highest → s .d ≤ highest → Itemizing list tree scope top left n at o o g g s s n at 0
+module _ (list tree : List ℕ) (scope : Scope) (top : Bool) (levels n at : ℕ) where
+  pub itemizing-start : (o g : List ℕ) (s : State) → ReadyAll levels tree n at (s .n) scope → n < 65536 → s .p ≤ highest → s .d ≤ highest → Itemizing list tree scope top levels n at o o g g s s n at 0
   itemizing-start o g s r h p d = record { kids = r .accepted; low = r .low; done = (nil, [], s .n); gives = gives-none o g s p d refl; sum = refl; few = omega arith }
 
-  module _ {o0 o g0 g : List ℕ} {s0 s : State} {k c many : ℕ} (l : Itemizing list tree scope top left n at o0 o g0 g s0 s k c many) where
-    pub itemizing-first : 0 < k → AcceptedAt left tree c
-    itemizing-first h = first-one left tree k c (l .kids) h
+  module _ {o0 o g0 g : List ℕ} {s0 s : State} {k c many : ℕ} (l : Itemizing list tree scope top levels n at o0 o g0 g s0 s k c many) where
+    pub itemizing-first : 0 < k → AcceptedAt levels tree c
+    itemizing-first h = first-one levels tree k c (l .kids) h
 
-    module _ {o' g' : List ℕ} {made : Counted} {here : Scope} (end : ℕ) (e : here ≡ scopeAt scope left c end) (w : Gives o o' g g' s made (itemOf list tree here top (treeAt left tree c) (s .n))) where
-      here-gives : Gives o o' g g' s made (itemOf list tree scope top (treeAt left tree c) (s .n))
-      here-gives = gives-as w (item-same scope left c end list tree top (treeAt left tree c) (s .n) e)
+    module _ {o' g' : List ℕ} {made : Counted} {here : Scope} (end : ℕ) (e : here ≡ scopeAt scope levels c end) (w : Gives o o' g g' s made (itemOf list tree here top (treeAt levels tree c) (s .n))) where
+      here-gives : Gives o o' g g' s made (itemOf list tree scope top (treeAt levels tree c) (s .n))
+      here-gives = gives-as w (item-same scope levels c end list tree top (treeAt levels tree c) (s .n) e)
 
       -- the count stays small
       pub itemizing-more : made .count ≤ 2
-      itemizing-more = omega (arith, few-item list (scope .unresolved) (typingOf tree scope) (treeAt left tree c) top (s .n), here-gives .many)
+      itemizing-more = omega (arith, few-item list (scope .unresolved) (typingOf tree scope) (treeAt levels tree c) top (s .n), here-gives .many)
 
-      pub itemizing-turn : 0 < k → end ≡ endAt left tree c → Itemizing list tree scope top left n at o0 o' g0 g' s0 (made .s) (k - 1) end (many + made .count)
+      pub itemizing-turn : 0 < k → end ≡ endAt levels tree c → Itemizing list tree scope top levels n at o0 o' g0 g' s0 (made .s) (k - 1) end (many + made .count)
       unfolding transformModuleItems
       itemizing-turn h f =
-          let x : Out Recs = itemOf list tree scope top (treeAt left tree c) (s .n) in
-          let rs : Recs = recordsAt left tree (k - 1) (endAt left tree c) in
-          let a : AcceptedAt left tree c = itemizing-first h in
-          let high : x .2 ≤ s .n + records (treeAt left tree c) =
-          item-within (typingOf tree scope) (exprToTsType-within (idsOf tree) (scope .unresolved)) list (scope .unresolved) (treeAt left tree c) top (s .n) .high in
+          let x : Out Recs = itemOf list tree scope top (treeAt levels tree c) (s .n) in
+          let rs : Recs = recordsAt levels tree (k - 1) (endAt levels tree c) in
+          let a : AcceptedAt levels tree c = itemizing-first h in
+          let high : x .2 ≤ s .n + records (treeAt levels tree c) =
+          item-within (typingOf tree scope) (exprToTsType-within (idsOf tree) (scope .unresolved)) list (scope .unresolved) (treeAt levels tree c) top (s .n) .high in
           rw f (record {
-            kids = others left tree k c (l .kids) h;
-            low = omega (arith, here-gives .step .counter, high, l .low, records-within left tree c a);
+            kids = others levels tree k c (l .kids) h;
+            low = omega (arith, here-gives .step .counter, high, l .low, records-within levels tree c a);
             done = both (l .done) x;
             gives = record { many = omega (arith, l .gives .many, here-gives .many, count-join (l .done .0) (x .0)); step = all-join (gives-all (l .gives)) (gives-all here-gives) .step };
             sum = l .sum
-                ∙ (ap (λ (ks : Recs). both (l .done) (itemsOf list tree scope top ks (s .n))) (readAll-more (treeAt left tree) (endAt left tree) k c h)
+                ∙ (ap (λ (ks : Recs). both (l .done) (itemsOf list tree scope top ks (s .n))) (readAll-more (treeAt levels tree) (endAt levels tree) k c h)
                 ∙ (both-assoc (l .done) x (itemsOf list tree scope top rs (x .2)) ∙ ap (λ (m : ℕ). both (both (l .done) x) (itemsOf list tree scope top rs m)) (sym (here-gives .step .counter))));
             few = omega (arith, l .few, itemizing-more);
           })
 
-    pub itemizing-done : k ≤ 0 → Gives o0 o g0 g s0 (record { s = s; count = many }) (itemsOf list tree scope top (recordsAt left tree n at) (s0 .n))
+    pub itemizing-done : k ≤ 0 → Gives o0 o g0 g s0 (record { s = s; count = many }) (itemsOf list tree scope top (recordsAt levels tree n at) (s0 .n))
     unfolding transformModuleItems
     itemizing-done h =
         gives-as (l .gives)
         (sym (l .sum
-        ∙ (ap (λ (ks : Recs). both (l .done) (itemsOf list tree scope top ks (s .n))) (readAll-none (treeAt left tree) (endAt left tree) k c h)
+        ∙ (ap (λ (ks : Recs). both (l .done) (itemsOf list tree scope top ks (s .n))) (readAll-none (treeAt levels tree) (endAt levels tree) k c h)
         ∙ λ i. (join-nil (l .done .0) i, append-nil (l .done .1) i, l .gives .step .counter i))))

@@ -1,4 +1,4 @@
--- The steps of the definition as the functions of the code have them: of the record at an offset. Assumes nothing: these are definitions.
+-- The steps of the definition as the functions of the code have them: of the record at an offset.
 use mathlib.Core.List.{List, [], _++_}
 use mathlib.Core.Bool.{Bool, true, false, cond}
 use mathlib.Core.Option.{Option}
@@ -17,7 +17,7 @@ use Rattle.classes.specs.Typings.{typingOf}
 
 -- n records from `at` on
 abbrev pub recordsAt : ℕ → List ℕ → ℕ → ℕ → Recs
-recordsAt left tree n at = readAll (treeAt left tree) (endAt left tree) n at
+recordsAt levels tree n at = readAll (treeAt levels tree) (endAt levels tree) n at
 
 -- as_const off, as_readonly on
 abbrev pub readonlyMode : Scope → Mode
@@ -58,9 +58,9 @@ constFront i =
 
 -- ---- items
 
--- the scope of an item that begins at `at` and ends at `end`, with `left` levels left for it
+-- the scope of an item that begins at `at` and ends at `end`, with `levels` levels left for it
 abbrev pub scopeAt : Scope → ℕ → ℕ → ℕ → Scope
-scopeAt scope left at end = cond (eqb left (deepest - 1)) (record { unresolved = scope .unresolved; item = at; end = end }) scope
+scopeAt scope levels at end = cond (eqb levels (deepest - 1)) (record { unresolved = scope .unresolved; item = at; end = end }) scope
 
 module _ (list tree : List ℕ) (scope : Scope) where
   abbrev pub withBody : ℕ → Rec → ℕ → Out Rec

@@ -39,7 +39,7 @@ pub fn declared(flags: u8, top: bool) -> u8
 pub fn with_class(
     tree: &[u8],
     at: usize,
-    left: usize,
+    levels: usize,
     flags: u8,
     scope: Scope,
     list: &[u8],
@@ -47,93 +47,93 @@ pub fn with_class(
     diagnostics: &mut [u8],
     s: State,
 ) -> State
-    requires { ⌜ Ready left (now tree) at (s .n) scope ⌝ }
+    requires { ⌜ Ready levels (now tree) at (s .n) scope ⌝ }
     requires { ⌜ (markAt (now tree) at ≡ mark "Cd") ⊎ (markAt (now tree) at ≡ mark "Cx") ⌝ }
     ensures { λ r. ⌜
         Makes (now (out .entry)) (now (out .exit)) (now (diagnostics .entry)) (now (diagnostics .exit)) s r
-        (withClass (now (list .entry)) (now (tree .entry)) scope flags (treeAt left (now (tree .entry)) at) (s .n))
+        (withClass (now (list .entry)) (now (tree .entry)) scope flags (treeAt levels (now (tree .entry)) at) (s .n))
         ⌝ }
 {
     let head = read_head(tree, at);
     let ident = body_at(tree, at);
-    let class = record_end(tree, ident, left - 1);
-    let rest = record_end(tree, class, left - 1);
-    let front = put_front(tree, at, left, flags, head.count, out, s);
-    let named = keep(tree, ident, left - 1, out, front);
+    let class = record_end(tree, ident, levels - 1);
+    let rest = record_end(tree, class, levels - 1);
+    let front = put_front(tree, at, levels, flags, head.count, out, s);
+    let named = keep(tree, ident, levels - 1, out, front);
     let next = classes::class_body_to_type(
         tree,
         class,
-        left - 1,
+        levels - 1,
         scope,
         list,
         out,
         diagnostics,
         named,
     );
-    keep_all(tree, rest, head.count - 2, left - 1, out, next)
+    keep_all(tree, rest, head.count - 2, levels - 1, out, next)
 }
 
 // An Fd: its function is the second child.
 pub fn with_function(
     tree: &[u8],
     at: usize,
-    left: usize,
+    levels: usize,
     flags: u8,
     scope: Scope,
     out: &mut [u8],
     diagnostics: &mut [u8],
     s: State,
 ) -> State
-    requires { ⌜ Ready left (now tree) at (s .n) scope × (markAt (now tree) at ≡ mark "Fd") ⌝ }
+    requires { ⌜ Ready levels (now tree) at (s .n) scope × (markAt (now tree) at ≡ mark "Fd") ⌝ }
     ensures { λ r. ⌜
         Makes (now (out .entry)) (now (out .exit)) (now (diagnostics .entry)) (now (diagnostics .exit)) s r
-        (withFunction (now (tree .entry)) scope flags (treeAt left (now (tree .entry)) at) (s .n))
+        (withFunction (now (tree .entry)) scope flags (treeAt levels (now (tree .entry)) at) (s .n))
         ⌝ }
 {
     let head = read_head(tree, at);
     let ident = body_at(tree, at);
-    let function = record_end(tree, ident, left - 1);
-    let rest = record_end(tree, function, left - 1);
-    let front = put_front(tree, at, left, flags, head.count, out, s);
-    let named = keep(tree, ident, left - 1, out, front);
+    let function = record_end(tree, ident, levels - 1);
+    let rest = record_end(tree, function, levels - 1);
+    let front = put_front(tree, at, levels, flags, head.count, out, s);
+    let named = keep(tree, ident, levels - 1, out, front);
     let next = classes::handle_function(
         tree,
         function,
-        left - 1,
+        levels - 1,
         scope,
         false,
         out,
         diagnostics,
         named,
     );
-    keep_all(tree, rest, head.count - 2, left - 1, out, next)
+    keep_all(tree, rest, head.count - 2, levels - 1, out, next)
 }
 
 // A Vd.
 pub fn with_declarators(
     tree: &[u8],
     at: usize,
-    left: usize,
+    levels: usize,
     flags: u8,
     scope: Scope,
     out: &mut [u8],
     diagnostics: &mut [u8],
     s: State,
 ) -> State
-    requires { ⌜ Ready left (now tree) at (s .n) scope ⌝ }
+    requires { ⌜ Ready levels (now tree) at (s .n) scope ⌝ }
     ensures { λ r. ⌜
         Makes (now (out .entry)) (now (out .exit)) (now (diagnostics .entry)) (now (diagnostics .exit)) s r
-        (withDeclarators (now (tree .entry)) scope flags (treeAt left (now (tree .entry)) at) (s .n))
+        (withDeclarators (now (tree .entry)) scope flags (treeAt levels (now (tree .entry)) at) (s .n))
         ⌝ }
 {
     let head = read_head(tree, at);
     let first = body_at(tree, at);
-    let front = put_front(tree, at, left, flags, head.count, out, s);
+    let front = put_front(tree, at, levels, flags, head.count, out, s);
     declarators(
         tree,
         first,
         head.count,
-        left - 1,
+        levels - 1,
         scope,
         out,
         diagnostics,
@@ -145,48 +145,48 @@ pub fn with_declarators(
 pub fn with_members(
     tree: &[u8],
     at: usize,
-    left: usize,
+    levels: usize,
     flags: u8,
     out: &mut [u8],
     s: State,
 ) -> State
-    requires { ⌜ AcceptedAt left (now tree) at ⌝ }
-    ensures { λ r. ⌜ Keeps (now (out .entry)) (now (out .exit)) s r (withMembers flags (treeAt left (now (tree .entry)) at) (s .n) .0) ⌝ }
+    requires { ⌜ AcceptedAt levels (now tree) at ⌝ }
+    ensures { λ r. ⌜ Keeps (now (out .entry)) (now (out .exit)) s r (withMembers flags (treeAt levels (now (tree .entry)) at) (s .n) .0) ⌝ }
 {
     let head = read_head(tree, at);
     let first = body_at(tree, at);
-    let front = put_front(tree, at, left, flags, head.count, out, s);
-    enum_members(tree, first, head.count, left - 1, out, front)
+    let front = put_front(tree, at, levels, flags, head.count, out, s);
+    enum_members(tree, first, head.count, levels - 1, out, front)
 }
 
 // The Fu at `at` of a function exported as default: it loses "the body only".
-fn without_body(tree: &[u8], at: usize, left: usize, out: &mut [u8], s: State) -> State
-    requires { ⌜ AcceptedAt left (now tree) at × (markAt (now tree) at ≡ mark "Fu") ⌝ }
-    ensures { λ r. ⌜ Keeps (now (out .entry)) (now (out .exit)) s r (withoutBody (treeAt left (now (tree .entry)) at) (s .n) .0) ⌝ }
+fn without_body(tree: &[u8], at: usize, levels: usize, out: &mut [u8], s: State) -> State
+    requires { ⌜ AcceptedAt levels (now tree) at × (markAt (now tree) at ≡ mark "Fu") ⌝ }
+    ensures { λ r. ⌜ Keeps (now (out .entry)) (now (out .exit)) s r (withoutBody (treeAt levels (now (tree .entry)) at) (s .n) .0) ⌝ }
 {
     let head = read_head(tree, at);
     let type_params = body_at(tree, at);
-    let return_type = record_end(tree, type_params, left - 1);
-    let body = record_end(tree, return_type, left - 1);
-    let rest = record_end(tree, body, left - 1);
-    let front = put_front(tree, at, left, head.flags, head.count, out, s);
-    let kept = keep(tree, type_params, left - 1, out, front);
-    let typed = keep(tree, return_type, left - 1, out, kept);
-    let bare = put_gone(tree, body, left - 1, out, typed);
-    keep_all(tree, rest, head.count - 3, left - 1, out, bare)
+    let return_type = record_end(tree, type_params, levels - 1);
+    let body = record_end(tree, return_type, levels - 1);
+    let rest = record_end(tree, body, levels - 1);
+    let front = put_front(tree, at, levels, head.flags, head.count, out, s);
+    let kept = keep(tree, type_params, levels - 1, out, front);
+    let typed = keep(tree, return_type, levels - 1, out, kept);
+    let bare = put_gone(tree, body, levels - 1, out, typed);
+    keep_all(tree, rest, head.count - 3, levels - 1, out, bare)
 }
 
 // The Fx of a function exported as default.
-pub fn bodiless(tree: &[u8], at: usize, left: usize, out: &mut [u8], s: State) -> State
-    requires { ⌜ AcceptedAt left (now tree) at × (markAt (now tree) at ≡ mark "Fx") ⌝ }
-    ensures { λ r. ⌜ Keeps (now (out .entry)) (now (out .exit)) s r (second withoutBody (treeAt left (now (tree .entry)) at) (s .n) .0) ⌝ }
+pub fn bodiless(tree: &[u8], at: usize, levels: usize, out: &mut [u8], s: State) -> State
+    requires { ⌜ AcceptedAt levels (now tree) at × (markAt (now tree) at ≡ mark "Fx") ⌝ }
+    ensures { λ r. ⌜ Keeps (now (out .entry)) (now (out .exit)) s r (second withoutBody (treeAt levels (now (tree .entry)) at) (s .n) .0) ⌝ }
 {
     let head = read_head(tree, at);
     let ident = body_at(tree, at);
-    let function = record_end(tree, ident, left - 1);
-    let rest = record_end(tree, function, left - 1);
-    let front = put_front(tree, at, left, head.flags, head.count, out, s);
-    let named = keep(tree, ident, left - 1, out, front);
-    let next = without_body(tree, function, left - 1, out, named);
-    keep_all(tree, rest, head.count - 2, left - 1, out, next)
+    let function = record_end(tree, ident, levels - 1);
+    let rest = record_end(tree, function, levels - 1);
+    let front = put_front(tree, at, levels, head.flags, head.count, out, s);
+    let named = keep(tree, ident, levels - 1, out, front);
+    let next = without_body(tree, function, levels - 1, out, named);
+    keep_all(tree, rest, head.count - 2, levels - 1, out, next)
 }

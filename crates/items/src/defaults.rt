@@ -44,29 +44,29 @@ use typing::Typed;
 fn default_class(
     tree: &[u8],
     at: usize,
-    left: usize,
+    levels: usize,
     scope: Scope,
     list: &[u8],
     out: &mut [u8],
     diagnostics: &mut [u8],
     s: State,
 ) -> Counted
-    requires { ⌜ Ready left (now tree) at (s .n) scope × (markAt (now tree) at ≡ mark "Xd") ⌝ }
+    requires { ⌜ Ready levels (now tree) at (s .n) scope × (markAt (now tree) at ≡ mark "Xd") ⌝ }
     requires { ⌜ markAt (now tree) (bodyAt (now tree) at) ≡ mark "Cx" ⌝ }
     ensures { λ r. ⌜
         Gives (now (out .entry)) (now (out .exit)) (now (diagnostics .entry)) (now (diagnostics .exit)) s r
-        (defaultDeclOf (now (list .entry)) (now (tree .entry)) scope (treeAt left (now (tree .entry)) at) (s .n))
+        (defaultDeclOf (now (list .entry)) (now (tree .entry)) scope (treeAt levels (now (tree .entry)) at) (s .n))
         ⌝ }
 {
     let head = read_head(tree, at);
     let class = body_at(tree, at);
-    let rest = record_end(tree, class, left - 1);
+    let rest = record_end(tree, class, levels - 1);
     let flags = read_head(tree, class).flags;
-    let front = put_front(tree, at, left, head.flags, head.count, out, s);
+    let front = put_front(tree, at, levels, head.flags, head.count, out, s);
     let made = with_class(
         tree,
         class,
-        left - 1,
+        levels - 1,
         flags,
         scope,
         list,
@@ -74,52 +74,52 @@ fn default_class(
         diagnostics,
         front,
     );
-    let next = keep_all(tree, rest, head.count - 1, left - 1, out, made);
+    let next = keep_all(tree, rest, head.count - 1, levels - 1, out, made);
     Counted { s: next, count: 1 }
 }
 
 // An Xd with a function: "Xd functions lose the body only".
-fn default_fn(tree: &[u8], at: usize, left: usize, out: &mut [u8], s: State) -> State
-    requires { ⌜ AcceptedAt left (now tree) at × (markAt (now tree) at ≡ mark "Xd") ⌝ }
+fn default_fn(tree: &[u8], at: usize, levels: usize, out: &mut [u8], s: State) -> State
+    requires { ⌜ AcceptedAt levels (now tree) at × (markAt (now tree) at ≡ mark "Xd") ⌝ }
     requires { ⌜ markAt (now tree) (bodyAt (now tree) at) ≡ mark "Fx" ⌝ }
-    ensures { λ r. ⌜ Keeps (now (out .entry)) (now (out .exit)) s r (defaultFn (treeAt left (now (tree .entry)) at) (s .n) .0) ⌝ }
+    ensures { λ r. ⌜ Keeps (now (out .entry)) (now (out .exit)) s r (defaultFn (treeAt levels (now (tree .entry)) at) (s .n) .0) ⌝ }
 {
     let head = read_head(tree, at);
     let function = body_at(tree, at);
-    let rest = record_end(tree, function, left - 1);
-    let front = put_front(tree, at, left, head.flags, head.count, out, s);
-    let made = bodiless(tree, function, left - 1, out, front);
-    keep_all(tree, rest, head.count - 1, left - 1, out, made)
+    let rest = record_end(tree, function, levels - 1);
+    let front = put_front(tree, at, levels, head.flags, head.count, out, s);
+    let made = bodiless(tree, function, levels - 1, out, front);
+    keep_all(tree, rest, head.count - 1, levels - 1, out, made)
 }
 
 // `ModuleDecl::ExportDefaultDecl`.
 pub fn export_default_decl(
     tree: &[u8],
     at: usize,
-    left: usize,
+    levels: usize,
     scope: Scope,
     list: &[u8],
     out: &mut [u8],
     diagnostics: &mut [u8],
     s: State,
 ) -> Counted
-    requires { ⌜ Ready left (now tree) at (s .n) scope × (markAt (now tree) at ≡ mark "Xd") ⌝ }
+    requires { ⌜ Ready levels (now tree) at (s .n) scope × (markAt (now tree) at ≡ mark "Xd") ⌝ }
     ensures { λ r. ⌜
         Gives (now (out .entry)) (now (out .exit)) (now (diagnostics .entry)) (now (diagnostics .exit)) s r
-        (defaultDeclOf (now (list .entry)) (now (tree .entry)) scope (treeAt left (now (tree .entry)) at) (s .n))
+        (defaultDeclOf (now (list .entry)) (now (tree .entry)) scope (treeAt levels (now (tree .entry)) at) (s .n))
         ⌝ }
 {
     match mark_at(tree, body_at(tree, at)) {
-        CX => default_class(tree, at, left, scope, list, out, diagnostics, s),
+        CX => default_class(tree, at, levels, scope, list, out, diagnostics, s),
         FX => {
             if is_impl_with_overloads(list, tree, at) {
                 return Counted { s, count: 0 };
             }
-            let next = default_fn(tree, at, left, out, s);
+            let next = default_fn(tree, at, levels, out, s);
             Counted { s: next, count: 1 }
         }
         _ => {
-            let next = keep(tree, at, left, out, s);
+            let next = keep(tree, at, levels, out, s);
             Counted { s: next, count: 1 }
         }
     }
@@ -141,43 +141,43 @@ fn put_default_name(
     tree: &[u8],
     at: usize,
     rest: usize,
-    left: usize,
+    levels: usize,
     counter: usize,
     out: &mut [u8],
     s: State,
 ) -> State
-    requires { ⌜ AcceptedAt left (now tree) at × (markAt (now tree) at ≡ mark "Xe") ⌝ }
-    requires { ⌜ rest ≡ childAt left (now tree) at 1 ⌝ }
+    requires { ⌜ AcceptedAt levels (now tree) at × (markAt (now tree) at ≡ mark "Xe") ⌝ }
+    requires { ⌜ rest ≡ childAt levels (now tree) at 1 ⌝ }
     ensures { λ r. ⌜
         Keeps (now (out .entry)) (now (out .exit)) s r
-        (rec (headAt (now (tree .entry)) at) (setKid 0 (ident dummySp (genUniqueName counter)) (kidsOf (treeAt left (now (tree .entry)) at))))
+        (rec (headAt (now (tree .entry)) at) (setKid 0 (ident dummySp (genUniqueName counter)) (kidsOf (treeAt levels (now (tree .entry)) at))))
         ⌝ }
 {
     let head = read_head(tree, at);
-    let mut named = put_front(tree, at, left, head.flags, head.count, out, s);
+    let mut named = put_front(tree, at, levels, head.flags, head.count, out, s);
     named.p = unique::put_unique_ident(DUMMY_SP, counter, out, named.p);
-    keep_all(tree, rest, head.count - 1, left - 1, out, named)
+    keep_all(tree, rest, head.count - 1, levels - 1, out, named)
 }
 
 // `ModuleDecl::ExportDefaultExpr`: "Xe of Id passes. Else the name counter rises (1 first)" and the expression is typed.
 pub fn export_default_expr(
     tree: &[u8],
     at: usize,
-    left: usize,
+    levels: usize,
     scope: Scope,
     out: &mut [u8],
     diagnostics: &mut [u8],
     s: State,
 ) -> Counted
-    requires { ⌜ Ready left (now tree) at (s .n) scope × (markAt (now tree) at ≡ mark "Xe") ⌝ }
+    requires { ⌜ Ready levels (now tree) at (s .n) scope × (markAt (now tree) at ≡ mark "Xe") ⌝ }
     ensures { λ r. ⌜
         Gives (now (out .entry)) (now (out .exit)) (now (diagnostics .entry)) (now (diagnostics .exit)) s r
-        (defaultExprOf (now (tree .entry)) scope (treeAt left (now (tree .entry)) at) (s .n))
+        (defaultExprOf (now (tree .entry)) scope (treeAt levels (now (tree .entry)) at) (s .n))
         ⌝ }
 {
     let expr = body_at(tree, at);
     if mark_at(tree, expr) == ID {
-        let next = keep(tree, at, left, out, s);
+        let next = keep(tree, at, levels, out, s);
         return Counted { s: next, count: 1 };
     }
     let named = put_const_front(s.n, out, s.p);
@@ -188,7 +188,7 @@ pub fn export_default_expr(
     match typing::expr_to_ts_type(
         tree,
         expr,
-        left - 1,
+        levels - 1,
         readonly(scope),
         out,
         diagnostics,
@@ -197,12 +197,12 @@ pub fn export_default_expr(
         Typed::Some(typed) => {
             let mut bare = typed;
             bare.p = put_absent(out, typed.p);
-            let rest = record_end(tree, expr, left - 1);
-            let next = put_default_name(tree, at, rest, left, counter, out, bare);
+            let rest = record_end(tree, expr, levels - 1);
+            let next = put_default_name(tree, at, rest, levels, counter, out, bare);
             Counted { s: next, count: 2 }
         }
         Typed::None(failed) => {
-            let next = keep(tree, at, left, out, typing::back(s, failed));
+            let next = keep(tree, at, levels, out, typing::back(s, failed));
             Counted { s: next, count: 1 }
         }
     }

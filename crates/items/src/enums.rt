@@ -35,90 +35,90 @@ use records::record_end;
 use typing::State;
 
 // `valid_enum_ts_type`: `TsLit::Number`. The literal is "handed back as the part of the tree it fills".
-fn valid_enum_ts_type(tree: &[u8], at: usize, left: usize) -> bool
-    requires { ⌜ AcceptedAt left (now tree) at ⌝ }
-    ensures { λ r. ⌜ r ≡ validEnumTsType (treeAt left (now (tree .entry)) at) ⌝ }
+fn valid_enum_ts_type(tree: &[u8], at: usize, levels: usize) -> bool
+    requires { ⌜ AcceptedAt levels (now tree) at ⌝ }
+    ensures { λ r. ⌜ r ≡ validEnumTsType (treeAt levels (now (tree .entry)) at) ⌝ }
 {
     if mark_at(tree, at) != TL {
         return false;
     }
-    let literal = child_at(tree, at, left - 1);
+    let literal = child_at(tree, at, levels - 1);
     mark_at(literal, 0) == NU
 }
 
 // `valid_enum_init_expr`, arm by arm.
-pub fn valid_enum_init_expr(tree: &[u8], at: usize, left: usize) -> bool
-    requires { ⌜ AcceptedAt left (now tree) at ⌝ }
-    ensures { λ r. ⌜ r ≡ validEnumInitExpr (treeAt left (now (tree .entry)) at) ⌝ }
+pub fn valid_enum_init_expr(tree: &[u8], at: usize, levels: usize) -> bool
+    requires { ⌜ AcceptedAt levels (now tree) at ⌝ }
+    ensures { λ r. ⌜ r ≡ validEnumInitExpr (treeAt levels (now (tree .entry)) at) ⌝ }
 {
     match mark_at(tree, at) {
         BN => {
             let first = body_at(tree, at);
-            if !valid_enum_init_expr(tree, first, left - 1) {
+            if !valid_enum_init_expr(tree, first, levels - 1) {
                 return false;
             }
-            let second = record_end(tree, first, left - 1);
-            valid_enum_init_expr(tree, second, left - 1)
+            let second = record_end(tree, first, levels - 1);
+            valid_enum_init_expr(tree, second, levels - 1)
         }
-        MB | PR => valid_enum_init_expr(tree, body_at(tree, at), left - 1),
+        MB | PR => valid_enum_init_expr(tree, body_at(tree, at), levels - 1),
         OC => {
             let member = body_at(tree, at);
             if mark_at(tree, member) != MB {
                 return false;
             }
-            valid_enum_init_expr(tree, member, left - 1)
+            valid_enum_init_expr(tree, member, levels - 1)
         }
         ID | NU | SS => true,
-        TE => valid_exprs(tree, at, left),
+        TE => valid_exprs(tree, at, levels),
         AS | TA => {
-            let ty = record_end(tree, body_at(tree, at), left - 1);
-            valid_enum_ts_type(tree, ty, left - 1)
+            let ty = record_end(tree, body_at(tree, at), levels - 1);
+            valid_enum_ts_type(tree, ty, levels - 1)
         }
         _ => false,
     }
 }
 
 // `Expr::Tpl`: whether all its expressions are valid.
-fn valid_exprs(tree: &[u8], at: usize, left: usize) -> bool
-    requires { ⌜ AcceptedAt left (now tree) at ⌝ }
-    ensures { λ r. ⌜ r ≡ validAll (kidsOf (treeAt left (now (tree .entry)) at)) ⌝ }
+fn valid_exprs(tree: &[u8], at: usize, levels: usize) -> bool
+    requires { ⌜ AcceptedAt levels (now tree) at ⌝ }
+    ensures { λ r. ⌜ r ≡ validAll (kidsOf (treeAt levels (now (tree .entry)) at)) ⌝ }
 {
     let mut n = count_at(tree, at);
     let mut child = body_at(tree, at);
     while 0 < n {
-        if !valid_part(tree, child, left - 1) {
+        if !valid_part(tree, child, levels - 1) {
             return false;
         }
-        child = record_end(tree, child, left - 1);
+        child = record_end(tree, child, levels - 1);
         n -= 1;
     }
     true
 }
 
 // A child of a template: a Qu, an Op or an expression.
-fn valid_part(tree: &[u8], at: usize, left: usize) -> bool
-    requires { ⌜ AcceptedAt left (now tree) at ⌝ }
+fn valid_part(tree: &[u8], at: usize, levels: usize) -> bool
+    requires { ⌜ AcceptedAt levels (now tree) at ⌝ }
     ensures { λ r. ⌜
-        r ≡ ((is "Qu" (treeAt left (now (tree .entry)) at) || is "Op" (treeAt left (now (tree .entry)) at))
-        || validEnumInitExpr (treeAt left (now (tree .entry)) at))
+        r ≡ ((is "Qu" (treeAt levels (now (tree .entry)) at) || is "Op" (treeAt levels (now (tree .entry)) at))
+        || validEnumInitExpr (treeAt levels (now (tree .entry)) at))
         ⌝ }
 {
     match mark_at(tree, at) {
         QU | OP => true,
-        _ => valid_enum_init_expr(tree, at, left),
+        _ => valid_enum_init_expr(tree, at, levels),
     }
 }
 
 // The init of an Em.
-fn enum_init(tree: &[u8], at: usize, left: usize, out: &mut [u8], s: State) -> State
-    requires { ⌜ AcceptedAt left (now tree) at ⌝ }
-    ensures { λ r. ⌜ Keeps (now (out .entry)) (now (out .exit)) s r (enumInit (treeAt left (now (tree .entry)) at) (s .n) .0) ⌝ }
+fn enum_init(tree: &[u8], at: usize, levels: usize, out: &mut [u8], s: State) -> State
+    requires { ⌜ AcceptedAt levels (now tree) at ⌝ }
+    ensures { λ r. ⌜ Keeps (now (out .entry)) (now (out .exit)) s r (enumInit (treeAt levels (now (tree .entry)) at) (s .n) .0) ⌝ }
 {
     if mark_at(tree, at) == NO {
-        return keep(tree, at, left, out, s);
+        return keep(tree, at, levels, out, s);
     }
-    if valid_enum_init_expr(tree, at, left) {
-        return keep(tree, at, left, out, s);
+    if valid_enum_init_expr(tree, at, levels) {
+        return keep(tree, at, levels, out, s);
     }
     let mut next = s;
     next.p = put_absent(out, s.p);
@@ -126,21 +126,21 @@ fn enum_init(tree: &[u8], at: usize, left: usize, out: &mut [u8], s: State) -> S
 }
 
 // A child of an En: an Em, or its name or an Op, which are left as they are.
-fn enum_member(tree: &[u8], at: usize, left: usize, out: &mut [u8], s: State) -> State
-    requires { ⌜ AcceptedAt left (now tree) at ⌝ }
-    ensures { λ r. ⌜ Keeps (now (out .entry)) (now (out .exit)) s r (enumMember (treeAt left (now (tree .entry)) at) (s .n) .0) ⌝ }
+fn enum_member(tree: &[u8], at: usize, levels: usize, out: &mut [u8], s: State) -> State
+    requires { ⌜ AcceptedAt levels (now tree) at ⌝ }
+    ensures { λ r. ⌜ Keeps (now (out .entry)) (now (out .exit)) s r (enumMember (treeAt levels (now (tree .entry)) at) (s .n) .0) ⌝ }
 {
     if mark_at(tree, at) != EM {
-        return keep(tree, at, left, out, s);
+        return keep(tree, at, levels, out, s);
     }
     let head = read_head(tree, at);
     let name = body_at(tree, at);
-    let init = record_end(tree, name, left - 1);
-    let rest = record_end(tree, init, left - 1);
-    let front = put_front(tree, at, left, head.flags, head.count, out, s);
-    let named = keep(tree, name, left - 1, out, front);
-    let next = enum_init(tree, init, left - 1, out, named);
-    keep_all(tree, rest, head.count - 2, left - 1, out, next)
+    let init = record_end(tree, name, levels - 1);
+    let rest = record_end(tree, init, levels - 1);
+    let front = put_front(tree, at, levels, head.flags, head.count, out, s);
+    let named = keep(tree, name, levels - 1, out, front);
+    let next = enum_init(tree, init, levels - 1, out, named);
+    keep_all(tree, rest, head.count - 2, levels - 1, out, next)
 }
 
 // The children of an En, n records from `at` on.
@@ -148,21 +148,21 @@ pub fn enum_members(
     tree: &[u8],
     at: usize,
     n: usize,
-    left: usize,
+    levels: usize,
     out: &mut [u8],
     s: State,
 ) -> State
-    requires { ⌜ AllAccepted left (now tree) n at ⌝ }
+    requires { ⌜ AllAccepted levels (now tree) n at ⌝ }
     ensures { λ r. ⌜
-        KeepsAll (now (out .entry)) (now (out .exit)) s r (each (λ i. enumMember) 0 (recordsAt left (now (tree .entry)) n at) (s .n) .0)
+        KeepsAll (now (out .entry)) (now (out .exit)) s r (each (λ i. enumMember) 0 (recordsAt levels (now (tree .entry)) n at) (s .n) .0)
         ⌝ }
 {
     let mut next = s;
     let mut k = n;
     let mut child = at;
     while 0 < k {
-        next = enum_member(tree, child, left, out, next);
-        child = record_end(tree, child, left);
+        next = enum_member(tree, child, levels, out, next);
+        child = record_end(tree, child, levels);
         k -= 1;
     }
     next

@@ -58,10 +58,10 @@ mod enums;
 mod vars;
 
 // The scope of the item from `at` to `end`: an item of the module has its own, one of a namespace that of the item in which it stands.
-fn item_scope(scope: Scope, left: usize, at: usize, end: usize) -> Scope
-    ensures { λ r. ⌜ r ≡ scopeAt scope left at end ⌝ }
+fn item_scope(scope: Scope, levels: usize, at: usize, end: usize) -> Scope
+    ensures { λ r. ⌜ r ≡ scopeAt scope levels at end ⌝ }
 {
-    if left == DEEPEST - 1 {
+    if levels == DEEPEST - 1 {
         return Scope {
             unresolved: scope.unresolved,
             item: at,
@@ -72,11 +72,11 @@ fn item_scope(scope: Scope, left: usize, at: usize, end: usize) -> Scope
 }
 
 // A record that is kept, as the only one.
-fn kept(tree: &[u8], at: usize, left: usize, out: &mut [u8], s: State) -> Counted
-    requires { ⌜ AcceptedAt left (now tree) at ⌝ }
-    ensures { λ r. ⌜ (r .count ≡ 1) × Keeps (now (out .entry)) (now (out .exit)) s (r .s) (treeAt left (now (tree .entry)) at) ⌝ }
+fn kept(tree: &[u8], at: usize, levels: usize, out: &mut [u8], s: State) -> Counted
+    requires { ⌜ AcceptedAt levels (now tree) at ⌝ }
+    ensures { λ r. ⌜ (r .count ≡ 1) × Keeps (now (out .entry)) (now (out .exit)) s (r .s) (treeAt levels (now (tree .entry)) at) ⌝ }
 {
-    let next = keep(tree, at, left, out, s);
+    let next = keep(tree, at, levels, out, s);
     Counted { s: next, count: 1 }
 }
 
@@ -96,7 +96,7 @@ pub fn transform_module_items(
     tree: &[u8],
     at: usize,
     n: usize,
-    left: usize,
+    levels: usize,
     scope: Scope,
     list: &[u8],
     top: bool,
@@ -104,10 +104,10 @@ pub fn transform_module_items(
     diagnostics: &mut [u8],
     s: State,
 ) -> Counted
-    requires { ⌜ ReadyAll left (now tree) n at (s .n) scope × (n < 65536) ⌝ }
+    requires { ⌜ ReadyAll levels (now tree) n at (s .n) scope × (n < 65536) ⌝ }
     ensures { λ r. ⌜
         Gives (now (out .entry)) (now (out .exit)) (now (diagnostics .entry)) (now (diagnostics .exit)) s r
-        (itemsOf (now (list .entry)) (now (tree .entry)) scope top (recordsAt left (now (tree .entry)) n at) (s .n))
+        (itemsOf (now (list .entry)) (now (tree .entry)) scope top (recordsAt levels (now (tree .entry)) n at) (s .n))
         ⌝ }
 {
     let mut next = s;
@@ -115,9 +115,19 @@ pub fn transform_module_items(
     let mut item = at;
     let mut count = 0;
     while 0 < k {
-        let end = next_at(tree, item, left);
-        let here = item_scope(scope, left, item, end);
-        let made = transform_module_item(tree, item, left, here, list, top, out, diagnostics, next);
+        let end = next_at(tree, item, levels);
+        let here = item_scope(scope, levels, item, end);
+        let made = transform_module_item(
+            tree,
+            item,
+            levels,
+            here,
+            list,
+            top,
+            out,
+            diagnostics,
+            next,
+        );
         next = made.s;
         count += made.count;
         item = end;
@@ -130,7 +140,7 @@ pub fn transform_module_items(
 fn transform_module_item(
     tree: &[u8],
     at: usize,
-    left: usize,
+    levels: usize,
     scope: Scope,
     list: &[u8],
     top: bool,
@@ -138,19 +148,19 @@ fn transform_module_item(
     diagnostics: &mut [u8],
     s: State,
 ) -> Counted
-    requires { ⌜ Ready left (now tree) at (s .n) scope ⌝ }
+    requires { ⌜ Ready levels (now tree) at (s .n) scope ⌝ }
     ensures { λ r. ⌜
         Gives (now (out .entry)) (now (out .exit)) (now (diagnostics .entry)) (now (diagnostics .exit)) s r
-        (itemOf (now (list .entry)) (now (tree .entry)) scope top (treeAt left (now (tree .entry)) at) (s .n))
+        (itemOf (now (list .entry)) (now (tree .entry)) scope top (treeAt levels (now (tree .entry)) at) (s .n))
         ⌝ }
 {
     match mark_at(tree, at) {
-        IM | OP => kept(tree, at, left, out, s),
+        IM | OP => kept(tree, at, levels, out, s),
         ST => Counted { s, count: 0 },
-        ED => export_decl(tree, at, left, scope, list, top, out, diagnostics, s),
-        XD => export_default_decl(tree, at, left, scope, list, out, diagnostics, s),
-        XE => export_default_expr(tree, at, left, scope, out, diagnostics, s),
-        _ => transform_module_stmt(tree, at, left, scope, list, top, out, diagnostics, s),
+        ED => export_decl(tree, at, levels, scope, list, top, out, diagnostics, s),
+        XD => export_default_decl(tree, at, levels, scope, list, out, diagnostics, s),
+        XE => export_default_expr(tree, at, levels, scope, out, diagnostics, s),
+        _ => transform_module_stmt(tree, at, levels, scope, list, top, out, diagnostics, s),
     }
 }
 
@@ -158,7 +168,7 @@ fn transform_module_item(
 fn export_decl(
     tree: &[u8],
     at: usize,
-    left: usize,
+    levels: usize,
     scope: Scope,
     list: &[u8],
     top: bool,
@@ -166,10 +176,10 @@ fn export_decl(
     diagnostics: &mut [u8],
     s: State,
 ) -> Counted
-    requires { ⌜ Ready left (now tree) at (s .n) scope × (markAt (now tree) at ≡ mark "Ed") ⌝ }
+    requires { ⌜ Ready levels (now tree) at (s .n) scope × (markAt (now tree) at ≡ mark "Ed") ⌝ }
     ensures { λ r. ⌜
         Gives (now (out .entry)) (now (out .exit)) (now (diagnostics .entry)) (now (diagnostics .exit)) s r
-        (exportOf (now (list .entry)) (now (tree .entry)) scope top (treeAt left (now (tree .entry)) at) (s .n))
+        (exportOf (now (list .entry)) (now (tree .entry)) scope top (treeAt levels (now (tree .entry)) at) (s .n))
         ⌝ }
 {
     let decl = body_at(tree, at);
@@ -177,12 +187,12 @@ fn export_decl(
         return Counted { s, count: 0 };
     }
     let head = read_head(tree, at);
-    let rest = record_end(tree, decl, left - 1);
-    let front = put_front(tree, at, left, head.flags, head.count, out, s);
+    let rest = record_end(tree, decl, levels - 1);
+    let front = put_front(tree, at, levels, head.flags, head.count, out, s);
     match decl_to_type_decl(
         tree,
         decl,
-        left - 1,
+        levels - 1,
         scope,
         list,
         top,
@@ -191,7 +201,7 @@ fn export_decl(
         front,
     ) {
         Typed::Some(made) => {
-            let next = keep_all(tree, rest, head.count - 1, left - 1, out, made);
+            let next = keep_all(tree, rest, head.count - 1, levels - 1, out, made);
             Counted { s: next, count: 1 }
         }
         Typed::None(failed) => typing::skipped(tree, at, D1, diagnostics, typing::back(s, failed)),
@@ -202,7 +212,7 @@ fn export_decl(
 fn transform_module_stmt(
     tree: &[u8],
     at: usize,
-    left: usize,
+    levels: usize,
     scope: Scope,
     list: &[u8],
     top: bool,
@@ -210,10 +220,10 @@ fn transform_module_stmt(
     diagnostics: &mut [u8],
     s: State,
 ) -> Counted
-    requires { ⌜ Ready left (now tree) at (s .n) scope ⌝ }
+    requires { ⌜ Ready levels (now tree) at (s .n) scope ⌝ }
     ensures { λ r. ⌜
         Gives (now (out .entry)) (now (out .exit)) (now (diagnostics .entry)) (now (diagnostics .exit)) s r
-        (stmtOf (now (list .entry)) (now (tree .entry)) scope top (treeAt left (now (tree .entry)) at) (s .n))
+        (stmtOf (now (list .entry)) (now (tree .entry)) scope top (treeAt levels (now (tree .entry)) at) (s .n))
         ⌝ }
 {
     if is_overloaded(list, tree, at, at) {
@@ -223,7 +233,7 @@ fn transform_module_stmt(
         CD | FD | VD | EN | NS => match decl_to_type_decl(
             tree,
             at,
-            left,
+            levels,
             scope,
             list,
             top,
@@ -234,7 +244,7 @@ fn transform_module_stmt(
             Typed::Some(next) => Counted { s: next, count: 1 },
             Typed::None(failed) => typing::skipped(tree, at, D1, diagnostics, failed),
         },
-        _ => kept(tree, at, left, out, s),
+        _ => kept(tree, at, levels, out, s),
     }
 }
 
@@ -242,7 +252,7 @@ fn transform_module_stmt(
 fn decl_to_type_decl(
     tree: &[u8],
     at: usize,
-    left: usize,
+    levels: usize,
     scope: Scope,
     list: &[u8],
     top: bool,
@@ -250,21 +260,21 @@ fn decl_to_type_decl(
     diagnostics: &mut [u8],
     s: State,
 ) -> Typed
-    requires { ⌜ Ready left (now tree) at (s .n) scope ⌝ }
+    requires { ⌜ Ready levels (now tree) at (s .n) scope ⌝ }
     ensures { λ r. ⌜
         Did (now (out .entry)) (now (out .exit)) (now (diagnostics .entry)) (now (diagnostics .exit)) s r
-        (declOf (now (list .entry)) (now (tree .entry)) scope top (treeAt left (now (tree .entry)) at) (s .n))
+        (declOf (now (list .entry)) (now (tree .entry)) scope top (treeAt levels (now (tree .entry)) at) (s .n))
         ⌝ }
 {
     let flags = declared(read_head(tree, at).flags, top);
     match mark_at(tree, at) {
-        CD => Typed::Some(with_class(tree, at, left, flags, scope, list, out, diagnostics, s)),
-        FD => Typed::Some(with_function(tree, at, left, flags, scope, out, diagnostics, s)),
-        VD => Typed::Some(with_declarators(tree, at, left, flags, scope, out, diagnostics, s)),
-        EN => Typed::Some(with_members(tree, at, left, flags, out, s)),
-        NS => Typed::Some(with_body(tree, at, left, flags, scope, list, out, diagnostics, s)),
+        CD => Typed::Some(with_class(tree, at, levels, flags, scope, list, out, diagnostics, s)),
+        FD => Typed::Some(with_function(tree, at, levels, flags, scope, out, diagnostics, s)),
+        VD => Typed::Some(with_declarators(tree, at, levels, flags, scope, out, diagnostics, s)),
+        EN => Typed::Some(with_members(tree, at, levels, flags, out, s)),
+        NS => Typed::Some(with_body(tree, at, levels, flags, scope, list, out, diagnostics, s)),
         US => Typed::None(typing::mark_diagnostic(tree, at, D5, diagnostics, s)),
-        _ => Typed::Some(keep(tree, at, left, out, s)),
+        _ => Typed::Some(keep(tree, at, levels, out, s)),
     }
 }
 
@@ -272,7 +282,7 @@ fn decl_to_type_decl(
 fn with_body(
     tree: &[u8],
     at: usize,
-    left: usize,
+    levels: usize,
     flags: u8,
     scope: Scope,
     list: &[u8],
@@ -280,47 +290,47 @@ fn with_body(
     diagnostics: &mut [u8],
     s: State,
 ) -> State
-    requires { ⌜ Ready left (now tree) at (s .n) scope × (markAt (now tree) at ≡ mark "Ns") ⌝ }
+    requires { ⌜ Ready levels (now tree) at (s .n) scope × (markAt (now tree) at ≡ mark "Ns") ⌝ }
     ensures { λ r. ⌜
         Makes (now (out .entry)) (now (out .exit)) (now (diagnostics .entry)) (now (diagnostics .exit)) s r
-        (withBody (now (list .entry)) (now (tree .entry)) scope flags (treeAt left (now (tree .entry)) at) (s .n))
+        (withBody (now (list .entry)) (now (tree .entry)) scope flags (treeAt levels (now (tree .entry)) at) (s .n))
         ⌝ }
 {
     let head = read_head(tree, at);
     let name = body_at(tree, at);
-    let body = record_end(tree, name, left - 1);
-    let rest = record_end(tree, body, left - 1);
-    let front = put_front(tree, at, left, flags, head.count, out, s);
-    let named = keep(tree, name, left - 1, out, front);
-    let next = transform_ts_ns_body(tree, body, left - 1, scope, list, out, diagnostics, named);
-    keep_all(tree, rest, head.count - 2, left - 1, out, next)
+    let body = record_end(tree, name, levels - 1);
+    let rest = record_end(tree, body, levels - 1);
+    let front = put_front(tree, at, levels, flags, head.count, out, s);
+    let named = keep(tree, name, levels - 1, out, front);
+    let next = transform_ts_ns_body(tree, body, levels - 1, scope, list, out, diagnostics, named);
+    keep_all(tree, rest, head.count - 2, levels - 1, out, next)
 }
 
 // `transform_ts_ns_body`: "Nd is replaced by its innermost Nb".
 fn transform_ts_ns_body(
     tree: &[u8],
     at: usize,
-    left: usize,
+    levels: usize,
     scope: Scope,
     list: &[u8],
     out: &mut [u8],
     diagnostics: &mut [u8],
     s: State,
 ) -> State
-    requires { ⌜ Ready left (now tree) at (s .n) scope ⌝ }
+    requires { ⌜ Ready levels (now tree) at (s .n) scope ⌝ }
     ensures { λ r. ⌜
         Makes (now (out .entry)) (now (out .exit)) (now (diagnostics .entry)) (now (diagnostics .exit)) s r
-        (bodyOf (now (list .entry)) (now (tree .entry)) scope (treeAt left (now (tree .entry)) at) (s .n))
+        (bodyOf (now (list .entry)) (now (tree .entry)) scope (treeAt levels (now (tree .entry)) at) (s .n))
         ⌝ }
 {
     match mark_at(tree, at) {
-        NB => ns_block(tree, at, left, scope, list, out, diagnostics, s),
+        NB => ns_block(tree, at, levels, scope, list, out, diagnostics, s),
         ND => {
             let name = body_at(tree, at);
-            let body = record_end(tree, name, left - 1);
-            transform_ts_ns_body(tree, body, left - 1, scope, list, out, diagnostics, s)
+            let body = record_end(tree, name, levels - 1);
+            transform_ts_ns_body(tree, body, levels - 1, scope, list, out, diagnostics, s)
         }
-        _ => keep(tree, at, left, out, s),
+        _ => keep(tree, at, levels, out, s),
     }
 }
 
@@ -328,17 +338,17 @@ fn transform_ts_ns_body(
 fn ns_block(
     tree: &[u8],
     at: usize,
-    left: usize,
+    levels: usize,
     scope: Scope,
     list: &[u8],
     out: &mut [u8],
     diagnostics: &mut [u8],
     s: State,
 ) -> State
-    requires { ⌜ Ready left (now tree) at (s .n) scope × (markAt (now tree) at ≡ mark "Nb") ⌝ }
+    requires { ⌜ Ready levels (now tree) at (s .n) scope × (markAt (now tree) at ≡ mark "Nb") ⌝ }
     ensures { λ r. ⌜
         Makes (now (out .entry)) (now (out .exit)) (now (diagnostics .entry)) (now (diagnostics .exit)) s r
-        (bodyOf (now (list .entry)) (now (tree .entry)) scope (treeAt left (now (tree .entry)) at) (s .n))
+        (bodyOf (now (list .entry)) (now (tree .entry)) scope (treeAt levels (now (tree .entry)) at) (s .n))
         ⌝ }
 {
     let head = read_head(tree, at);
@@ -349,7 +359,7 @@ fn ns_block(
         tree,
         first,
         head.count,
-        left - 1,
+        levels - 1,
         scope,
         list,
         false,
@@ -357,6 +367,6 @@ fn ns_block(
         diagnostics,
         start,
     );
-    put_front(tree, at, left, head.flags, made.count, out, s);
+    put_front(tree, at, levels, head.flags, made.count, out, s);
     made.s
 }

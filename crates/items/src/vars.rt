@@ -46,24 +46,24 @@ fn declarator_type(
     tree: &[u8],
     at: usize,
     init: usize,
-    left: usize,
+    levels: usize,
     scope: Scope,
     out: &mut [u8],
     diagnostics: &mut [u8],
     s: State,
 ) -> State
-    requires { ⌜ AcceptedAt left (now tree) at ⌝ }
-    requires { ⌜ Ready left (now tree) init (s .n) scope ⌝ }
+    requires { ⌜ AcceptedAt levels (now tree) at ⌝ }
+    requires { ⌜ Ready levels (now tree) init (s .n) scope ⌝ }
     ensures { λ r. ⌜
         Makes (now (out .entry)) (now (out .exit)) (now (diagnostics .entry)) (now (diagnostics .exit)) s r
-        (declaratorType (typingOf (now (tree .entry)) scope) (headAt (now (tree .entry)) at) (treeAt left (now (tree .entry)) init) (s .n))
+        (declaratorType (typingOf (now (tree .entry)) scope) (headAt (now (tree .entry)) at) (treeAt levels (now (tree .entry)) init) (s .n))
         ⌝ }
 {
     if mark_at(tree, init) == NO {
         let next = put_any(DUMMY_SP, out, s);
         return typing::mark_diagnostic(tree, at, D2, diagnostics, next);
     }
-    let t = typing::expr_to_ts_type(tree, init, left, readonly(scope), out, diagnostics, s);
+    let t = typing::expr_to_ts_type(tree, init, levels, readonly(scope), out, diagnostics, s);
     typing::or_any(tree, at, D2, t, out, diagnostics)
 }
 
@@ -72,86 +72,86 @@ fn declarator_ident(
     tree: &[u8],
     at: usize,
     init: usize,
-    left: usize,
+    levels: usize,
     scope: Scope,
     out: &mut [u8],
     diagnostics: &mut [u8],
     s: State,
 ) -> State
-    requires { ⌜ AcceptedAt left (now tree) at × (markAt (now tree) at ≡ mark "Bd") ⌝ }
-    requires { ⌜ Ready left (now tree) init (s .n) scope ⌝ }
+    requires { ⌜ AcceptedAt levels (now tree) at × (markAt (now tree) at ≡ mark "Bd") ⌝ }
+    requires { ⌜ Ready levels (now tree) init (s .n) scope ⌝ }
     ensures { λ r. ⌜
         Makes (now (out .entry)) (now (out .exit)) (now (diagnostics .entry)) (now (diagnostics .exit)) s r
-        (wrap (headOf (treeAt left (now (tree .entry)) at))
-        (atKid 1 (typeOr (declaratorType (typingOf (now (tree .entry)) scope) (headOf (treeAt left (now (tree .entry)) at))
-        (treeAt left (now (tree .entry)) init))) (kidsOf (treeAt left (now (tree .entry)) at)) (s .n)))
+        (wrap (headOf (treeAt levels (now (tree .entry)) at))
+        (atKid 1 (typeOr (declaratorType (typingOf (now (tree .entry)) scope) (headOf (treeAt levels (now (tree .entry)) at))
+        (treeAt levels (now (tree .entry)) init))) (kidsOf (treeAt levels (now (tree .entry)) at)) (s .n)))
         ⌝ }
 {
     let head = read_head(tree, at);
     let ident = body_at(tree, at);
-    let type_ann = record_end(tree, ident, left - 1);
+    let type_ann = record_end(tree, ident, levels - 1);
     if mark_at(tree, type_ann) != NO {
-        return keep(tree, at, left, out, s);
+        return keep(tree, at, levels, out, s);
     }
-    let rest = record_end(tree, type_ann, left - 1);
-    let front = put_front(tree, at, left, head.flags, head.count, out, s);
-    let named = keep(tree, ident, left - 1, out, front);
-    let typed = declarator_type(tree, at, init, left, scope, out, diagnostics, named);
-    keep_all(tree, rest, head.count - 2, left - 1, out, typed)
+    let rest = record_end(tree, type_ann, levels - 1);
+    let front = put_front(tree, at, levels, head.flags, head.count, out, s);
+    let named = keep(tree, ident, levels - 1, out, front);
+    let typed = declarator_type(tree, at, init, levels, scope, out, diagnostics, named);
+    keep_all(tree, rest, head.count - 2, levels - 1, out, typed)
 }
 
 // The pattern of the Vr at `at`: "Other patterns give d1 at Vr".
 fn declarator_pattern(
     tree: &[u8],
     at: usize,
-    left: usize,
+    levels: usize,
     scope: Scope,
     out: &mut [u8],
     diagnostics: &mut [u8],
     s: State,
 ) -> State
-    requires { ⌜ Ready left (now tree) at (s .n) scope × (markAt (now tree) at ≡ mark "Vr") ⌝ }
+    requires { ⌜ Ready levels (now tree) at (s .n) scope × (markAt (now tree) at ≡ mark "Vr") ⌝ }
     ensures { λ r. ⌜
         Makes (now (out .entry)) (now (out .exit)) (now (diagnostics .entry)) (now (diagnostics .exit)) s r
-        (patternOf (now (tree .entry)) scope (treeAt left (now (tree .entry)) at) (s .n))
+        (patternOf (now (tree .entry)) scope (treeAt levels (now (tree .entry)) at) (s .n))
         ⌝ }
 {
     let pattern = body_at(tree, at);
     if mark_at(tree, pattern) != BD {
-        let next = keep(tree, pattern, left - 1, out, s);
+        let next = keep(tree, pattern, levels - 1, out, s);
         return typing::mark_diagnostic(tree, at, D1, diagnostics, next);
     }
-    let init = record_end(tree, pattern, left - 1);
-    declarator_ident(tree, pattern, init, left - 1, scope, out, diagnostics, s)
+    let init = record_end(tree, pattern, levels - 1);
+    declarator_ident(tree, pattern, init, levels - 1, scope, out, diagnostics, s)
 }
 
 // A Vr: "Every init goes"; an Op is left as it is.
 fn declarator(
     tree: &[u8],
     at: usize,
-    left: usize,
+    levels: usize,
     scope: Scope,
     out: &mut [u8],
     diagnostics: &mut [u8],
     s: State,
 ) -> State
-    requires { ⌜ Ready left (now tree) at (s .n) scope ⌝ }
+    requires { ⌜ Ready levels (now tree) at (s .n) scope ⌝ }
     ensures { λ r. ⌜
         Makes (now (out .entry)) (now (out .exit)) (now (diagnostics .entry)) (now (diagnostics .exit)) s r
-        (declarator (typingOf (now (tree .entry)) scope) (treeAt left (now (tree .entry)) at) (s .n))
+        (declarator (typingOf (now (tree .entry)) scope) (treeAt levels (now (tree .entry)) at) (s .n))
         ⌝ }
 {
     if mark_at(tree, at) != VR {
-        return keep(tree, at, left, out, s);
+        return keep(tree, at, levels, out, s);
     }
     let head = read_head(tree, at);
     let pattern = body_at(tree, at);
-    let init = record_end(tree, pattern, left - 1);
-    let rest = record_end(tree, init, left - 1);
-    let front = put_front(tree, at, left, head.flags, head.count, out, s);
-    let named = declarator_pattern(tree, at, left, scope, out, diagnostics, front);
-    let bare = put_gone(tree, init, left - 1, out, named);
-    keep_all(tree, rest, head.count - 2, left - 1, out, bare)
+    let init = record_end(tree, pattern, levels - 1);
+    let rest = record_end(tree, init, levels - 1);
+    let front = put_front(tree, at, levels, head.flags, head.count, out, s);
+    let named = declarator_pattern(tree, at, levels, scope, out, diagnostics, front);
+    let bare = put_gone(tree, init, levels - 1, out, named);
+    keep_all(tree, rest, head.count - 2, levels - 1, out, bare)
 }
 
 // The declarators of a Vd, n records from `at` on.
@@ -159,24 +159,24 @@ pub fn declarators(
     tree: &[u8],
     at: usize,
     n: usize,
-    left: usize,
+    levels: usize,
     scope: Scope,
     out: &mut [u8],
     diagnostics: &mut [u8],
     s: State,
 ) -> State
-    requires { ⌜ ReadyAll left (now tree) n at (s .n) scope ⌝ }
+    requires { ⌜ ReadyAll levels (now tree) n at (s .n) scope ⌝ }
     ensures { λ r. ⌜
         MakesAll (now (out .entry)) (now (out .exit)) (now (diagnostics .entry)) (now (diagnostics .exit)) s r
-        (each (λ i. declarator (typingOf (now (tree .entry)) scope)) 0 (recordsAt left (now (tree .entry)) n at) (s .n))
+        (each (λ i. declarator (typingOf (now (tree .entry)) scope)) 0 (recordsAt levels (now (tree .entry)) n at) (s .n))
         ⌝ }
 {
     let mut next = s;
     let mut k = n;
     let mut child = at;
     while 0 < k {
-        next = declarator(tree, child, left, scope, out, diagnostics, next);
-        child = record_end(tree, child, left);
+        next = declarator(tree, child, levels, scope, out, diagnostics, next);
+        child = record_end(tree, child, levels);
         k -= 1;
     }
     next

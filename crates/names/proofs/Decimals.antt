@@ -1,4 +1,4 @@
--- The decimal digits of a number, from its last one on. Assumes nothing.
+-- The decimal digits of a number, from its last one on.
 use mathlib.Core.Path.{_≡_, refl, ap, _∙_}
 use mathlib.Core.List.{List, [], _∷_, _++_}
 use mathlib.Core.Bool.{Bool, true, false, cond}

@@ -1,4 +1,4 @@
--- What the definition of the keys says of the record at an offset, by its mark. Assumes nothing.
+-- What the definition of the keys says of the record at an offset, by its mark.
 -- In each module m is the mark of the record at `at`, as the code read it.
 use mathlib.Core.Path.{_≡_, refl, sym, ap, _∙_}
 use mathlib.Core.List.{List}
@@ -26,56 +26,56 @@ key-as h e = record { key = h .key ∙ sym e; accepted = h .accepted }
 
 -- ---- `is_well_known_symbol_expr`
 
-module _ {left : ℕ} {s : List ℕ} {at : ℕ} (a : AcceptedAt left s at) {m : ℕ} (mq : m ≡ markAt s at) (unresolved : ℕ) where
-  member-by : isWellKnownMember unresolved (treeAt left s at) ≡ (eqb m (mark "Mb") && isWellKnownSymbolExpr unresolved (kidsOf (treeAt left s at)))
-  member-by = ap (λ (j : ℕ). eqb j (mark "Mb") && isWellKnownSymbolExpr unresolved (kidsOf (treeAt left s at))) (mark-is left s at ∙ sym mq)
+module _ {levels : ℕ} {s : List ℕ} {at : ℕ} (a : AcceptedAt levels s at) {m : ℕ} (mq : m ≡ markAt s at) (unresolved : ℕ) where
+  member-by : isWellKnownMember unresolved (treeAt levels s at) ≡ (eqb m (mark "Mb") && isWellKnownSymbolExpr unresolved (kidsOf (treeAt levels s at)))
+  member-by = ap (λ (j : ℕ). eqb j (mark "Mb") && isWellKnownSymbolExpr unresolved (kidsOf (treeAt levels s at))) (mark-is levels s at ∙ sym mq)
 
-  pub well-other : (m ≡ mark "Mb" → ⊥) → isWellKnownMember unresolved (treeAt left s at) ≡ false
+  pub well-other : (m ≡ mark "Mb" → ⊥) → isWellKnownMember unresolved (treeAt levels s at) ≡ false
   well-other n = member-by ∙ rw (ne-eqb m (mark "Mb") n)
 
   -- of an Mb, whose object stands at p
   module _ (e : m ≡ mark "Mb") {p : ℕ} (pq : p ≡ bodyAt s at) where
-    pub object-child : Child left s at 0 p expression
+    pub object-child : Child levels s at 0 p expression
     unfolding grammar known slots place fixed
-    object-child = placed (first-in left s at a (mark "Mb") (sym mq ∙ e) refl expression refl) pq
+    object-child = placed (first-in levels s at a (mark "Mb") (sym mq ∙ e) refl expression refl) pq
 
-    well-by : isWellKnownMember unresolved (treeAt left s at) ≡
-        (isGlobalName unresolved (text "Symbol") (treeAt (left - 1) s p) && (is "Ki" (kid 1 (kidsOf (treeAt left s at))) && anyText wellKnownSymbolNames (textOf (kid 1 (kidsOf (treeAt left s at))))))
+    well-by : isWellKnownMember unresolved (treeAt levels s at) ≡
+        (isGlobalName unresolved (text "Symbol") (treeAt (levels - 1) s p) && (is "Ki" (kid 1 (kidsOf (treeAt levels s at))) && anyText wellKnownSymbolNames (textOf (kid 1 (kidsOf (treeAt levels s at))))))
     unfolding isWellKnownSymbolExpr
     well-by = member-by ∙ rw (eq-eqb m (mark "Mb") e, object-child .tree)
 
-    pub well-local : isGlobalName unresolved (text "Symbol") (treeAt (left - 1) s p) ≡ false → isWellKnownMember unresolved (treeAt left s at) ≡ false
+    pub well-local : isGlobalName unresolved (text "Symbol") (treeAt (levels - 1) s p) ≡ false → isWellKnownMember unresolved (treeAt levels s at) ≡ false
     well-local g = well-by ∙ rw g
 
     -- its property stands at d, and has the mark w
-    module _ (g : isGlobalName unresolved (text "Symbol") (treeAt (left - 1) s p) ≡ true) {d : ℕ} (dq : d ≡ endAt (left - 1) s p) where
-      pub property-child : Child left s at 1 d "Ki Op"
+    module _ (g : isGlobalName unresolved (text "Symbol") (treeAt (levels - 1) s p) ≡ true) {d : ℕ} (dq : d ≡ endAt (levels - 1) s p) where
+      pub property-child : Child levels s at 1 d "Ki Op"
       unfolding grammar known slots place fixed
-      property-child = placed (second-in left s at a (mark "Mb") (sym mq ∙ e) refl "Ki Op" refl) (dq ∙ ap (endAt (left - 1) s) pq)
+      property-child = placed (second-in levels s at a (mark "Mb") (sym mq ∙ e) refl "Ki Op" refl) (dq ∙ ap (endAt (levels - 1) s) pq)
 
       module _ {w : ℕ} (wq : w ≡ markAt s d) where
-        property-by : isWellKnownMember unresolved (treeAt left s at) ≡ (eqb w (mark "Ki") && anyText wellKnownSymbolNames (textAt s d))
-        property-by = well-by ∙ rw (g, property-child .tree, mark-is (left - 1) s d, text-is (left - 1) s d, sym wq)
+        property-by : isWellKnownMember unresolved (treeAt levels s at) ≡ (eqb w (mark "Ki") && anyText wellKnownSymbolNames (textAt s d))
+        property-by = well-by ∙ rw (g, property-child .tree, mark-is (levels - 1) s d, text-is (levels - 1) s d, sym wq)
 
-        pub well-computed : (w ≡ mark "Ki" → ⊥) → isWellKnownMember unresolved (treeAt left s at) ≡ false
+        pub well-computed : (w ≡ mark "Ki" → ⊥) → isWellKnownMember unresolved (treeAt levels s at) ≡ false
         well-computed n = property-by ∙ rw (ne-eqb w (mark "Ki") n)
 
-        pub well-named : w ≡ mark "Ki" → {t : List ℕ} → t ≡ textAt s d → isWellKnownMember unresolved (treeAt left s at) ≡ anyText wellKnownSymbolNames t
+        pub well-named : w ≡ mark "Ki" → {t : List ℕ} → t ≡ textAt s d → isWellKnownMember unresolved (treeAt levels s at) ≡ anyText wellKnownSymbolNames t
         well-named f {t} tq = property-by ∙ rw (eq-eqb w (mark "Ki") f, tq)
 
 -- ---- the only expression of a template
 
 -- the children behind the first one, which stands at p, where there are n
 abbrev others : ℕ → List ℕ → ℕ → ℕ → Recs
-others left s n p = readAll (treeAt (left - 1) s) (endAt (left - 1) s) (n - 1) (endAt (left - 1) s p)
+others levels s n p = readAll (treeAt (levels - 1) s) (endAt (levels - 1) s) (n - 1) (endAt (levels - 1) s p)
 
-module _ {left : ℕ} {s : List ℕ} {at : ℕ} (a : AcceptedAt left s at) {n : ℕ} (nq : n ≡ countAt s at) where
-  kids-read : kidsOf (treeAt left s at) ≡ readAll (treeAt (left - 1) s) (endAt (left - 1) s) n (bodyAt s at)
-  kids-read = rw nq (kids-are left s at a)
+module _ {levels : ℕ} {s : List ℕ} {at : ℕ} (a : AcceptedAt levels s at) {n : ℕ} (nq : n ≡ countAt s at) where
+  kids-read : kidsOf (treeAt levels s at) ≡ readAll (treeAt (levels - 1) s) (endAt (levels - 1) s) n (bodyAt s at)
+  kids-read = rw nq (kids-are levels s at a)
 
-  pub only-none : n ≡ 0 → onlyExpression (kidsOf (treeAt left s at)) ≡ false
+  pub only-none : n ≡ 0 → onlyExpression (kidsOf (treeAt levels s at)) ≡ false
   unfolding onlyExpression
-  only-none z = rw (kids-read ∙ readAll-none (treeAt (left - 1) s) (endAt (left - 1) s) n (bodyAt s at) (omega arith))
+  only-none z = rw (kids-read ∙ readAll-none (treeAt (levels - 1) s) (endAt (levels - 1) s) n (bodyAt s at) (omega arith))
 
   module _ (z : n ≡ 0 → ⊥) {p : ℕ} (pq : p ≡ bodyAt s at) where
     some-kid : 0 < n
@@ -86,35 +86,35 @@ module _ {left : ℕ} {s : List ℕ} {at : ℕ} (a : AcceptedAt left s at) {n : 
         go (suc k) f = omega arith
 
     -- the first child
-    pub first-kid : AcceptedAt (left - 1) s p
-    first-kid = rw (pq, ← (child-0 left s at)) (child left s at a 0 (omega (arith, nq, some-kid)))
+    pub first-kid : AcceptedAt (levels - 1) s p
+    first-kid = rw (pq, ← (child-0 levels s at)) (child levels s at a 0 (omega (arith, nq, some-kid)))
 
     -- it has the mark w
     module _ {w : ℕ} (wq : w ≡ markAt s p) where
-      only-by : onlyExpression (kidsOf (treeAt left s at)) ≡ ((not (eqb w (mark "Qu")) && not (eqb w (mark "Op"))) && ends (others left s n p))
+      only-by : onlyExpression (kidsOf (treeAt levels s at)) ≡ ((not (eqb w (mark "Qu")) && not (eqb w (mark "Op"))) && ends (others levels s n p))
       unfolding onlyExpression
       only-by =
-          rw (kids-read ∙ readAll-more (treeAt (left - 1) s) (endAt (left - 1) s) n (bodyAt s at) some-kid, sym pq, mark-is (left - 1) s p, sym wq)
+          rw (kids-read ∙ readAll-more (treeAt (levels - 1) s) (endAt (levels - 1) s) n (bodyAt s at) some-kid, sym pq, mark-is (levels - 1) s p, sym wq)
 
-      pub only-quasi : w ≡ mark "Qu" → onlyExpression (kidsOf (treeAt left s at)) ≡ false
+      pub only-quasi : w ≡ mark "Qu" → onlyExpression (kidsOf (treeAt levels s at)) ≡ false
       only-quasi e = only-by ∙ rw (eq-eqb w (mark "Qu") e)
 
-      pub only-ops : w ≡ mark "Op" → onlyExpression (kidsOf (treeAt left s at)) ≡ false
+      pub only-ops : w ≡ mark "Op" → onlyExpression (kidsOf (treeAt levels s at)) ≡ false
       only-ops e = only-by ∙ go (eqb w (mark "Qu"))
         where
-          go : (b : Bool) → ((not b && not (eqb w (mark "Op"))) && ends (others left s n p)) ≡ false
+          go : (b : Bool) → ((not b && not (eqb w (mark "Op"))) && ends (others levels s n p)) ≡ false
           go true = refl
           go false = rw (eq-eqb w (mark "Op") e)
 
       module _ (u : w ≡ mark "Qu" → ⊥) (o : w ≡ mark "Op" → ⊥) where
-        only-ends : onlyExpression (kidsOf (treeAt left s at)) ≡ ends (others left s n p)
+        only-ends : onlyExpression (kidsOf (treeAt levels s at)) ≡ ends (others levels s n p)
         only-ends = only-by ∙ rw (ne-eqb w (mark "Qu") u, ne-eqb w (mark "Op") o)
 
-        pub only-one : n ≡ 1 → onlyExpression (kidsOf (treeAt left s at)) ≡ true
-        only-one e = only-ends ∙ rw (readAll-none (treeAt (left - 1) s) (endAt (left - 1) s) (n - 1) (endAt (left - 1) s p) (omega arith))
+        pub only-one : n ≡ 1 → onlyExpression (kidsOf (treeAt levels s at)) ≡ true
+        only-one e = only-ends ∙ rw (readAll-none (treeAt (levels - 1) s) (endAt (levels - 1) s) (n - 1) (endAt (levels - 1) s p) (omega arith))
 
         -- the second child, at d
-        module _ (f : n ≡ 1 → ⊥) {d : ℕ} (dq : d ≡ endAt (left - 1) s p) where
+        module _ (f : n ≡ 1 → ⊥) {d : ℕ} (dq : d ≡ endAt (levels - 1) s p) where
           two-kids : 1 < n
           two-kids = go n z f
             where
@@ -123,16 +123,16 @@ module _ {left : ℕ} {s : List ℕ} {at : ℕ} (a : AcceptedAt left s at) {n : 
               go (suc zero) x y = absurd (y refl)
               go (suc (suc k)) x y = omega arith
 
-          pub second-kid : AcceptedAt (left - 1) s d
-          second-kid = rw (dq, pq, ← (child-1 left s at)) (child left s at a 1 (omega (arith, nq, two-kids)))
+          pub second-kid : AcceptedAt (levels - 1) s d
+          second-kid = rw (dq, pq, ← (child-1 levels s at)) (child levels s at a 1 (omega (arith, nq, two-kids)))
 
-          pub only-before : {v : ℕ} → v ≡ markAt s d → onlyExpression (kidsOf (treeAt left s at)) ≡ eqb v (mark "Op")
+          pub only-before : {v : ℕ} → v ≡ markAt s d → onlyExpression (kidsOf (treeAt levels s at)) ≡ eqb v (mark "Op")
           only-before {v} vq =
-              only-ends ∙ rw (vq, readAll-more (treeAt (left - 1) s) (endAt (left - 1) s) (n - 1) (endAt (left - 1) s p) (omega (arith, two-kids)), sym dq, mark-is (left - 1) s d)
+              only-ends ∙ rw (vq, readAll-more (treeAt (levels - 1) s) (endAt (levels - 1) s) (n - 1) (endAt (levels - 1) s p) (omega (arith, two-kids)), sym dq, mark-is (levels - 1) s d)
 
 -- a template with an only expression has a first child
-only-there : (left : ℕ) (s : List ℕ) (at : ℕ) → AcceptedAt left s at → onlyExpression (kidsOf (treeAt left s at)) ≡ true → 0 < countAt s at
-only-there left s at a h = go (countAt s at) refl
+only-there : (levels : ℕ) (s : List ℕ) (at : ℕ) → AcceptedAt levels s at → onlyExpression (kidsOf (treeAt levels s at)) ≡ true → 0 < countAt s at
+only-there levels s at a h = go (countAt s at) refl
   where
     go : (k : ℕ) → countAt s at ≡ k → 0 < k
     go zero e = absurd (let f = only-none a (sym e) refl in let y : _≡_ {A = ℕ} 0 1 = cc (h, f) in omega arith)
@@ -162,24 +162,24 @@ Literal m = (m ≡ mark "Bi") ⊎ ((m ≡ mark "Ss") ⊎ (m ≡ mark "Nu"))
 abbrev pub Through : ℕ → Type 0
 Through m = (m ≡ mark "Ta") ⊎ ((m ≡ mark "Tc") ⊎ ((m ≡ mark "Nn") ⊎ ((m ≡ mark "Pr") ⊎ ((m ≡ mark "As") ⊎ (m ≡ mark "Ts")))))
 
-module _ {left : ℕ} {s : List ℕ} {at : ℕ} (a : AcceptedAt left s at) {m : ℕ} (mq : m ≡ markAt s at) (ctx : ℕ) where
-  expr-of : (k : KeyExpr) → keyExprKind m ≡ k → propNameFromExpr (treeAt left s at) ctx ≡
-      propNameBy k ctx (treeAt left s at) (λ n. propNameFromFirst (kidsOf (treeAt left s at)) n) (λ n. propNameFromOnly (kidsOf (treeAt left s at)) n)
+module _ {levels : ℕ} {s : List ℕ} {at : ℕ} (a : AcceptedAt levels s at) {m : ℕ} (mq : m ≡ markAt s at) (ctx : ℕ) where
+  expr-of : (k : KeyExpr) → keyExprKind m ≡ k → propNameFromExpr (treeAt levels s at) ctx ≡
+      propNameBy k ctx (treeAt levels s at) (λ n. propNameFromFirst (kidsOf (treeAt levels s at)) n) (λ n. propNameFromOnly (kidsOf (treeAt levels s at)) n)
   expr-of k e =
-      expr-by (treeAt left s at) ctx ∙
-      ap (λ (j : KeyExpr). propNameBy j ctx (treeAt left s at) (λ n. propNameFromFirst (kidsOf (treeAt left s at)) n) (λ n. propNameFromOnly (kidsOf (treeAt left s at)) n))
-      (ap keyExprKind (mark-is left s at ∙ sym mq) ∙ e)
+      expr-by (treeAt levels s at) ctx ∙
+      ap (λ (j : KeyExpr). propNameBy j ctx (treeAt levels s at) (λ n. propNameFromFirst (kidsOf (treeAt levels s at)) n) (λ n. propNameFromOnly (kidsOf (treeAt levels s at)) n))
+      (ap keyExprKind (mark-is levels s at ∙ sym mq) ∙ e)
 
-  pub key-literal : Literal m → propNameFromExpr (treeAt left s at) ctx ≡ some (treeAt left s at)
+  pub key-literal : Literal m → propNameFromExpr (treeAt levels s at) ctx ≡ some (treeAt levels s at)
   unfolding keyExprKind propNameBy
   key-literal h = expr-of xLit (⊎-elim (λ (e : m ≡ mark "Bi"). rw e) (⊎-elim (λ (e : m ≡ mark "Ss"). rw e) (λ (e : m ≡ mark "Nu"). rw e)) h)
 
-  pub key-ident : m ≡ mark "Id" → propNameFromExpr (treeAt left s at) ctx ≡ some (computed (treeAt left s at))
+  pub key-ident : m ≡ mark "Id" → propNameFromExpr (treeAt levels s at) ctx ≡ some (computed (treeAt levels s at))
   unfolding keyExprKind propNameBy
   key-ident e = expr-of xIdent (rw e)
 
   pub key-other : (Literal m → ⊥) → (m ≡ mark "Te" → ⊥) → (Through m → ⊥) → (m ≡ mark "Id" → ⊥) → (m ≡ mark "Mb" → ⊥) →
-      propNameFromExpr (treeAt left s at) ctx ≡ none
+      propNameFromExpr (treeAt levels s at) ctx ≡ none
   unfolding keyExprKind propNameBy
   key-other l t h i o =
       expr-of xOther
@@ -187,50 +187,50 @@ module _ {left : ℕ} {s : List ℕ} {at : ℕ} (a : AcceptedAt left s at) {m : 
 
   -- an Mb, by what `is_well_known_symbol_expr` says of it
   module _ (e : m ≡ mark "Mb") where
-    symbol-by : propNameFromExpr (treeAt left s at) ctx ≡ cond (isWellKnownMember ctx (treeAt left s at)) (some (computed (treeAt left s at))) none
+    symbol-by : propNameFromExpr (treeAt levels s at) ctx ≡ cond (isWellKnownMember ctx (treeAt levels s at)) (some (computed (treeAt levels s at))) none
     unfolding keyExprKind propNameBy
     symbol-by =
-        let w : isWellKnownMember ctx (treeAt left s at) ≡ isWellKnownSymbolExpr ctx (kidsOf (treeAt left s at)) = member-by a mq ctx ∙ rw (eq-eqb m (mark "Mb") e) in
-        expr-of xMember (rw e) ∙ ap (λ (b : Bool). cond b (some (computed (treeAt left s at))) none) (sym w)
+        let w : isWellKnownMember ctx (treeAt levels s at) ≡ isWellKnownSymbolExpr ctx (kidsOf (treeAt levels s at)) = member-by a mq ctx ∙ rw (eq-eqb m (mark "Mb") e) in
+        expr-of xMember (rw e) ∙ ap (λ (b : Bool). cond b (some (computed (treeAt levels s at))) none) (sym w)
 
-    pub key-symbol : isWellKnownMember ctx (treeAt left s at) ≡ true → propNameFromExpr (treeAt left s at) ctx ≡ some (computed (treeAt left s at))
+    pub key-symbol : isWellKnownMember ctx (treeAt levels s at) ≡ true → propNameFromExpr (treeAt levels s at) ctx ≡ some (computed (treeAt levels s at))
     key-symbol w = symbol-by ∙ rw w
 
-    pub key-no-symbol : isWellKnownMember ctx (treeAt left s at) ≡ false → propNameFromExpr (treeAt left s at) ctx ≡ none
+    pub key-no-symbol : isWellKnownMember ctx (treeAt levels s at) ≡ false → propNameFromExpr (treeAt levels s at) ctx ≡ none
     key-no-symbol w = symbol-by ∙ rw w
 
-  pub key-template : m ≡ mark "Te" → onlyExpression (kidsOf (treeAt left s at)) ≡ false → propNameFromExpr (treeAt left s at) ctx ≡ none
+  pub key-template : m ≡ mark "Te" → onlyExpression (kidsOf (treeAt levels s at)) ≡ false → propNameFromExpr (treeAt levels s at) ctx ≡ none
   unfolding keyExprKind propNameBy
-  key-template e o = expr-of xTpl (rw e) ∙ (only-name (kidsOf (treeAt left s at)) ctx ∙ rw o)
+  key-template e o = expr-of xTpl (rw e) ∙ (only-name (kidsOf (treeAt levels s at)) ctx ∙ rw o)
 
   -- the first child stands at p
   module _ {p : ℕ} (pq : p ≡ bodyAt s at) where
-    pub only-child : onlyExpression (kidsOf (treeAt left s at)) ≡ true → AcceptedAt (left - 1) s p
-    only-child o = rw (pq, ← (child-0 left s at)) (child left s at a 0 (only-there left s at a o))
+    pub only-child : onlyExpression (kidsOf (treeAt levels s at)) ≡ true → AcceptedAt (levels - 1) s p
+    only-child o = rw (pq, ← (child-0 levels s at)) (child levels s at a 0 (only-there levels s at a o))
 
-    pub key-only : m ≡ mark "Te" → onlyExpression (kidsOf (treeAt left s at)) ≡ true → propNameFromExpr (treeAt left s at) ctx ≡ propNameFromExpr (treeAt (left - 1) s p) ctx
+    pub key-only : m ≡ mark "Te" → onlyExpression (kidsOf (treeAt levels s at)) ≡ true → propNameFromExpr (treeAt levels s at) ctx ≡ propNameFromExpr (treeAt (levels - 1) s p) ctx
     unfolding keyExprKind propNameBy
     key-only e o =
         expr-of xTpl (rw e) ∙
-        (only-name (kidsOf (treeAt left s at)) ctx ∙
-        rw (o, kid-is left s at a 0 (only-there left s at a o), child-0 left s at, pq))
+        (only-name (kidsOf (treeAt levels s at)) ctx ∙
+        rw (o, kid-is levels s at a 0 (only-there levels s at a o), child-0 levels s at, pq))
 
-    pub through-child : Through m → Child left s at 0 p expression
+    pub through-child : Through m → Child levels s at 0 p expression
     unfolding grammar known slots place fixed
     through-child h = placed (⊎-elim
-        (λ (e : m ≡ mark "Ta"). first-in left s at a (mark "Ta") (sym mq ∙ e) refl expression refl)
+        (λ (e : m ≡ mark "Ta"). first-in levels s at a (mark "Ta") (sym mq ∙ e) refl expression refl)
         (⊎-elim
-        (λ (e : m ≡ mark "Tc"). first-in left s at a (mark "Tc") (sym mq ∙ e) refl expression refl)
+        (λ (e : m ≡ mark "Tc"). first-in levels s at a (mark "Tc") (sym mq ∙ e) refl expression refl)
         (⊎-elim
-        (λ (e : m ≡ mark "Nn"). first-in left s at a (mark "Nn") (sym mq ∙ e) refl expression refl)
+        (λ (e : m ≡ mark "Nn"). first-in levels s at a (mark "Nn") (sym mq ∙ e) refl expression refl)
         (⊎-elim
-        (λ (e : m ≡ mark "Pr"). first-in left s at a (mark "Pr") (sym mq ∙ e) refl expression refl)
+        (λ (e : m ≡ mark "Pr"). first-in levels s at a (mark "Pr") (sym mq ∙ e) refl expression refl)
         (⊎-elim
-        (λ (e : m ≡ mark "As"). first-in left s at a (mark "As") (sym mq ∙ e) refl expression refl)
-        (λ (e : m ≡ mark "Ts"). first-in left s at a (mark "Ts") (sym mq ∙ e) refl expression refl)))))
+        (λ (e : m ≡ mark "As"). first-in levels s at a (mark "As") (sym mq ∙ e) refl expression refl)
+        (λ (e : m ≡ mark "Ts"). first-in levels s at a (mark "Ts") (sym mq ∙ e) refl expression refl)))))
         h) pq
 
-    pub key-through : Through m → propNameFromExpr (treeAt left s at) ctx ≡ propNameFromExpr (treeAt (left - 1) s p) ctx
+    pub key-through : Through m → propNameFromExpr (treeAt levels s at) ctx ≡ propNameFromExpr (treeAt (levels - 1) s p) ctx
     unfolding keyExprKind propNameBy
     key-through h =
         expr-of xThrough (⊎-elim
@@ -245,22 +245,22 @@ module _ {left : ℕ} {s : List ℕ} {at : ℕ} (a : AcceptedAt left s at) {m : 
         (λ (e : m ≡ mark "As"). rw e)
         (λ (e : m ≡ mark "Ts"). rw e)))))
         h) ∙
-        (first-name (kidsOf (treeAt left s at)) ctx ∙ rw (through-child h .tree))
+        (first-name (kidsOf (treeAt levels s at)) ctx ∙ rw (through-child h .tree))
 
 -- ---- `valid_prop_name`
 
-module _ {left : ℕ} {s : List ℕ} {at : ℕ} (a : AcceptedAt left s at) {m : ℕ} (mq : m ≡ markAt s at) (ctx : ℕ) where
-  valid-by : validPropName ctx (treeAt left s at) ≡ cond (eqb m (mark "Kc")) (propNameFromFirst (kidsOf (treeAt left s at)) ctx) (some (treeAt left s at))
+module _ {levels : ℕ} {s : List ℕ} {at : ℕ} (a : AcceptedAt levels s at) {m : ℕ} (mq : m ≡ markAt s at) (ctx : ℕ) where
+  valid-by : validPropName ctx (treeAt levels s at) ≡ cond (eqb m (mark "Kc")) (propNameFromFirst (kidsOf (treeAt levels s at)) ctx) (some (treeAt levels s at))
   unfolding validPropName
-  valid-by = ap (λ (j : ℕ). cond (eqb j (mark "Kc")) (propNameFromFirst (kidsOf (treeAt left s at)) ctx) (some (treeAt left s at))) (mark-is left s at ∙ sym mq)
+  valid-by = ap (λ (j : ℕ). cond (eqb j (mark "Kc")) (propNameFromFirst (kidsOf (treeAt levels s at)) ctx) (some (treeAt levels s at))) (mark-is levels s at ∙ sym mq)
 
-  pub valid-stands : (m ≡ mark "Kc" → ⊥) → validPropName ctx (treeAt left s at) ≡ some (treeAt left s at)
+  pub valid-stands : (m ≡ mark "Kc" → ⊥) → validPropName ctx (treeAt levels s at) ≡ some (treeAt levels s at)
   valid-stands n = valid-by ∙ rw (ne-eqb m (mark "Kc") n)
 
   module _ (e : m ≡ mark "Kc") {p : ℕ} (pq : p ≡ bodyAt s at) where
-    pub computed-child : Child left s at 0 p expression
+    pub computed-child : Child levels s at 0 p expression
     unfolding grammar known slots place fixed
-    computed-child = placed (first-in left s at a (mark "Kc") (sym mq ∙ e) refl expression refl) pq
+    computed-child = placed (first-in levels s at a (mark "Kc") (sym mq ∙ e) refl expression refl) pq
 
-    pub valid-computed : validPropName ctx (treeAt left s at) ≡ propNameFromExpr (treeAt (left - 1) s p) ctx
-    valid-computed = valid-by ∙ rw (eq-eqb m (mark "Kc") e, first-name (kidsOf (treeAt left s at)) ctx, computed-child .tree)
+    pub valid-computed : validPropName ctx (treeAt levels s at) ≡ propNameFromExpr (treeAt (levels - 1) s p) ctx
+    valid-computed = valid-by ∙ rw (eq-eqb m (mark "Kc") e, first-name (kidsOf (treeAt levels s at)) ctx, computed-child .tree)

@@ -1,4 +1,4 @@
--- The table of well-known symbols, and the search in it. Assumes nothing.
+-- The table of well-known symbols, and the search in it.
 use mathlib.Core.Path.{_≡_, refl, sym}
 use mathlib.Core.List.{List, [], _∷_, _++_, map}
 use mathlib.Core.Bool.{Bool, true, false, _&&_}

@@ -1,4 +1,4 @@
--- The key that the code answers with, as the definition's. Assumes nothing: these are definitions.
+-- The key that the code answers with, as the definition's.
 use Prim.Native.Nat.{ℕ}
 use mathlib.Core.Path.{_≡_}
 use mathlib.Core.List.{List}
@@ -13,14 +13,14 @@ use Rattle.names.specs.declared.Key.the-variants.{Stands, Computed, Noth
 
 -- the key that an answer stands for, in the tree s
 abbrev pub keyOf : List ℕ → Key → Option Rec
-keyOf s (Stands at left) = some (treeAt left s at)
-keyOf s (Computed at left) = some (computed (treeAt left s at))
+keyOf s (Stands at levels) = some (treeAt levels s at)
+keyOf s (Computed at levels) = some (computed (treeAt levels s at))
 keyOf s Nothing = none
 
 -- the record that an answer names was accepted
 abbrev pub KeyAccepted : List ℕ → Key → Type 0
-KeyAccepted s (Stands at left) = AcceptedAt left s at
-KeyAccepted s (Computed at left) = AcceptedAt left s at
+KeyAccepted s (Stands at levels) = AcceptedAt levels s at
+KeyAccepted s (Computed at levels) = AcceptedAt levels s at
 KeyAccepted s Nothing = Unit {0}
 
 -- an answer that stands for the key k

@@ -40,16 +40,16 @@ pub enum Key {
 }
 
 // `is_well_known_symbol_expr`
-pub fn is_well_known_symbol_expr(tree: &[u8], at: usize, left: usize, unresolved: u32) -> bool
-    requires { ⌜ AcceptedAt left (now tree) at ⌝ }
-    ensures { λ r. ⌜ r ≡ isWellKnownMember unresolved (treeAt left (now (tree .entry)) at) ⌝ }
+pub fn is_well_known_symbol_expr(tree: &[u8], at: usize, levels: usize, unresolved: u32) -> bool
+    requires { ⌜ AcceptedAt levels (now tree) at ⌝ }
+    ensures { λ r. ⌜ r ≡ isWellKnownMember unresolved (treeAt levels (now (tree .entry)) at) ⌝ }
 {
     if mark_at(tree, at) != MB {
         return false;
     }
     let object = body_at(tree, at);
-    if is_global(tree, object, left - 1, unresolved, b"Symbol") {
-        let property = record_end(tree, object, left - 1);
+    if is_global(tree, object, levels - 1, unresolved, b"Symbol") {
+        let property = record_end(tree, object, levels - 1);
         if mark_at(tree, property) != KI {
             return false;
         }
@@ -59,9 +59,9 @@ pub fn is_well_known_symbol_expr(tree: &[u8], at: usize, left: usize, unresolved
 }
 
 // `e.quasis.is_empty() && e.exprs.len() == 1`: whether the children at `at` are one expression, but for Ops at the end.
-fn is_one_expression(tree: &[u8], at: usize, left: usize) -> bool
-    requires { ⌜ AcceptedAt left (now tree) at ⌝ }
-    ensures { λ r. ⌜ r ≡ onlyExpression (kidsOf (treeAt left (now (tree .entry)) at)) ⌝ }
+fn is_one_expression(tree: &[u8], at: usize, levels: usize) -> bool
+    requires { ⌜ AcceptedAt levels (now tree) at ⌝ }
+    ensures { λ r. ⌜ r ≡ onlyExpression (kidsOf (treeAt levels (now (tree .entry)) at)) ⌝ }
 {
     let n = count_at(tree, at);
     if n == 0 {
@@ -78,32 +78,32 @@ fn is_one_expression(tree: &[u8], at: usize, left: usize) -> bool
     if n == 1 {
         return true;
     }
-    mark_at(tree, record_end(tree, first, left - 1)) == OP
+    mark_at(tree, record_end(tree, first, levels - 1)) == OP
 }
 
 // `prop_name_from_expr`
-fn prop_name_from_expr(tree: &[u8], at: usize, left: usize, unresolved: u32) -> Key
-    requires { ⌜ AcceptedAt left (now tree) at ⌝ }
-    ensures { λ r. ⌜ KeyIs (now (tree .entry)) r (propNameFromExpr (treeAt left (now (tree .entry)) at) unresolved) ⌝ }
+fn prop_name_from_expr(tree: &[u8], at: usize, levels: usize, unresolved: u32) -> Key
+    requires { ⌜ AcceptedAt levels (now tree) at ⌝ }
+    ensures { λ r. ⌜ KeyIs (now (tree .entry)) r (propNameFromExpr (treeAt levels (now (tree .entry)) at) unresolved) ⌝ }
 {
     match mark_at(tree, at) {
-        SS | NU | BI => Key::Stands(at, left),
+        SS | NU | BI => Key::Stands(at, levels),
         TE => {
-            if is_one_expression(tree, at, left) {
-                return prop_name_from_expr(tree, body_at(tree, at), left - 1, unresolved);
+            if is_one_expression(tree, at, levels) {
+                return prop_name_from_expr(tree, body_at(tree, at), levels - 1, unresolved);
             }
             Key::Nothing
         }
         PR | TA | TC | NN | AS | TS => prop_name_from_expr(
             tree,
             body_at(tree, at),
-            left - 1,
+            levels - 1,
             unresolved,
         ),
-        ID => Key::Computed(at, left),
+        ID => Key::Computed(at, levels),
         MB => {
-            if is_well_known_symbol_expr(tree, at, left, unresolved) {
-                return Key::Computed(at, left);
+            if is_well_known_symbol_expr(tree, at, levels, unresolved) {
+                return Key::Computed(at, levels);
             }
             Key::Nothing
         }
@@ -112,12 +112,12 @@ fn prop_name_from_expr(tree: &[u8], at: usize, left: usize, unresolved: u32) -> 
 }
 
 // `valid_prop_name`: "Ki, Ss, Nu, Bi stand"; of a Kc what its expression gives.
-pub fn valid_prop_name(tree: &[u8], at: usize, left: usize, unresolved: u32) -> Key
-    requires { ⌜ AcceptedAt left (now tree) at ⌝ }
-    ensures { λ r. ⌜ KeyIs (now (tree .entry)) r (validPropName unresolved (treeAt left (now (tree .entry)) at)) ⌝ }
+pub fn valid_prop_name(tree: &[u8], at: usize, levels: usize, unresolved: u32) -> Key
+    requires { ⌜ AcceptedAt levels (now tree) at ⌝ }
+    ensures { λ r. ⌜ KeyIs (now (tree .entry)) r (validPropName unresolved (treeAt levels (now (tree .entry)) at)) ⌝ }
 {
     if mark_at(tree, at) == KC {
-        return prop_name_from_expr(tree, body_at(tree, at), left - 1, unresolved);
+        return prop_name_from_expr(tree, body_at(tree, at), levels - 1, unresolved);
     }
-    Key::Stands(at, left)
+    Key::Stands(at, levels)
 }

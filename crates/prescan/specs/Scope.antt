@@ -1,4 +1,4 @@
--- What the code knows of the item in which the names stand. Assumes nothing: these are definitions.
+-- What the code knows of the item in which the names stand.
 use mathlib.Core.Path.{_≡_}
 use mathlib.Core.List.{List}
 use Prim.Native.Nat.{ℕ, _-_}

@@ -59,9 +59,9 @@ pub struct Scope {
 }
 
 // The arm of `is_array_type` for `TsTypeRef`, at the name: `Array` or `ReadonlyArray` in any context, "only its symbol counts".
-fn refers_to_array(tree: &[u8], at: usize, left: usize) -> bool
-    requires { ⌜ AcceptedAt left (now tree) at ⌝ }
-    ensures { λ r. ⌜ r ≡ refersToArray (treeAt left (now (tree .entry)) at) ⌝ }
+fn refers_to_array(tree: &[u8], at: usize, levels: usize) -> bool
+    requires { ⌜ AcceptedAt levels (now tree) at ⌝ }
+    ensures { λ r. ⌜ r ≡ refersToArray (treeAt levels (now (tree .entry)) at) ⌝ }
 {
     if mark_at(tree, at) != ID {
         return false;
@@ -74,38 +74,38 @@ fn refers_to_array(tree: &[u8], at: usize, left: usize) -> bool
 }
 
 // `is_array_type`
-pub fn is_array_type(tree: &[u8], at: usize, left: usize) -> bool
-    requires { ⌜ AcceptedAt left (now tree) at ⌝ }
-    ensures { λ r. ⌜ r ≡ isArrayType (treeAt left (now (tree .entry)) at) ⌝ }
+pub fn is_array_type(tree: &[u8], at: usize, levels: usize) -> bool
+    requires { ⌜ AcceptedAt levels (now tree) at ⌝ }
+    ensures { λ r. ⌜ r ≡ isArrayType (treeAt levels (now (tree .entry)) at) ⌝ }
 {
     match mark_at(tree, at) {
         AY | TU => true,
-        RO => is_array_type(tree, body_at(tree, at), left - 1),
-        RF => refers_to_array(tree, body_at(tree, at), left - 1),
+        RO => is_array_type(tree, body_at(tree, at), levels - 1),
+        RF => refers_to_array(tree, body_at(tree, at), levels - 1),
         _ => false,
     }
 }
 
 // `is_array_lit_init`: "Pr is untyped, though the prescan looks through it".
-pub fn is_array_lit_init(tree: &[u8], at: usize, left: usize) -> bool
-    requires { ⌜ AcceptedAt left (now tree) at ⌝ }
-    ensures { λ r. ⌜ r ≡ isArrayLitInit (treeAt left (now (tree .entry)) at) ⌝ }
+pub fn is_array_lit_init(tree: &[u8], at: usize, levels: usize) -> bool
+    requires { ⌜ AcceptedAt levels (now tree) at ⌝ }
+    ensures { λ r. ⌜ r ≡ isArrayLitInit (treeAt levels (now (tree .entry)) at) ⌝ }
 {
     match mark_at(tree, at) {
         AR => true,
-        PR | TC | TS => is_array_lit_init(tree, body_at(tree, at), left - 1),
+        PR | TC | TS => is_array_lit_init(tree, body_at(tree, at), levels - 1),
         AS => {
-            let ty = record_end(tree, body_at(tree, at), left - 1);
-            is_array_type(tree, ty, left - 1)
+            let ty = record_end(tree, body_at(tree, at), levels - 1);
+            is_array_type(tree, ty, levels - 1)
         }
         _ => false,
     }
 }
 
 // Whether the record at `at` is an Id with this text: names are equal when context and symbol are.
-fn named(tree: &[u8], at: usize, left: usize, name: &[u8]) -> bool
-    requires { ⌜ AcceptedAt left (now tree) at ⌝ }
-    ensures { λ r. ⌜ r ≡ named (now (name .entry)) (treeAt left (now (tree .entry)) at) ⌝ }
+fn named(tree: &[u8], at: usize, levels: usize, name: &[u8]) -> bool
+    requires { ⌜ AcceptedAt levels (now tree) at ⌝ }
+    ensures { λ r. ⌜ r ≡ named (now (name .entry)) (treeAt levels (now (tree .entry)) at) ⌝ }
 {
     if mark_at(tree, at) != ID {
         return false;
@@ -125,10 +125,10 @@ fn add_fn(question: Question) -> bool
 }
 
 // `add_class`: what the Cl at `at` adds under its name.
-fn add_class(tree: &[u8], at: usize, left: usize, question: Question) -> bool
-    requires { ⌜ AcceptedAt left (now tree) at ⌝ }
+fn add_class(tree: &[u8], at: usize, levels: usize, question: Question) -> bool
+    requires { ⌜ AcceptedAt levels (now tree) at ⌝ }
     requires { ⌜ markAt (now tree) at ≡ mark "Cl" ⌝ }
-    ensures { λ r. ⌜ r ≡ addClass (meant question) (treeAt left (now (tree .entry)) at) ⌝ }
+    ensures { λ r. ⌜ r ≡ addClass (meant question) (treeAt levels (now (tree .entry)) at) ⌝ }
 {
     match question {
         Question::TypeofSafe => true,
@@ -138,10 +138,10 @@ fn add_class(tree: &[u8], at: usize, left: usize, question: Question) -> bool
 }
 
 // `add_decl`, in the arm for `Decl::Var`: what a const adds under its name, by its init and by its type, which has one level less.
-fn add_const(tree: &[u8], init: usize, left: usize, ty: usize, question: Question) -> bool
-    requires { ⌜ AcceptedAt left (now tree) init ⌝ }
-    requires { ⌜ AcceptedAt (left - 1) (now tree) ty ⌝ }
-    ensures { λ r. ⌜ r ≡ addConst (meant question) (treeAt (left - 1) (now (tree .entry)) ty) (treeAt left (now (tree .entry)) init) ⌝ }
+fn add_const(tree: &[u8], init: usize, levels: usize, ty: usize, question: Question) -> bool
+    requires { ⌜ AcceptedAt levels (now tree) init ⌝ }
+    requires { ⌜ AcceptedAt (levels - 1) (now tree) ty ⌝ }
+    ensures { λ r. ⌜ r ≡ addConst (meant question) (treeAt (levels - 1) (now (tree .entry)) ty) (treeAt levels (now (tree .entry)) init) ⌝ }
 {
     let typed = mark_at(tree, ty);
     match question {
@@ -157,17 +157,17 @@ fn add_const(tree: &[u8], init: usize, left: usize, ty: usize, question: Questio
         Question::NonGenericClass => false,
         Question::ArrayTyped => {
             if typed == NO {
-                return is_array_lit_init(tree, init, left);
+                return is_array_lit_init(tree, init, levels);
             }
-            is_array_type(tree, ty, left - 1)
+            is_array_type(tree, ty, levels - 1)
         }
     }
 }
 
 // `add_decl`, in the arm for `Decl::Var`: a declarator of a const, `if let Pat::Ident(ident) = &declarator.name`.
-fn add_declarator(tree: &[u8], at: usize, left: usize, name: &[u8], question: Question) -> bool
-    requires { ⌜ AcceptedAt left (now tree) at ⌝ }
-    ensures { λ r. ⌜ r ≡ addDeclarator (meant question) (now (name .entry)) (treeAt left (now (tree .entry)) at) ⌝ }
+fn add_declarator(tree: &[u8], at: usize, levels: usize, name: &[u8], question: Question) -> bool
+    requires { ⌜ AcceptedAt levels (now tree) at ⌝ }
+    ensures { λ r. ⌜ r ≡ addDeclarator (meant question) (now (name .entry)) (treeAt levels (now (tree .entry)) at) ⌝ }
 {
     if mark_at(tree, at) != VR {
         return false;
@@ -177,7 +177,7 @@ fn add_declarator(tree: &[u8], at: usize, left: usize, name: &[u8], question: Qu
         return false;
     }
     let ident = body_at(tree, pattern);
-    let below = left - 1;
+    let below = levels - 1;
     if named(tree, ident, below - 1, name) {
         let ty = record_end(tree, ident, below - 1);
         let init = record_end(tree, pattern, below);
@@ -187,14 +187,14 @@ fn add_declarator(tree: &[u8], at: usize, left: usize, name: &[u8], question: Qu
 }
 
 // Where the record behind the one at `at` begins, which is the first of n; the last is not walked, since none stands behind it.
-fn next_one(tree: &[u8], at: usize, left: usize, n: usize) -> usize
-    requires { ⌜ Whole left (now tree) at ⌝ }
-    ensures { λ r. ⌜ ((n ≡ 1 → ⊥) → r ≡ endAt left (now (tree .entry)) at) ⌝ }
+fn next_one(tree: &[u8], at: usize, levels: usize, n: usize) -> usize
+    requires { ⌜ Whole levels (now tree) at ⌝ }
+    ensures { λ r. ⌜ ((n ≡ 1 → ⊥) → r ≡ endAt levels (now (tree .entry)) at) ⌝ }
 {
     if n == 1 {
         return at;
     }
-    record_end(tree, at, left)
+    record_end(tree, at, levels)
 }
 
 // The same for an item of the module; the one in which the names stand is not walked either.
@@ -210,9 +210,9 @@ fn next_item(tree: &[u8], at: usize, n: usize, scope: Scope) -> usize
 }
 
 // `add_decl`, the arm for `Decl::Var`: the declarators of a const.
-fn add_var(tree: &[u8], at: usize, left: usize, name: &[u8], question: Question) -> bool
-    requires { ⌜ AcceptedAt left (now tree) at ⌝ }
-    ensures { λ r. ⌜ r ≡ addVar (meant question) (now (name .entry)) (treeAt left (now (tree .entry)) at) ⌝ }
+fn add_var(tree: &[u8], at: usize, levels: usize, name: &[u8], question: Question) -> bool
+    requires { ⌜ AcceptedAt levels (now tree) at ⌝ }
+    ensures { λ r. ⌜ r ≡ addVar (meant question) (now (name .entry)) (treeAt levels (now (tree .entry)) at) ⌝ }
 {
     let head = read_head(tree, at);
     if !has_flag(head.flags, CONST) {
@@ -221,54 +221,54 @@ fn add_var(tree: &[u8], at: usize, left: usize, name: &[u8], question: Question)
     let mut n = head.count;
     let mut declarator = body_at(tree, at);
     while 0 < n {
-        if add_declarator(tree, declarator, left - 1, name, question) {
+        if add_declarator(tree, declarator, levels - 1, name, question) {
             return true;
         }
-        declarator = next_one(tree, declarator, left - 1, n);
+        declarator = next_one(tree, declarator, levels - 1, n);
         n -= 1;
     }
     false
 }
 
 // `add_decl`, and the arms of `prescan_module_ids` for `ExportDefaultDecl`: a function and a class expression stand beside their name too.
-fn add_decl(tree: &[u8], at: usize, left: usize, name: &[u8], question: Question) -> bool
-    requires { ⌜ AcceptedAt left (now tree) at ⌝ }
-    ensures { λ r. ⌜ r ≡ addDecl (meant question) (now (name .entry)) (treeAt left (now (tree .entry)) at) ⌝ }
+fn add_decl(tree: &[u8], at: usize, levels: usize, name: &[u8], question: Question) -> bool
+    requires { ⌜ AcceptedAt levels (now tree) at ⌝ }
+    ensures { λ r. ⌜ r ≡ addDecl (meant question) (now (name .entry)) (treeAt levels (now (tree .entry)) at) ⌝ }
 {
     match mark_at(tree, at) {
         FD | FX => {
-            if named(tree, body_at(tree, at), left - 1, name) {
+            if named(tree, body_at(tree, at), levels - 1, name) {
                 return add_fn(question);
             }
             false
         }
         CD | CX => {
             let ident = body_at(tree, at);
-            if named(tree, ident, left - 1, name) {
-                let class = record_end(tree, ident, left - 1);
-                return add_class(tree, class, left - 1, question);
+            if named(tree, ident, levels - 1, name) {
+                let class = record_end(tree, ident, levels - 1);
+                return add_class(tree, class, levels - 1, question);
             }
             false
         }
-        VD => add_var(tree, at, left, name, question),
+        VD => add_var(tree, at, levels, name, question),
         _ => false,
     }
 }
 
 // An item of the module: a declaration, or what an `ExportDecl` (Ed) or an `ExportDefaultDecl` (Xd) holds.
-fn add_item(tree: &[u8], at: usize, left: usize, name: &[u8], question: Question) -> bool
-    requires { ⌜ AcceptedAt left (now tree) at ⌝ }
-    ensures { λ r. ⌜ r ≡ addItem (meant question) (now (name .entry)) (treeAt left (now (tree .entry)) at) ⌝ }
+fn add_item(tree: &[u8], at: usize, levels: usize, name: &[u8], question: Question) -> bool
+    requires { ⌜ AcceptedAt levels (now tree) at ⌝ }
+    ensures { λ r. ⌜ r ≡ addItem (meant question) (now (name .entry)) (treeAt levels (now (tree .entry)) at) ⌝ }
 {
     match mark_at(tree, at) {
-        ED | XD => add_decl(tree, body_at(tree, at), left - 1, name, question),
-        _ => add_decl(tree, at, left, name, question),
+        ED | XD => add_decl(tree, body_at(tree, at), levels - 1, name, question),
+        _ => add_decl(tree, at, levels, name, question),
     }
 }
 
 // `prescan_module_ids`: whether some item of the module adds the name of the Id at `id`, its context and its symbol, to the set that is asked for.
-pub fn asked(tree: &[u8], id: usize, left: usize, scope: Scope, question: Question) -> bool
-    requires { ⌜ AcceptedAt left (now tree) id ⌝ }
+pub fn asked(tree: &[u8], id: usize, levels: usize, scope: Scope, question: Question) -> bool
+    requires { ⌜ AcceptedAt levels (now tree) id ⌝ }
     requires { ⌜ AcceptedAt deepest (now tree) 0 ⌝ }
     requires { ⌜ Skips (now tree) scope ⌝ }
     ensures { λ r. ⌜ r ≡ asked (meant question) (kidsOf (treeAt deepest (now (tree .entry)) 0)) (textAt (now (tree .entry)) id) ⌝ }

@@ -10,7 +10,6 @@
 --     made, moved          what a reader owns that is made of a tree and an offset, or of another reader's tree and an offset
 --     first-two            of what a function's parameters own, what the first two do
 --     reader-is            a reader is known by its tree and its offset
--- Assumes nothing.
 use mathlib.Core.Path.{_≡_, refl, sym, subst}
 use Prim.Native.Nat.{ℕ, zero}
 use mathlib.Core.List.{List, [], _∷_}

@@ -54,37 +54,37 @@ pub fn first_child<'a>(r: Reader<'a>) -> Reader<'a>
     }
 }
 
-// The reader of the next sibling, behind the record read, which is at most `left` levels deep.
-pub fn next_sibling<'a>(r: Reader<'a>, left: usize) -> Reader<'a>
-    requires { ⌜ Whole left (now (r .tree)) (r .at) ⌝ }
-    ensures { λ q. ⌜ (q .tree ≡ r .entry .tree) × (q .at ≡ endAt left (now (r .entry .tree)) (r .entry .at)) ⌝ }
+// The reader of the next sibling, behind the record read, which is at most `levels` levels deep.
+pub fn next_sibling<'a>(r: Reader<'a>, levels: usize) -> Reader<'a>
+    requires { ⌜ Whole levels (now (r .tree)) (r .at) ⌝ }
+    ensures { λ q. ⌜ (q .tree ≡ r .entry .tree) × (q .at ≡ endAt levels (now (r .entry .tree)) (r .entry .at)) ⌝ }
 {
     Reader {
         tree: r.tree,
-        at: record_end(r.tree, r.at, left),
+        at: record_end(r.tree, r.at, levels),
     }
 }
 
 // "A record read is handed back as the part of the tree it fills."
-pub fn part<'a>(r: Reader<'a>, left: usize) -> &'a [u8]
-    requires { ⌜ Whole left (now (r .tree)) (r .at) ⌝ }
-    ensures { λ s. ⌜ now s ≡ partAt left (now (r .entry .tree)) (r .entry .at) ⌝ }
+pub fn part<'a>(r: Reader<'a>, levels: usize) -> &'a [u8]
+    requires { ⌜ Whole levels (now (r .tree)) (r .at) ⌝ }
+    ensures { λ s. ⌜ now s ≡ partAt levels (now (r .entry .tree)) (r .entry .at) ⌝ }
 {
-    record_at(r.tree, r.at, left)
+    record_at(r.tree, r.at, levels)
 }
 
 // The offset behind the record at `at`: where its next sibling begins.
-pub fn next_at(tree: &[u8], at: usize, left: usize) -> usize
-    requires { ⌜ Whole left (now tree) at ⌝ }
-    ensures { λ r. ⌜ r ≡ endAt left (now (tree .entry)) at ⌝ }
+pub fn next_at(tree: &[u8], at: usize, levels: usize) -> usize
+    requires { ⌜ Whole levels (now tree) at ⌝ }
+    ensures { λ r. ⌜ r ≡ endAt levels (now (tree .entry)) at ⌝ }
 {
-    next_sibling(reader_at(tree, at), left).at
+    next_sibling(reader_at(tree, at), levels).at
 }
 
-// The first child of the record at `at`, as its sub-slice of the caller's tree; `left` are the levels left for the child.
-pub fn child_at(tree: &[u8], at: usize, left: usize) -> &[u8]
-    requires { ⌜ (at + headSize ≤ length (now tree)) × Whole left (now tree) (bodyAt (now tree) at) ⌝ }
-    ensures { λ r. ⌜ now r ≡ partAt left (now (tree .entry)) (bodyAt (now (tree .entry)) at) ⌝ }
+// The first child of the record at `at`, as its sub-slice of the caller's tree; `levels` are the levels left for the child.
+pub fn child_at(tree: &[u8], at: usize, levels: usize) -> &[u8]
+    requires { ⌜ (at + headSize ≤ length (now tree)) × Whole levels (now tree) (bodyAt (now tree) at) ⌝ }
+    ensures { λ r. ⌜ now r ≡ partAt levels (now (tree .entry)) (bodyAt (now (tree .entry)) at) ⌝ }
 {
-    part(first_child(reader_at(tree, at)), left)
+    part(first_child(reader_at(tree, at)), levels)
 }

@@ -1,4 +1,4 @@
--- What a `match` over a list of numbers shows in its last arm, and what it says of the place of a number in the list. Assumes nothing.
+-- What a `match` over a list of numbers shows in its last arm, and what it says of the place of a number in the list.
 use mathlib.Core.Path.{_≡_, refl, sym, ap}
 use mathlib.Core.List.{List, [], _∷_}
 use mathlib.Core.Bool.{Bool, true, false, cond}

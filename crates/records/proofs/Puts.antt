@@ -1,4 +1,4 @@
--- Laws of `Put`: one byte, a writer behind another, the same bytes in another way; and the bytes of records with few children. Assumes nothing.
+-- Laws of `Put`: one byte, a writer behind another, the same bytes in another way; and the bytes of records with few children.
 use mathlib.Core.Path.{_≡_, refl, sym, ap, _∙_}
 use mathlib.Core.List.{List, [], _∷_, _++_, append-nil, append-assoc}
 use Prim.Native.Nat.{ℕ, _+_, _≤_, _<_, _^_}

@@ -1,4 +1,4 @@
--- What a test of a flag says of setting and clearing it. Assumes nothing.
+-- What a test of a flag says of setting and clearing it.
 use mathlib.Core.Path.{_≡_}
 use mathlib.Core.Bool.{true, false}
 use mathlib.Core.Logic.{_⊎_, inl, inr}

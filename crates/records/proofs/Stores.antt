@@ -1,4 +1,4 @@
--- Laws of `sets`, a run of stores that is clipped at the end of a list, and the bytes of heads and diagnostics as such runs. Assumes nothing.
+-- Laws of `sets`, a run of stores that is clipped at the end of a list, and the bytes of heads and diagnostics as such runs.
 use mathlib.Core.Path.{_≡_, refl, sym, _∙_, ap}
 use mathlib.Core.List.{List, [], _∷_, _++_, append-assoc}
 use Prim.Native.Nat.{ℕ, zero, suc, _+_, _-_, _%_, _≤_, _<_}

@@ -1,4 +1,4 @@
--- Laws of `sameText`, as a loop that compares two texts byte by byte meets them, and of `isGlobalName`. Assumes nothing.
+-- Laws of `sameText`, as a loop that compares two texts byte by byte meets them, and of `isGlobalName`.
 use mathlib.Core.Path.{_≡_, refl, ap, _∙_}
 use mathlib.Core.List.{List, [], _∷_}
 use mathlib.Core.Bool.{Bool, true, false, _&&_}
@@ -52,19 +52,19 @@ same-end a b i h k = rw (past a i h, past b i (omega arith))
 
 -- ---- an Id with a symbol and the unresolved context
 
-module _ (left : ℕ) (s : List ℕ) (at unresolved : ℕ) (name : List ℕ) where
+module _ (levels : ℕ) (s : List ℕ) (at unresolved : ℕ) (name : List ℕ) where
   -- its head says all
-  by-head : isGlobalName unresolved name (treeAt left s at) ≡
+  by-head : isGlobalName unresolved name (treeAt levels s at) ≡
       (eqb (markAt s at) (mark "Id") && (sameText (drop 4 (textAt s at)) name && eqb (u32At (textAt s at) 0) unresolved))
   unfolding headAt
-  by-head = ap (λ (h : Head). eqb (h .mark) (mark "Id") && (sameText (drop 4 (h .text)) name && eqb (u32At (h .text) 0) unresolved)) (head-is left s at)
+  by-head = ap (λ (h : Head). eqb (h .mark) (mark "Id") && (sameText (drop 4 (h .text)) name && eqb (u32At (h .text) 0) unresolved)) (head-is levels s at)
 
-  pub global-other : (markAt s at ≡ mark "Id" → ⊥) → isGlobalName unresolved name (treeAt left s at) ≡ false
+  pub global-other : (markAt s at ≡ mark "Id" → ⊥) → isGlobalName unresolved name (treeAt levels s at) ≡ false
   global-other n = by-head ∙ rw (ne-eqb (markAt s at) (mark "Id") n)
 
   module _ (e : markAt s at ≡ mark "Id") where
-    pub global-same : sameText (drop 4 (textAt s at)) name ≡ true → isGlobalName unresolved name (treeAt left s at) ≡ eqb (u32At (textAt s at) 0) unresolved
+    pub global-same : sameText (drop 4 (textAt s at)) name ≡ true → isGlobalName unresolved name (treeAt levels s at) ≡ eqb (u32At (textAt s at) 0) unresolved
     global-same q = by-head ∙ rw (eq-eqb (markAt s at) (mark "Id") e, q)
 
-    pub global-differs : sameText (drop 4 (textAt s at)) name ≡ false → isGlobalName unresolved name (treeAt left s at) ≡ false
+    pub global-differs : sameText (drop 4 (textAt s at)) name ≡ false → isGlobalName unresolved name (treeAt levels s at) ≡ false
     global-differs q = by-head ∙ rw (eq-eqb (markAt s at) (mark "Id") e, q)

@@ -1,4 +1,4 @@
--- Laws of `Whole`: a record that lies in the bytes, its children, where it ends; and that an accepted record is whole. Assumes nothing.
+-- Laws of `Whole`: a record that lies in the bytes, its children, where it ends; and that an accepted record is whole.
 use mathlib.Core.Path.{_≡_, sym, _∙_, ap, subst}
 use mathlib.Core.List.{List}
 use Prim.Native.Nat.{ℕ, zero, suc, _+_, _-_, _≤_, _<_}
@@ -20,29 +20,29 @@ one-less n = omega arith
 
 -- ---- a record that is whole
 
-pub whole-pos : (left : ℕ) (s : List ℕ) (at : ℕ) → Whole left s at → 0 < left
+pub whole-pos : (levels : ℕ) (s : List ℕ) (at : ℕ) → Whole levels s at → 0 < levels
 unfolding Whole
 whole-pos zero s at w = absurd w
-whole-pos (suc left) s at w = omega arith
+whole-pos (suc levels) s at w = omega arith
 
 -- its head and its text lie in the bytes
-pub whole-body : (left : ℕ) (s : List ℕ) (at : ℕ) → Whole left s at → bodyAt s at ≤ length s
+pub whole-body : (levels : ℕ) (s : List ℕ) (at : ℕ) → Whole levels s at → bodyAt s at ≤ length s
 unfolding Whole
 whole-body zero s at w = absurd w
-whole-body (suc left) s at w = w .0
+whole-body (suc levels) s at w = w .0
 
 -- and so do its children, with one level less
-pub whole-kids : (left : ℕ) (s : List ℕ) (at : ℕ) → Whole left s at → Each (Whole (left - 1) s) (endAt (left - 1) s) (countAt s at) (bodyAt s at)
+pub whole-kids : (levels : ℕ) (s : List ℕ) (at : ℕ) → Whole levels s at → Each (Whole (levels - 1) s) (endAt (levels - 1) s) (countAt s at) (bodyAt s at)
 unfolding Whole
 whole-kids zero s at w = absurd w
-whole-kids (suc left) s at w = subst (λ (k : ℕ). Each (Whole k s) (endAt k s) (countAt s at) (bodyAt s at)) (one-less left) (w .1)
+whole-kids (suc levels) s at w = subst (λ (k : ℕ). Each (Whole k s) (endAt k s) (countAt s at) (bodyAt s at)) (one-less levels) (w .1)
 
 -- ---- one step down, and one step on
 
-pub end-step : (left : ℕ) (s : List ℕ) (at : ℕ) → 0 < left → endAt left s at ≡ endOfAll (endAt (left - 1) s) (countAt s at) (bodyAt s at)
+pub end-step : (levels : ℕ) (s : List ℕ) (at : ℕ) → 0 < levels → endAt levels s at ≡ endOfAll (endAt (levels - 1) s) (countAt s at) (bodyAt s at)
 unfolding endAt
 end-step zero s at h = absurd (omega arith)
-end-step (suc left) s at h = ap (λ (k : ℕ). endOfAll (endAt k s) (countAt s at) (bodyAt s at)) (one-less left)
+end-step (suc levels) s at h = ap (λ (k : ℕ). endOfAll (endAt k s) (countAt s at) (bodyAt s at)) (one-less levels)
 
 module _ (n : ℕ) (h : 0 < n) where
   one-more : n ≡ suc (n - 1)
@@ -68,66 +68,66 @@ each-span P end m f (suc n) at h e =
     (omega arith, q .1)
 
 -- a whole record ends behind its head, within the bytes
-pub whole-span : (left : ℕ) (s : List ℕ) (at : ℕ) → Whole left s at → (at + headSize ≤ endAt left s at) × (endAt left s at ≤ length s)
+pub whole-span : (levels : ℕ) (s : List ℕ) (at : ℕ) → Whole levels s at → (at + headSize ≤ endAt levels s at) × (endAt levels s at ≤ length s)
 unfolding Whole endAt
 whole-span zero s at w = absurd w
-whole-span (suc left) s at w =
-    let q = each-span (Whole left s) (endAt left s) (length s) (λ (a : ℕ) (v : Whole left s a). (omega (arith, whole-span left s a v), whole-span left s a v .1)) (countAt s at) (bodyAt s at) (w .0) (w .1) in
+whole-span (suc levels) s at w =
+    let q = each-span (Whole levels s) (endAt levels s) (length s) (λ (a : ℕ) (v : Whole levels s a). (omega (arith, whole-span levels s a v), whole-span levels s a v .1)) (countAt s at) (bodyAt s at) (w .0) (w .1) in
     (omega arith, q .1)
 
 -- ---- a loop over the children of a record
 
 -- with n children of the record at `at` left, the first of them at c: they are whole, and behind them the record ends
-pub record Siblings (left : ℕ) (s : List ℕ) (at n c : ℕ) : Type 0 where
-  pub pos : 0 < left
-  pub kids : Each (Whole (left - 1) s) (endAt (left - 1) s) n c
-  pub rest : endOfAll (endAt (left - 1) s) n c ≡ endAt left s at
+pub record Siblings (levels : ℕ) (s : List ℕ) (at n c : ℕ) : Type 0 where
+  pub pos : 0 < levels
+  pub kids : Each (Whole (levels - 1) s) (endAt (levels - 1) s) n c
+  pub rest : endOfAll (endAt (levels - 1) s) n c ≡ endAt levels s at
 
-pub siblings-start : (left : ℕ) (s : List ℕ) (at : ℕ) → Whole left s at → Siblings left s at (countAt s at) (bodyAt s at)
-siblings-start left s at w =
-    let h = whole-pos left s at w in
-    record { pos = h; kids = whole-kids left s at w; rest = sym (end-step left s at h) }
+pub siblings-start : (levels : ℕ) (s : List ℕ) (at : ℕ) → Whole levels s at → Siblings levels s at (countAt s at) (bodyAt s at)
+siblings-start levels s at w =
+    let h = whole-pos levels s at w in
+    record { pos = h; kids = whole-kids levels s at w; rest = sym (end-step levels s at h) }
 
-module _ (left : ℕ) (s : List ℕ) (at n c : ℕ) (i : Siblings left s at n c) where
-  pub siblings-first : 0 < n → Whole (left - 1) s c
-  siblings-first h = each-first n h (Whole (left - 1) s) (endAt (left - 1) s) c (i .kids)
+module _ (levels : ℕ) (s : List ℕ) (at n c : ℕ) (i : Siblings levels s at n c) where
+  pub siblings-first : 0 < n → Whole (levels - 1) s c
+  siblings-first h = each-first n h (Whole (levels - 1) s) (endAt (levels - 1) s) c (i .kids)
 
-  pub siblings-next : 0 < n → Siblings left s at (n - 1) (endAt (left - 1) s c)
+  pub siblings-next : 0 < n → Siblings levels s at (n - 1) (endAt (levels - 1) s c)
   siblings-next h = record {
     pos = i .pos;
-    kids = each-rest n h (Whole (left - 1) s) (endAt (left - 1) s) c (i .kids);
-    rest = sym (endOfAll-more (endAt (left - 1) s) n c h) ∙ i .rest;
+    kids = each-rest n h (Whole (levels - 1) s) (endAt (levels - 1) s) c (i .kids);
+    rest = sym (endOfAll-more (endAt (levels - 1) s) n c h) ∙ i .rest;
   }
 
-  pub siblings-done : n ≤ 0 → c ≡ endAt left s at
-  siblings-done h = sym (endOfAll-none (endAt (left - 1) s) n c h) ∙ i .rest
+  pub siblings-done : n ≤ 0 → c ≡ endAt levels s at
+  siblings-done h = sym (endOfAll-none (endAt (levels - 1) s) n c h) ∙ i .rest
 
 -- ---- an accepted record
 
-accepted-each : (left : ℕ) (s : List ℕ) → ((a : ℕ) (ps : List Part) (e : ℕ) → checkAt left s a ps ≡ fine e → Whole left s a) →
-    (n a : ℕ) (ps : List Part) (e : ℕ) → checkAll (checkAt left s) s n a ps ≡ fine e → Each (Whole left s) (endAt left s) n a
+accepted-each : (levels : ℕ) (s : List ℕ) → ((a : ℕ) (ps : List Part) (e : ℕ) → checkAt levels s a ps ≡ fine e → Whole levels s a) →
+    (n a : ℕ) (ps : List Part) (e : ℕ) → checkAll (checkAt levels s) s n a ps ≡ fine e → Each (Whole levels s) (endAt levels s) n a
 unfolding Each
-accepted-each left s whole zero a ps e f = tt
-accepted-each left s whole (suc n) a ps e f =
-    let u = first-accepted left s n a ps e f in
-    (whole a ps (endAt left s a) (u .0), accepted-each left s whole n (endAt left s a) (after ps (markAt s a)) e (u .1))
+accepted-each levels s whole zero a ps e f = tt
+accepted-each levels s whole (suc n) a ps e f =
+    let u = first-accepted levels s n a ps e f in
+    (whole a ps (endAt levels s a) (u .0), accepted-each levels s whole n (endAt levels s a) (after ps (markAt s a)) e (u .1))
 
 -- it is whole
-pub accepted-whole : (left : ℕ) (s : List ℕ) (at : ℕ) (ps : List Part) (e : ℕ) → checkAt left s at ps ≡ fine e → Whole left s at
+pub accepted-whole : (levels : ℕ) (s : List ℕ) (at : ℕ) (ps : List Part) (e : ℕ) → checkAt levels s at ps ≡ fine e → Whole levels s at
 unfolding Whole
 accepted-whole zero s at ps e f = absurd (let z = accepted-left zero s at ps e f in omega (arith, z))
-accepted-whole (suc left) s at ps e f =
-    let a = accepted left s at ps e f in
-    (a .itself .fits, accepted-each left s (λ b qs x. accepted-whole left s b qs x) (countAt s at) (bodyAt s at) (inside ps (markAt s at)) e (a .all))
+accepted-whole (suc levels) s at ps e f =
+    let a = accepted levels s at ps e f in
+    (a .itself .fits, accepted-each levels s (λ b qs x. accepted-whole levels s b qs x) (countAt s at) (bodyAt s at) (inside ps (markAt s at)) e (a .all))
 
 -- the part of the tree that it fills is the encoding of what is read there
-pub accepted-part : (left : ℕ) (s : List ℕ) (at : ℕ) (ps : List Part) (e : ℕ) → Bytes s → checkAt left s at ps ≡ fine e → partAt left s at ≡ encode (treeAt left s at)
-accepted-part left s at ps e bytes f = rw (check-ends left s at ps e f) (encode-treeAt s bytes left at ps e f)
+pub accepted-part : (levels : ℕ) (s : List ℕ) (at : ℕ) (ps : List Part) (e : ℕ) → Bytes s → checkAt levels s at ps ≡ fine e → partAt levels s at ≡ encode (treeAt levels s at)
+accepted-part levels s at ps e bytes f = rw (check-ends levels s at ps e f) (encode-treeAt s bytes levels at ps e f)
 
 -- so that is what a copy of it writes
-pub accepted-put : (left : ℕ) (s : List ℕ) (at : ℕ) (ps : List Part) (e : ℕ) → Bytes s → checkAt left s at ps ≡ fine e → {a b : List ℕ} {p q : ℕ}
-    → Put a b p (partAt left s at) q → Put a b p (encode (treeAt left s at)) q
-accepted-put left s at ps e bytes f w = rw (← (accepted-part left s at ps e bytes f)) w
+pub accepted-put : (levels : ℕ) (s : List ℕ) (at : ℕ) (ps : List Part) (e : ℕ) → Bytes s → checkAt levels s at ps ≡ fine e → {a b : List ℕ} {p q : ℕ}
+    → Put a b p (partAt levels s at) q → Put a b p (encode (treeAt levels s at)) q
+accepted-put levels s at ps e bytes f w = rw (← (accepted-part levels s at ps e bytes f)) w
 
 -- the contents of a `&[u8]` are bytes, as `shared-slice-known` has it
 pub slice-bytes : (s : List ℕ) → ((i : ℕ) → Fits w8 (getD s i 0)) → Bytes s

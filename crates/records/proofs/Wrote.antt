@@ -1,4 +1,4 @@
--- Laws of `Wrote`, `Put` and `Ran`: writes one after the other, a front that is written last, a part that is given up. Assumes nothing.
+-- Laws of `Wrote`, `Put` and `Ran`: writes one after the other, a front that is written last, a part that is given up.
 use mathlib.Core.Path.{_≡_, refl, sym, _∙_, ap, subst}
 use mathlib.Core.List.{List, [], _∷_, _++_}
 use mathlib.Core.Logic.{⊎-elim}

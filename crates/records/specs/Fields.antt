@@ -1,5 +1,4 @@
--- The head and the range of a record as values of the code, and their bytes; heads that are made; flags; a diagnostic by its parts. Assumes
--- nothing: these are definitions.
+-- The head and the range of a record as values of the code, and their bytes; heads that are made; flags; a diagnostic by its parts.
 use mathlib.Core.Path.{_≡_}
 use mathlib.Core.Logic.{_⊎_}
 use Prim.Native.Nat.{ℕ}

@@ -1,4 +1,4 @@
--- What the code asks of an Id. Assumes nothing: these are definitions.
+-- What the code asks of an Id.
 use Prim.Native.Nat.{ℕ}
 use mathlib.Core.List.{List}
 use mathlib.Core.Bool.{Bool, _&&_}

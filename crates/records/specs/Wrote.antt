@@ -1,4 +1,4 @@
--- What a writer did to a lent slice: bytes past the end are dropped, and positions stop at the largest one. Assumes nothing: these are definitions.
+-- What a writer did to a lent slice: bytes past the end are dropped, and positions stop at the largest one.
 use mathlib.Core.Path.{_≡_}
 use mathlib.Core.List.{List}
 use Prim.Native.Nat.{ℕ, _+_, _-_, _<_, _^_, min}

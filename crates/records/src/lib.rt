@@ -168,26 +168,26 @@ pub fn text_at(tree: &[u8], at: usize) -> &[u8]
     &tree[start..end]
 }
 
-// The offset behind the record at `at`, which is at most `left` levels deep: behind its head, its text and its children.
-pub fn record_end(tree: &[u8], at: usize, left: usize) -> usize
-    requires { ⌜ Whole left (now tree) at ⌝ }
-    ensures { λ r. ⌜ r ≡ endAt left (now (tree .entry)) at ⌝ }
+// The offset behind the record at `at`, which is at most `levels` levels deep: behind its head, its text and its children.
+pub fn record_end(tree: &[u8], at: usize, levels: usize) -> usize
+    requires { ⌜ Whole levels (now tree) at ⌝ }
+    ensures { λ r. ⌜ r ≡ endAt levels (now (tree .entry)) at ⌝ }
 {
     let mut n = count_at(tree, at);
     let mut end = body_at(tree, at);
     while 0 < n {
-        end = record_end(tree, end, left - 1);
+        end = record_end(tree, end, levels - 1);
         n -= 1;
     }
     end
 }
 
 // "A record read is handed back as the part of the tree it fills."
-pub fn record_at(tree: &[u8], at: usize, left: usize) -> &[u8]
-    requires { ⌜ Whole left (now tree) at ⌝ }
-    ensures { λ r. ⌜ now r ≡ partAt left (now (tree .entry)) at ⌝ }
+pub fn record_at(tree: &[u8], at: usize, levels: usize) -> &[u8]
+    requires { ⌜ Whole levels (now tree) at ⌝ }
+    ensures { λ r. ⌜ now r ≡ partAt levels (now (tree .entry)) at ⌝ }
 {
-    let end = record_end(tree, at, left);
+    let end = record_end(tree, at, levels);
     &tree[at..end]
 }
 
@@ -318,11 +318,11 @@ pub fn put_text(out: &mut [u8], p: usize, text: &[u8]) -> usize
 }
 
 // The record at `at` of the tree, copied whole as far as there is room, and the position behind it.
-pub fn put_record(tree: &[u8], at: usize, left: usize, out: &mut [u8], p: usize) -> usize
-    requires { ⌜ Whole left (now tree) at ⌝ }
-    ensures { λ r. ⌜ Put (now (out .entry)) (now (out .exit)) p (partAt left (now (tree .entry)) at) r ⌝ }
+pub fn put_record(tree: &[u8], at: usize, levels: usize, out: &mut [u8], p: usize) -> usize
+    requires { ⌜ Whole levels (now tree) at ⌝ }
+    ensures { λ r. ⌜ Put (now (out .entry)) (now (out .exit)) p (partAt levels (now (tree .entry)) at) r ⌝ }
 {
-    let part = record_at(tree, at, left);
+    let part = record_at(tree, at, levels);
     put_text(out, p, part)
 }
 

@@ -47,9 +47,9 @@ pub fn context_at(tree: &[u8], at: usize) -> u32
 }
 
 // Whether the record at `at` is an Id with this symbol and the unresolved context: `ident.sym == name && ident.ctxt == unresolved_context`.
-pub fn is_global(tree: &[u8], at: usize, left: usize, unresolved: u32, name: &[u8]) -> bool
-    requires { ⌜ AcceptedAt left (now tree) at ⌝ }
-    ensures { λ r. ⌜ r ≡ isGlobalName unresolved (now (name .entry)) (treeAt left (now (tree .entry)) at) ⌝ }
+pub fn is_global(tree: &[u8], at: usize, levels: usize, unresolved: u32, name: &[u8]) -> bool
+    requires { ⌜ AcceptedAt levels (now tree) at ⌝ }
+    ensures { λ r. ⌜ r ≡ isGlobalName unresolved (now (name .entry)) (treeAt levels (now (tree .entry)) at) ⌝ }
 {
     if mark_at(tree, at) != ID {
         return false;

@@ -1,4 +1,4 @@
--- Answers: an offset that may be found, and a type that may be missing; what they are made of, and what a caller learns from them. Assumes nothing.
+-- Answers: an offset that may be found, and a type that may be missing; what they are made of, and what a caller learns from them.
 use mathlib.Core.Path.{_≡_, refl, sym, _∙_, ap}
 use mathlib.Core.List.{List}
 use mathlib.Core.Bool.{Bool, true, false}

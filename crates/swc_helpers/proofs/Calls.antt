@@ -1,4 +1,4 @@
--- `Object.freeze`: its callee and its argument, in an accepted tree. Assumes nothing.
+-- `Object.freeze`: its callee and its argument, in an accepted tree.
 use mathlib.Core.Path.{_≡_, refl, sym, _∙_, ap}
 use mathlib.Core.List.{List}
 use mathlib.Core.Bool.{Bool, true, false, not, _&&_}
@@ -22,26 +22,26 @@ use Rattle.swc_helpers.proofs.Answers.{nothing-found, found-at}
 
 -- ---- levels
 
-pub level : (left : ℕ) (s : List ℕ) (at : ℕ) → AcceptedAt left s at → 1 ≤ left
-level left s at a = omega (arith, some-left left s at a)
+pub level : (levels : ℕ) (s : List ℕ) (at : ℕ) → AcceptedAt levels s at → 1 ≤ levels
+level levels s at a = omega (arith, some-left levels s at a)
 
 -- the first two children, by the offsets that the code has for them
-module _ (left : ℕ) (s : List ℕ) (at : ℕ) (a : AcceptedAt left s at) (x : ℕ) (ex : x ≡ bodyAt s at) where
-  pub first-accepted : 0 < countAt s at → AcceptedAt (left - 1) s x
-  first-accepted h = rw (ex, ← (child-0 left s at)) (child left s at a 0 h)
+module _ (levels : ℕ) (s : List ℕ) (at : ℕ) (a : AcceptedAt levels s at) (x : ℕ) (ex : x ≡ bodyAt s at) where
+  pub first-accepted : 0 < countAt s at → AcceptedAt (levels - 1) s x
+  first-accepted h = rw (ex, ← (child-0 levels s at)) (child levels s at a 0 h)
 
-  pub first-is : 0 < countAt s at → kid 0 (kidsOf (treeAt left s at)) ≡ treeAt (left - 1) s x
-  first-is h = kid-is left s at a 0 h ∙ ap (treeAt (left - 1) s) (child-0 left s at ∙ sym ex)
+  pub first-is : 0 < countAt s at → kid 0 (kidsOf (treeAt levels s at)) ≡ treeAt (levels - 1) s x
+  first-is h = kid-is levels s at a 0 h ∙ ap (treeAt (levels - 1) s) (child-0 levels s at ∙ sym ex)
 
-  module _ (y : ℕ) (ey : y ≡ endAt (left - 1) s x) where
-    second-at : y ≡ childAt left s at 1
-    second-at = ey ∙ (ap (endAt (left - 1) s) ex ∙ sym (child-1 left s at))
+  module _ (y : ℕ) (ey : y ≡ endAt (levels - 1) s x) where
+    second-at : y ≡ childAt levels s at 1
+    second-at = ey ∙ (ap (endAt (levels - 1) s) ex ∙ sym (child-1 levels s at))
 
-    pub second-accepted : 1 < countAt s at → AcceptedAt (left - 1) s y
-    second-accepted h = rw second-at (child left s at a 1 h)
+    pub second-accepted : 1 < countAt s at → AcceptedAt (levels - 1) s y
+    second-accepted h = rw second-at (child levels s at a 1 h)
 
-    pub second-is : 1 < countAt s at → kid 1 (kidsOf (treeAt left s at)) ≡ treeAt (left - 1) s y
-    second-is h = kid-is left s at a 1 h ∙ ap (treeAt (left - 1) s) (sym second-at)
+    pub second-is : 1 < countAt s at → kid 1 (kidsOf (treeAt levels s at)) ≡ treeAt (levels - 1) s y
+    second-is h = kid-is levels s at a 1 h ∙ ap (treeAt (levels - 1) s) (sym second-at)
 
 -- ---- the callee
 
@@ -55,53 +55,53 @@ joined true false k b = refl
 joined false g k b = refl
 
 -- a Mb at `at`, as it was met, with its object at obj
-pub record Member (left : ℕ) (s : List ℕ) (at obj : ℕ) : Type 0 where
-  pub it : AcceptedAt left s at
+pub record Member (levels : ℕ) (s : List ℕ) (at obj : ℕ) : Type 0 where
+  pub it : AcceptedAt levels s at
   pub marked : markAt s at ≡ mark "Mb"
   pub body : obj ≡ bodyAt s at
 
 -- the same where the object is the unresolved `Object`, with its property at prop
-pub record OfObject (left : ℕ) (s : List ℕ) (at unresolved obj prop : ℕ) : Type 0 where
-  pub member : Member left s at obj
-  pub global : isGlobal unresolved "Object" (treeAt (left - 1) s obj) ≡ true
-  pub behind : prop ≡ endAt (left - 1) s obj
+pub record OfObject (levels : ℕ) (s : List ℕ) (at unresolved obj prop : ℕ) : Type 0 where
+  pub member : Member levels s at obj
+  pub global : isGlobal unresolved "Object" (treeAt (levels - 1) s obj) ≡ true
+  pub behind : prop ≡ endAt (levels - 1) s obj
 
-pub no-member : (left : ℕ) (s : List ℕ) (at unresolved : ℕ) → (markAt s at ≡ mark "Mb" → ⊥) → false ≡ isObjectFreeze unresolved (treeAt left s at)
-no-member left s at unresolved n = rw (ne-eqb _ _ (λ e. n (sym (mark-is left s at) ∙ e)))
+pub no-member : (levels : ℕ) (s : List ℕ) (at unresolved : ℕ) → (markAt s at ≡ mark "Mb" → ⊥) → false ≡ isObjectFreeze unresolved (treeAt levels s at)
+no-member levels s at unresolved n = rw (ne-eqb _ _ (λ e. n (sym (mark-is levels s at) ∙ e)))
 
-module _ {left : ℕ} {s : List ℕ} {at obj : ℕ} (m : Member left s at obj) where
+module _ {levels : ℕ} {s : List ℕ} {at obj : ℕ} (m : Member levels s at obj) where
   two-parts : 2 ≤ countAt s at
   unfolding grammar known slots place least
-  two-parts = has (mark "Mb") left s at (m .it) (m .marked)
+  two-parts = has (mark "Mb") levels s at (m .it) (m .marked)
 
-  pub object-accepted : AcceptedAt (left - 1) s obj
-  object-accepted = first-accepted left s at (m .it) obj (m .body) (omega (arith, two-parts))
+  pub object-accepted : AcceptedAt (levels - 1) s obj
+  object-accepted = first-accepted levels s at (m .it) obj (m .body) (omega (arith, two-parts))
 
-  freeze-is : (unresolved : ℕ) → isObjectFreeze unresolved (treeAt left s at)
-      ≡ (isGlobal unresolved "Object" (treeAt (left - 1) s obj) && isFreeze (kid 1 (kidsOf (treeAt left s at))))
+  freeze-is : (unresolved : ℕ) → isObjectFreeze unresolved (treeAt levels s at)
+      ≡ (isGlobal unresolved "Object" (treeAt (levels - 1) s obj) && isFreeze (kid 1 (kidsOf (treeAt levels s at))))
   freeze-is unresolved =
-      let ks : Recs = kidsOf (treeAt left s at) in
-      ap (λ (x : ℕ). eqb x (mark "Mb") && (isGlobal unresolved "Object" (kid 0 ks) && isFreeze (kid 1 ks))) (mark-is left s at ∙ m .marked)
-      ∙ ap (λ (r : Rec). isGlobal unresolved "Object" r && isFreeze (kid 1 ks)) (first-is left s at (m .it) obj (m .body) (omega (arith, two-parts)))
+      let ks : Recs = kidsOf (treeAt levels s at) in
+      ap (λ (x : ℕ). eqb x (mark "Mb") && (isGlobal unresolved "Object" (kid 0 ks) && isFreeze (kid 1 ks))) (mark-is levels s at ∙ m .marked)
+      ∙ ap (λ (r : Rec). isGlobal unresolved "Object" r && isFreeze (kid 1 ks)) (first-is levels s at (m .it) obj (m .body) (omega (arith, two-parts)))
 
-  pub no-object : (unresolved : ℕ) → isGlobal unresolved "Object" (treeAt (left - 1) s obj) ≡ false → false ≡ isObjectFreeze unresolved (treeAt left s at)
+  pub no-object : (unresolved : ℕ) → isGlobal unresolved "Object" (treeAt (levels - 1) s obj) ≡ false → false ≡ isObjectFreeze unresolved (treeAt levels s at)
   no-object unresolved g = sym (freeze-is unresolved ∙ rw g)
 
-module _ {left : ℕ} {s : List ℕ} {at unresolved obj prop : ℕ} (o : OfObject left s at unresolved obj prop) where
-  pub property-accepted : AcceptedAt (left - 1) s prop
-  property-accepted = second-accepted left s at (o .member .it) obj (o .member .body) prop (o .behind) (omega (arith, two-parts (o .member)))
+module _ {levels : ℕ} {s : List ℕ} {at unresolved obj prop : ℕ} (o : OfObject levels s at unresolved obj prop) where
+  pub property-accepted : AcceptedAt (levels - 1) s prop
+  property-accepted = second-accepted levels s at (o .member .it) obj (o .member .body) prop (o .behind) (omega (arith, two-parts (o .member)))
 
-  property-is : isObjectFreeze unresolved (treeAt left s at) ≡ (eqb (markAt s prop) (mark "Ki") && sameText (textAt s prop) (text "freeze"))
+  property-is : isObjectFreeze unresolved (treeAt levels s at) ≡ (eqb (markAt s prop) (mark "Ki") && sameText (textAt s prop) (text "freeze"))
   property-is =
       freeze-is (o .member) unresolved ∙ rw (o .global) (
-      ap isFreeze (second-is left s at (o .member .it) obj (o .member .body) prop (o .behind) (omega (arith, two-parts (o .member))))
-      ∙ ap (λ (x : ℕ). eqb x (mark "Ki") && sameText (textOf (treeAt (left - 1) s prop)) (text "freeze")) (mark-is (left - 1) s prop)
-      ∙ ap (λ (t : List ℕ). eqb (markAt s prop) (mark "Ki") && sameText t (text "freeze")) (text-is (left - 1) s prop))
+      ap isFreeze (second-is levels s at (o .member .it) obj (o .member .body) prop (o .behind) (omega (arith, two-parts (o .member))))
+      ∙ ap (λ (x : ℕ). eqb x (mark "Ki") && sameText (textOf (treeAt (levels - 1) s prop)) (text "freeze")) (mark-is (levels - 1) s prop)
+      ∙ ap (λ (t : List ℕ). eqb (markAt s prop) (mark "Ki") && sameText t (text "freeze")) (text-is (levels - 1) s prop))
 
-  pub no-property : (markAt s prop ≡ mark "Ki" → ⊥) → false ≡ isObjectFreeze unresolved (treeAt left s at)
+  pub no-property : (markAt s prop ≡ mark "Ki" → ⊥) → false ≡ isObjectFreeze unresolved (treeAt levels s at)
   no-property n = sym (property-is ∙ rw (ne-eqb _ _ n))
 
-  pub a-property : markAt s prop ≡ mark "Ki" → (t : List ℕ) → t ≡ textAt s prop → sameText t (text "freeze") ≡ isObjectFreeze unresolved (treeAt left s at)
+  pub a-property : markAt s prop ≡ mark "Ki" → (t : List ℕ) → t ≡ textAt s prop → sameText t (text "freeze") ≡ isObjectFreeze unresolved (treeAt levels s at)
   a-property k t e = ap (λ (x : List ℕ). sameText x (text "freeze")) e ∙ sym (property-is ∙ rw (eq-eqb _ _ k))
 
 -- ---- the argument
@@ -125,119 +125,119 @@ unfolding objectFreezeCallArg
 call-on unresolved c r rs e = joined (is "Mb" c) (isGlobal unresolved "Object" (kid 0 (kidsOf c))) (isFreeze (kid 1 (kidsOf c))) _ ∙ rw e
 
 -- a Ca at `at`, as it was met, with its callee at callee
-pub record Call (left : ℕ) (s : List ℕ) (at callee : ℕ) : Type 0 where
-  pub it : AcceptedAt left s at
+pub record Call (levels : ℕ) (s : List ℕ) (at callee : ℕ) : Type 0 where
+  pub it : AcceptedAt levels s at
   pub marked : markAt s at ≡ mark "Ca"
   pub body : callee ≡ bodyAt s at
 
 -- the same of `Object.freeze`, with a child at arg behind the callee
-pub record Freeze (left : ℕ) (s : List ℕ) (at unresolved callee arg : ℕ) : Type 0 where
-  pub call : Call left s at callee
-  pub freezes : isObjectFreeze unresolved (treeAt (left - 1) s callee) ≡ true
+pub record Freeze (levels : ℕ) (s : List ℕ) (at unresolved callee arg : ℕ) : Type 0 where
+  pub call : Call levels s at callee
+  pub freezes : isObjectFreeze unresolved (treeAt (levels - 1) s callee) ≡ true
   pub two : 2 ≤ countAt s at
-  pub behind : arg ≡ endAt (left - 1) s callee
+  pub behind : arg ≡ endAt (levels - 1) s callee
 
 -- the same where that child is an argument, and no spread
-pub record Plain (left : ℕ) (s : List ℕ) (at unresolved callee arg : ℕ) : Type 0 where
-  pub freeze : Freeze left s at unresolved callee arg
+pub record Plain (levels : ℕ) (s : List ℕ) (at unresolved callee arg : ℕ) : Type 0 where
+  pub freeze : Freeze levels s at unresolved callee arg
   pub no-op : markAt s arg ≡ mark "Op" → ⊥
   pub no-spread : markAt s arg ≡ mark "Sp" → ⊥
 
 -- the same with a child at next behind the argument
-pub record Followed (left : ℕ) (s : List ℕ) (at unresolved callee arg next : ℕ) : Type 0 where
-  pub plain : Plain left s at unresolved callee arg
+pub record Followed (levels : ℕ) (s : List ℕ) (at unresolved callee arg next : ℕ) : Type 0 where
+  pub plain : Plain levels s at unresolved callee arg
   pub more : countAt s at ≡ 2 → ⊥
-  pub behind : next ≡ endAt (left - 1) s arg
+  pub behind : next ≡ endAt (levels - 1) s arg
 
 -- what `object_freeze_call_arg` answers
 abbrev pub Answer : ℕ → List ℕ → ℕ → ℕ → Found
-Answer left s at unresolved = foundIf (objectFreezeCallArg unresolved (kidsOf (treeAt left s at))) (childAt left s at 1)
+Answer levels s at unresolved = foundIf (objectFreezeCallArg unresolved (kidsOf (treeAt levels s at))) (childAt levels s at 1)
 
-module _ {left : ℕ} {s : List ℕ} {at callee : ℕ} (k : Call left s at callee) where
+module _ {levels : ℕ} {s : List ℕ} {at callee : ℕ} (k : Call levels s at callee) where
   one-part : 0 < countAt s at
   unfolding grammar known slots place least
-  one-part = has (mark "Ca") left s at (k .it) (k .marked)
+  one-part = has (mark "Ca") levels s at (k .it) (k .marked)
 
-  pub callee-accepted : AcceptedAt (left - 1) s callee
-  callee-accepted = first-accepted left s at (k .it) callee (k .body) one-part
+  pub callee-accepted : AcceptedAt (levels - 1) s callee
+  callee-accepted = first-accepted levels s at (k .it) callee (k .body) one-part
 
-  pub other-callee : (unresolved : ℕ) → isObjectFreeze unresolved (treeAt (left - 1) s callee) ≡ false → Nothing ≡ Answer left s at unresolved
+  pub other-callee : (unresolved : ℕ) → isObjectFreeze unresolved (treeAt (levels - 1) s callee) ≡ false → Nothing ≡ Answer levels s at unresolved
   other-callee unresolved f =
-      nothing-found _ _ (call-off unresolved (kidsOf (treeAt left s at)) (ap (isObjectFreeze unresolved) (first-is left s at (k .it) callee (k .body) one-part) ∙ f))
+      nothing-found _ _ (call-off unresolved (kidsOf (treeAt levels s at)) (ap (isObjectFreeze unresolved) (first-is levels s at (k .it) callee (k .body) one-part) ∙ f))
 
-  pub no-argument : (unresolved n : ℕ) → n ≡ countAt s at → n < 2 → Nothing ≡ Answer left s at unresolved
+  pub no-argument : (unresolved n : ℕ) → n ≡ countAt s at → n < 2 → Nothing ≡ Answer levels s at unresolved
   no-argument unresolved n e h =
-      nothing-found _ _ (call-few unresolved (kidsOf (treeAt left s at))
-      (omega (arith, ap count (kids-are left s at (k .it)), count-readAll (treeAt (left - 1) s) (endAt (left - 1) s) (countAt s at) (bodyAt s at))))
+      nothing-found _ _ (call-few unresolved (kidsOf (treeAt levels s at))
+      (omega (arith, ap count (kids-are levels s at (k .it)), count-readAll (treeAt (levels - 1) s) (endAt (levels - 1) s) (countAt s at) (bodyAt s at))))
 
-module _ {left : ℕ} {s : List ℕ} {at unresolved callee arg : ℕ} (f : Freeze left s at unresolved callee arg) where
-  pub arg-accepted : AcceptedAt (left - 1) s arg
-  arg-accepted = let z = f .two in second-accepted left s at (f .call .it) callee (f .call .body) arg (f .behind) (omega arith)
+module _ {levels : ℕ} {s : List ℕ} {at unresolved callee arg : ℕ} (f : Freeze levels s at unresolved callee arg) where
+  pub arg-accepted : AcceptedAt (levels - 1) s arg
+  arg-accepted = let z = f .two in second-accepted levels s at (f .call .it) callee (f .call .body) arg (f .behind) (omega arith)
 
-  arg-at : arg ≡ childAt left s at 1
-  arg-at = second-at left s at (f .call .it) callee (f .call .body) arg (f .behind)
+  arg-at : arg ≡ childAt levels s at 1
+  arg-at = second-at levels s at (f .call .it) callee (f .call .body) arg (f .behind)
 
   abbrev others : Recs
-  others = readAll (treeAt (left - 1) s) (endAt (left - 1) s) (countAt s at - 1 - 1) (endAt (left - 1) s arg)
+  others = readAll (treeAt (levels - 1) s) (endAt (levels - 1) s) (countAt s at - 1 - 1) (endAt (levels - 1) s arg)
 
-  args-are : kidsOf (treeAt left s at) ≡ cons (treeAt (left - 1) s callee) (cons (treeAt (left - 1) s arg) others)
+  args-are : kidsOf (treeAt levels s at) ≡ cons (treeAt (levels - 1) s callee) (cons (treeAt (levels - 1) s arg) others)
   args-are =
-      let read : ℕ → Rec = treeAt (left - 1) s in
-      let end : ℕ → ℕ = endAt (left - 1) s in
+      let read : ℕ → Rec = treeAt (levels - 1) s in
+      let end : ℕ → ℕ = endAt (levels - 1) s in
       let n : ℕ = countAt s at in
       let two = f .two in
-      kids-are left s at (f .call .it)
+      kids-are levels s at (f .call .it)
       ∙ ap (readAll read end n) (sym (f .call .body))
       ∙ readAll-more read end n callee (omega arith)
       ∙ ap (λ (x : ℕ). cons (read callee) (readAll read end (n - 1) x)) (sym (f .behind))
       ∙ ap (cons (read callee)) (readAll-more read end (n - 1) arg (omega arith))
 
-  arg-is : objectFreezeCallArg unresolved (kidsOf (treeAt left s at)) ≡ (not (eqb (markAt s arg) (mark "Op")) && (ends others && not (eqb (markAt s arg) (mark "Sp"))))
+  arg-is : objectFreezeCallArg unresolved (kidsOf (treeAt levels s at)) ≡ (not (eqb (markAt s arg) (mark "Op")) && (ends others && not (eqb (markAt s arg) (mark "Sp"))))
   arg-is =
       ap (objectFreezeCallArg unresolved) args-are
-      ∙ call-on unresolved (treeAt (left - 1) s callee) (treeAt (left - 1) s arg) others (f .freezes)
-      ∙ ap (λ (m : ℕ). not (eqb m (mark "Op")) && (ends others && not (eqb m (mark "Sp")))) (mark-is (left - 1) s arg)
+      ∙ call-on unresolved (treeAt (levels - 1) s callee) (treeAt (levels - 1) s arg) others (f .freezes)
+      ∙ ap (λ (m : ℕ). not (eqb m (mark "Op")) && (ends others && not (eqb m (mark "Sp")))) (mark-is (levels - 1) s arg)
 
-  pub op-or-spread : {m : ℕ} → m ≡ markAt s arg → (m ≡ mark "Op") ⊎ (m ≡ mark "Sp") → Nothing ≡ Answer left s at unresolved
+  pub op-or-spread : {m : ℕ} → m ≡ markAt s arg → (m ≡ mark "Op") ⊎ (m ≡ mark "Sp") → Nothing ≡ Answer levels s at unresolved
   op-or-spread e o = nothing-found _ _ (arg-is ∙ ⊎-elim (λ (q : _ ≡ mark "Op"). rw (sym e ∙ q)) (λ (q : _ ≡ mark "Sp"). rw (sym e ∙ q) (never (ends others))) o)
     where
       never : (b : Bool) → (b && false) ≡ false
       never true = refl
       never false = refl
 
-module _ {left : ℕ} {s : List ℕ} {at unresolved callee arg : ℕ} (p : Plain left s at unresolved callee arg) where
-  ends-is : objectFreezeCallArg unresolved (kidsOf (treeAt left s at)) ≡ ends (others (p .freeze))
+module _ {levels : ℕ} {s : List ℕ} {at unresolved callee arg : ℕ} (p : Plain levels s at unresolved callee arg) where
+  ends-is : objectFreezeCallArg unresolved (kidsOf (treeAt levels s at)) ≡ ends (others (p .freeze))
   ends-is = arg-is (p .freeze) ∙ rw (ne-eqb _ _ (p .no-op), ne-eqb _ _ (p .no-spread)) (kept (ends (others (p .freeze))))
     where
       kept : (b : Bool) → (b && true) ≡ b
       kept true = refl
       kept false = refl
 
-  pub last-one : countAt s at ≡ 2 → At arg ≡ Answer left s at unresolved
+  pub last-one : countAt s at ≡ 2 → At arg ≡ Answer levels s at unresolved
   last-one n =
       found-at _ _ _
-      (ends-is ∙ ap ends (readAll-none (treeAt (left - 1) s) (endAt (left - 1) s) (countAt s at - 1 - 1) (endAt (left - 1) s arg) (omega arith)))
+      (ends-is ∙ ap ends (readAll-none (treeAt (levels - 1) s) (endAt (levels - 1) s) (countAt s at - 1 - 1) (endAt (levels - 1) s arg) (omega arith)))
       (arg-at (p .freeze))
 
-module _ {left : ℕ} {s : List ℕ} {at unresolved callee arg next : ℕ} (w : Followed left s at unresolved callee arg next) where
+module _ {levels : ℕ} {s : List ℕ} {at unresolved callee arg next : ℕ} (w : Followed levels s at unresolved callee arg next) where
   third : 2 < countAt s at
   third = let two = w .plain .freeze .two in let more = w .more in omega arith
 
-  pub next-accepted : AcceptedAt (left - 1) s next
+  pub next-accepted : AcceptedAt (levels - 1) s next
   unfolding endOfAll
   next-accepted =
-      let third-at : next ≡ childAt left s at 2 = w .behind ∙ ap (endAt (left - 1) s) (arg-at (w .plain .freeze)) in
-      rw third-at (child left s at (w .plain .freeze .call .it) 2 third)
+      let third-at : next ≡ childAt levels s at 2 = w .behind ∙ ap (endAt (levels - 1) s) (arg-at (w .plain .freeze)) in
+      rw third-at (child levels s at (w .plain .freeze .call .it) 2 third)
 
-  next-is : objectFreezeCallArg unresolved (kidsOf (treeAt left s at)) ≡ eqb (markAt s next) (mark "Op")
+  next-is : objectFreezeCallArg unresolved (kidsOf (treeAt levels s at)) ≡ eqb (markAt s next) (mark "Op")
   next-is =
       ends-is (w .plain)
-      ∙ ap ends (readAll-more (treeAt (left - 1) s) (endAt (left - 1) s) (countAt s at - 1 - 1) (endAt (left - 1) s arg) (omega (arith, third)))
-      ∙ ap (λ (x : ℕ). is "Op" (treeAt (left - 1) s x)) (sym (w .behind))
-      ∙ ap (λ (m : ℕ). eqb m (mark "Op")) (mark-is (left - 1) s next)
+      ∙ ap ends (readAll-more (treeAt (levels - 1) s) (endAt (levels - 1) s) (countAt s at - 1 - 1) (endAt (levels - 1) s arg) (omega (arith, third)))
+      ∙ ap (λ (x : ℕ). is "Op" (treeAt (levels - 1) s x)) (sym (w .behind))
+      ∙ ap (λ (m : ℕ). eqb m (mark "Op")) (mark-is (levels - 1) s next)
 
-  pub then-ops : markAt s next ≡ mark "Op" → At arg ≡ Answer left s at unresolved
+  pub then-ops : markAt s next ≡ mark "Op" → At arg ≡ Answer levels s at unresolved
   then-ops q = found-at _ _ _ (next-is ∙ eq-eqb _ _ q) (arg-at (w .plain .freeze))
 
-  pub more-args : (markAt s next ≡ mark "Op" → ⊥) → Nothing ≡ Answer left s at unresolved
+  pub more-args : (markAt s next ≡ mark "Op" → ⊥) → Nothing ≡ Answer levels s at unresolved
   more-args q = nothing-found _ _ (next-is ∙ ne-eqb _ _ q)

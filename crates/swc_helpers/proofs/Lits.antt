@@ -1,4 +1,4 @@
--- The kinds of literals, and the types that they get. Assumes nothing.
+-- The kinds of literals, and the types that they get.
 use mathlib.Core.Path.{_≡_, refl, sym, _∙_, ap}
 use mathlib.Core.List.{List, [], _∷_}
 use mathlib.Core.Bool.{Bool, true, false, cond}
@@ -37,14 +37,14 @@ kind-by lRegex at r = refl
 kind-by lJsxText at r = refl
 
 -- the kind of a literal that was read is what its mark says
-pub kind-is : (left : ℕ) (s : List ℕ) (at : ℕ) {lit l : Literal} → lit ≡ literalOf at (treeAt left s at) → lit ≡ l → litKind (markOf (treeAt left s at)) ≡ kindOf l
-kind-is left s at f e = sym (kind-by (litKind (markOf (treeAt left s at))) at (treeAt left s at)) ∙ ap kindOf (sym f ∙ e)
+pub kind-is : (levels : ℕ) (s : List ℕ) (at : ℕ) {lit l : Literal} → lit ≡ literalOf at (treeAt levels s at) → lit ≡ l → litKind (markOf (treeAt levels s at)) ≡ kindOf l
+kind-is levels s at f e = sym (kind-by (litKind (markOf (treeAt levels s at))) at (treeAt levels s at)) ∙ ap kindOf (sym f ∙ e)
 
 -- what is written for a literal of a case, where the definition is F, in a position of a kind
-pub lit-put : (F : Lit → Rec → Bool → Option Rec) (left : ℕ) (s : List ℕ) (at : ℕ) {a b : List ℕ} {p : ℕ} {lit l : Literal} {kind k : DeclMutabilityKind} {t : Option Rec} {x : MaybeType}
-    → lit ≡ literalOf at (treeAt left s at) → lit ≡ l → kind ≡ k → t ≡ F (kindOf l) (treeAt left s at) (isConst k) → PutMaybe a b p t x
-    → PutMaybe a b p (F (litKind (markOf (treeAt left s at))) (treeAt left s at) (isConst kind)) x
-lit-put F left s at f e d q w = rw (kind-is left s at f e, d, ← q) w
+pub lit-put : (F : Lit → Rec → Bool → Option Rec) (levels : ℕ) (s : List ℕ) (at : ℕ) {a b : List ℕ} {p : ℕ} {lit l : Literal} {kind k : DeclMutabilityKind} {t : Option Rec} {x : MaybeType}
+    → lit ≡ literalOf at (treeAt levels s at) → lit ≡ l → kind ≡ k → t ≡ F (kindOf l) (treeAt levels s at) (isConst k) → PutMaybe a b p t x
+    → PutMaybe a b p (F (litKind (markOf (treeAt levels s at))) (treeAt levels s at) (isConst kind)) x
+lit-put F levels s at f e d q w = rw (kind-is levels s at f e, d, ← q) w
 
 -- ---- a literal under a minus
 
@@ -88,13 +88,13 @@ other-minus Null r c h = refl
 other-minus Regex r c h = refl
 other-minus JsxText r c h = refl
 
-module _ (left : ℕ) (s : List ℕ) (at : ℕ) {lit : Literal} (f : lit ≡ literalOf at (treeAt left s at)) where
+module _ (levels : ℕ) (s : List ℕ) (at : ℕ) {lit : Literal} (f : lit ≡ literalOf at (treeAt levels s at)) where
   pub number-marked : {v : Float} → lit ≡ Num v → markAt s at ≡ mark "Nu"
-  number-marked e = sym (mark-is left s at) ∙ number-mark (markOf (treeAt left s at)) (kind-is left s at f e)
+  number-marked e = sym (mark-is levels s at) ∙ number-mark (markOf (treeAt levels s at)) (kind-is levels s at f e)
 
   pub big-marked : {x : ℕ} → lit ≡ BigInt x → markAt s at ≡ mark "Bi"
-  big-marked e = sym (mark-is left s at) ∙ big-mark (markOf (treeAt left s at)) (kind-is left s at f e)
+  big-marked e = sym (mark-is levels s at) ∙ big-mark (markOf (treeAt levels s at)) (kind-is levels s at f e)
 
   -- any other literal has no type under a minus
-  pub no-minus : OneOf (0 ∷ 3 ∷ 4 ∷ 5 ∷ 6 ∷ []) (tagOf the-type lit) → (c : Bool) → none ≡ minusBy (litKind (markOf (treeAt left s at))) (treeAt left s at) c
-  no-minus h c = rw (kind-is left s at f refl) (other-minus lit (treeAt left s at) c h)
+  pub no-minus : OneOf (0 ∷ 3 ∷ 4 ∷ 5 ∷ 6 ∷ []) (tagOf the-type lit) → (c : Bool) → none ≡ minusBy (litKind (markOf (treeAt levels s at))) (treeAt levels s at) c
+  no-minus h c = rw (kind-is levels s at f refl) (other-minus lit (treeAt levels s at) c h)

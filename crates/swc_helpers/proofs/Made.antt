@@ -1,4 +1,4 @@
--- The bytes of records that wrap a type, keywords, and records that are copied; with the laws of writes that `records` has. Assumes nothing.
+-- The bytes of records that wrap a type, keywords, and records that are copied; with the laws of writes that `records` has.
 use mathlib.Core.Path.{_≡_, refl, sym, _∙_}
 use mathlib.Core.List.{List, [], _++_, append-assoc}
 use Prim.Native.Nat.{ℕ}
@@ -35,10 +35,10 @@ keyword-put at e w = rw e w
 
 -- ---- records of the tree
 
-module _ (left : ℕ) (s : List ℕ) (at : ℕ) (a : AcceptedAt left s at) where
-  pub is-whole : Whole left s at
-  is-whole = accepted-whole left s at (a .slots) (a .past) (a .checked)
+module _ (levels : ℕ) (s : List ℕ) (at : ℕ) (a : AcceptedAt levels s at) where
+  pub is-whole : Whole levels s at
+  is-whole = accepted-whole levels s at (a .slots) (a .past) (a .checked)
 
   -- a record that is copied
-  pub copied : {o b : List ℕ} {p q : ℕ} → ((i : ℕ) → Fits w8 (getD s i 0)) → Put o b p (partAt left s at) q → Put o b p (encode (treeAt left s at)) q
-  copied known = accepted-put left s at (a .slots) (a .past) (slice-bytes s known) (a .checked)
+  pub copied : {o b : List ℕ} {p q : ℕ} → ((i : ℕ) → Fits w8 (getD s i 0)) → Put o b p (partAt levels s at) q → Put o b p (encode (treeAt levels s at)) q
+  copied known = accepted-put levels s at (a .slots) (a .past) (slice-bytes s known) (a .checked)

@@ -1,4 +1,4 @@
--- The sign of an f64 turned is the highest of its bits turned. Assumes nothing.
+-- The sign of an f64 turned is the highest of its bits turned.
 use mathlib.Core.Path.{_≡_, refl, sym, ap, _∙_}
 use mathlib.Core.Bool.{Bool, true, false, not, cond}
 use Prim.Native.Nat.{ℕ, zero, suc, _+_, _*_, _%_, _^_, _<_, _≤_}

@@ -1,4 +1,4 @@
--- The parts of a template in an accepted tree: whether it has expressions, and its first quasi. Assumes nothing.
+-- The parts of a template in an accepted tree: whether it has expressions, and its first quasi.
 use mathlib.Core.Path.{_≡_, refl, sym, _∙_, ap}
 use mathlib.Core.List.{List}
 use mathlib.Core.Bool.{Bool, true, false, cond, _&&_}
@@ -34,60 +34,60 @@ pub no-quasi-mark : {m : ℕ} → ((m ≡ mark "Op") ⊎ (m ≡ mark "Qu") → �
 no-quasi-mark h = rw (ne-eqb _ _ (λ e. h (inr e)), ne-eqb _ _ (λ e. h (inl e)))
 
 -- with n children of the record at `at` left, the first of them at x: they are accepted, and those before them are no expressions
-pub record Quasis (left : ℕ) (s : List ℕ) (at n x : ℕ) : Type 0 where
-  pub all : AllAccepted (left - 1) s n x
-  pub same : noExprs (kidsOf (treeAt left s at)) ≡ noExprs (readAll (treeAt (left - 1) s) (endAt (left - 1) s) n x)
+pub record Quasis (levels : ℕ) (s : List ℕ) (at n x : ℕ) : Type 0 where
+  pub all : AllAccepted (levels - 1) s n x
+  pub same : noExprs (kidsOf (treeAt levels s at)) ≡ noExprs (readAll (treeAt (levels - 1) s) (endAt (levels - 1) s) n x)
 
-pub quasis-start : (left : ℕ) (s : List ℕ) (at : ℕ) → AcceptedAt left s at → (n x : ℕ) → n ≡ countAt s at → x ≡ bodyAt s at → Quasis left s at n x
-quasis-start left s at a n x en ex = rw (en, ex) (record { all = children left s at a; same = ap noExprs (kids-are left s at a) })
+pub quasis-start : (levels : ℕ) (s : List ℕ) (at : ℕ) → AcceptedAt levels s at → (n x : ℕ) → n ≡ countAt s at → x ≡ bodyAt s at → Quasis levels s at n x
+quasis-start levels s at a n x en ex = rw (en, ex) (record { all = children levels s at a; same = ap noExprs (kids-are levels s at a) })
 
-module _ (left : ℕ) (s : List ℕ) (at n x : ℕ) (q : Quasis left s at n x) where
-  pub quasis-done : n ≤ 0 → true ≡ noExprs (kidsOf (treeAt left s at))
+module _ (levels : ℕ) (s : List ℕ) (at n x : ℕ) (q : Quasis levels s at n x) where
+  pub quasis-done : n ≤ 0 → true ≡ noExprs (kidsOf (treeAt levels s at))
   unfolding noExprs
-  quasis-done h = sym (q .same ∙ ap noExprs (readAll-none (treeAt (left - 1) s) (endAt (left - 1) s) n x h))
+  quasis-done h = sym (q .same ∙ ap noExprs (readAll-none (treeAt (levels - 1) s) (endAt (levels - 1) s) n x h))
 
   module _ (h : 0 < n) where
-    pub quasi-accepted : AcceptedAt (left - 1) s x
-    quasi-accepted = first-one (left - 1) s n x (q .all) h
+    pub quasi-accepted : AcceptedAt (levels - 1) s x
+    quasi-accepted = first-one (levels - 1) s n x (q .all) h
 
-    one-more : noExprs (kidsOf (treeAt left s at))
-        ≡ (isQuasi (markAt s x) && noExprs (readAll (treeAt (left - 1) s) (endAt (left - 1) s) (n - 1) (endAt (left - 1) s x)))
+    one-more : noExprs (kidsOf (treeAt levels s at))
+        ≡ (isQuasi (markAt s x) && noExprs (readAll (treeAt (levels - 1) s) (endAt (levels - 1) s) (n - 1) (endAt (levels - 1) s x)))
     unfolding noExprs
     one-more =
-        q .same ∙ (ap noExprs (readAll-more (treeAt (left - 1) s) (endAt (left - 1) s) n x h)
-        ∙ ap (λ (m : ℕ). isQuasi m && noExprs (readAll (treeAt (left - 1) s) (endAt (left - 1) s) (n - 1) (endAt (left - 1) s x))) (mark-is (left - 1) s x))
+        q .same ∙ (ap noExprs (readAll-more (treeAt (levels - 1) s) (endAt (levels - 1) s) n x h)
+        ∙ ap (λ (m : ℕ). isQuasi m && noExprs (readAll (treeAt (levels - 1) s) (endAt (levels - 1) s) (n - 1) (endAt (levels - 1) s x))) (mark-is (levels - 1) s x))
 
-    pub quasis-stop : isQuasi (markAt s x) ≡ false → false ≡ noExprs (kidsOf (treeAt left s at))
+    pub quasis-stop : isQuasi (markAt s x) ≡ false → false ≡ noExprs (kidsOf (treeAt levels s at))
     quasis-stop e = sym (one-more ∙ rw e)
 
-    pub quasis-next : isQuasi (markAt s x) ≡ true → (y : ℕ) → y ≡ endAt (left - 1) s x → Quasis left s at (n - 1) y
-    quasis-next e y ey = rw ey (record { all = others (left - 1) s n x (q .all) h; same = one-more ∙ rw e })
+    pub quasis-next : isQuasi (markAt s x) ≡ true → (y : ℕ) → y ≡ endAt (levels - 1) s x → Quasis levels s at (n - 1) y
+    quasis-next e y ey = rw ey (record { all = others (levels - 1) s n x (q .all) h; same = one-more ∙ rw e })
 
 -- ---- its first quasi
 
 pub some-children : {r n : ℕ} → r ≡ n → (r ≡ 0 → ⊥) → 0 < n
 some-children e h = omega arith
 
-module _ (left : ℕ) (s : List ℕ) (at : ℕ) (a : AcceptedAt left s at) where
-  pub no-quasi : countAt s at ≡ 0 → Nothing ≡ foundIf (firstCooked (kidsOf (treeAt left s at))) (childAt left s at 0)
-  no-quasi n = nothing-found _ _ (ap (λ (k : Rec). is "Qu" k && has1 (headOf k)) (kid-none left s at a 0 (omega arith)))
+module _ (levels : ℕ) (s : List ℕ) (at : ℕ) (a : AcceptedAt levels s at) where
+  pub no-quasi : countAt s at ≡ 0 → Nothing ≡ foundIf (firstCooked (kidsOf (treeAt levels s at))) (childAt levels s at 0)
+  no-quasi n = nothing-found _ _ (ap (λ (k : Rec). is "Qu" k && has1 (headOf k)) (kid-none levels s at a 0 (omega arith)))
 
   module _ (x : ℕ) (ex : x ≡ bodyAt s at) (h : Fields.Head) (r : h ≡ fieldsAt s x) (n : countAt s at ≡ 0 → ⊥) where
-    cooked-is : firstCooked (kidsOf (treeAt left s at)) ≡ (eqb (h .mark) (mark "Qu") && hasFlag 1 (h .flags))
+    cooked-is : firstCooked (kidsOf (treeAt levels s at)) ≡ (eqb (h .mark) (mark "Qu") && hasFlag 1 (h .flags))
     cooked-is =
-        ap (λ (k : Rec). is "Qu" k && has1 (headOf k)) (first-is left s at a x ex (omega arith))
-        ∙ ap (λ (m : ℕ). eqb m (mark "Qu") && has1 (headOf (treeAt (left - 1) s x))) (mark-is (left - 1) s x)
-        ∙ ap (λ (f : ℕ). eqb (markAt s x) (mark "Qu") && hasFlag 1 f) (flags-is (left - 1) s x)
+        ap (λ (k : Rec). is "Qu" k && has1 (headOf k)) (first-is levels s at a x ex (omega arith))
+        ∙ ap (λ (m : ℕ). eqb m (mark "Qu") && has1 (headOf (treeAt (levels - 1) s x))) (mark-is (levels - 1) s x)
+        ∙ ap (λ (f : ℕ). eqb (markAt s x) (mark "Qu") && hasFlag 1 f) (flags-is (levels - 1) s x)
         ∙ ap (λ (h : Fields.Head). eqb (h .mark) (mark "Qu") && hasFlag 1 (h .flags)) (sym r)
 
-    pub other-part : (h .mark ≡ mark "Qu" → ⊥) → Nothing ≡ foundIf (firstCooked (kidsOf (treeAt left s at))) (childAt left s at 0)
+    pub other-part : (h .mark ≡ mark "Qu" → ⊥) → Nothing ≡ foundIf (firstCooked (kidsOf (treeAt levels s at))) (childAt levels s at 0)
     other-part k = nothing-found _ _ (cooked-is ∙ rw (ne-eqb _ _ k))
 
     module _ (k : h .mark ≡ mark "Qu") where
-      pub cooked : hasFlag 1 (h .flags) ≡ true → At x ≡ foundIf (firstCooked (kidsOf (treeAt left s at))) (childAt left s at 0)
-      cooked e = found-at _ _ _ (cooked-is ∙ rw (k, e)) (ex ∙ sym (child-0 left s at))
+      pub cooked : hasFlag 1 (h .flags) ≡ true → At x ≡ foundIf (firstCooked (kidsOf (treeAt levels s at))) (childAt levels s at 0)
+      cooked e = found-at _ _ _ (cooked-is ∙ rw (k, e)) (ex ∙ sym (child-0 levels s at))
 
-      pub not-cooked : hasFlag 1 (h .flags) ≡ false → Nothing ≡ foundIf (firstCooked (kidsOf (treeAt left s at))) (childAt left s at 0)
+      pub not-cooked : hasFlag 1 (h .flags) ≡ false → Nothing ≡ foundIf (firstCooked (kidsOf (treeAt levels s at))) (childAt levels s at 0)
       not-cooked e = nothing-found _ _ (cooked-is ∙ rw (k, e))
 
 -- ---- its type
@@ -109,12 +109,12 @@ module _ (ks : Recs) where
   unfolding tplToTsType
   quasi-type e f = rw (e, f)
 
-module _ (left : ℕ) (s : List ℕ) (at : ℕ) (a : AcceptedAt left s at) (x : ℕ) (f : At x ≡ foundIf (firstCooked (kidsOf (treeAt left s at))) (childAt left s at 0)) where
-  is-cooked : firstCooked (kidsOf (treeAt left s at)) ≡ true
-  is-cooked = is-found (firstCooked (kidsOf (treeAt left s at))) x (childAt left s at 0) f .0
+module _ (levels : ℕ) (s : List ℕ) (at : ℕ) (a : AcceptedAt levels s at) (x : ℕ) (f : At x ≡ foundIf (firstCooked (kidsOf (treeAt levels s at))) (childAt levels s at 0)) where
+  is-cooked : firstCooked (kidsOf (treeAt levels s at)) ≡ true
+  is-cooked = is-found (firstCooked (kidsOf (treeAt levels s at))) x (childAt levels s at 0) f .0
 
   first-at : x ≡ bodyAt s at
-  first-at = is-found (firstCooked (kidsOf (treeAt left s at))) x (childAt left s at 0) f .1 ∙ child-0 left s at
+  first-at = is-found (firstCooked (kidsOf (treeAt levels s at))) x (childAt levels s at 0) f .1 ∙ child-0 levels s at
 
   -- it is there, since it was found
   there : 0 < countAt s at
@@ -123,17 +123,17 @@ module _ (left : ℕ) (s : List ℕ) (at : ℕ) (a : AcceptedAt left s at) (x : 
       go : Dec (0 < countAt s at) → 0 < countAt s at
       go (yes h) = h
       go (no h) =
-          let z : _≡_ {A = Bool} false true = sym (ap (λ (k : Rec). is "Qu" k && has1 (headOf k)) (kid-none left s at a 0 (omega arith))) ∙ is-cooked in
+          let z : _≡_ {A = Bool} false true = sym (ap (λ (k : Rec). is "Qu" k && has1 (headOf k)) (kid-none levels s at a 0 (omega arith))) ∙ is-cooked in
           absurd (let y : _≡_ {A = ℕ} 0 1 = cc in omega arith)
 
-  pub found-accepted : AcceptedAt (left - 1) s x
-  found-accepted = first-accepted left s at a x first-at there
+  pub found-accepted : AcceptedAt (levels - 1) s x
+  found-accepted = first-accepted levels s at a x first-at there
 
-  pub found-type : noExprs (kidsOf (treeAt left s at)) ≡ true → (t : List ℕ) → t ≡ textAt s x
-      → tsLitType dummySp (rec (fresh "Ss" 0 t) nil) ≡ tplToTsType (kidsOf (treeAt left s at)) true
+  pub found-type : noExprs (kidsOf (treeAt levels s at)) ≡ true → (t : List ℕ) → t ≡ textAt s x
+      → tsLitType dummySp (rec (fresh "Ss" 0 t) nil) ≡ tplToTsType (kidsOf (treeAt levels s at)) true
   found-type e t q =
-      ap (λ (t : List ℕ). tsLitType dummySp (rec (fresh "Ss" 0 t) nil)) (q ∙ (sym (text-is (left - 1) s x) ∙ sym (ap textOf (first-is left s at a x first-at there))))
-      ∙ quasi-type (kidsOf (treeAt left s at)) e is-cooked
+      ap (λ (t : List ℕ). tsLitType dummySp (rec (fresh "Ss" 0 t) nil)) (q ∙ (sym (text-is (levels - 1) s x) ∙ sym (ap textOf (first-is levels s at a x first-at there))))
+      ∙ quasi-type (kidsOf (treeAt levels s at)) e is-cooked
 
 -- what is written for a template of a kind
 pub tpl-put : {a b : List ℕ} {p : ℕ} (ks : Recs) {kind k : DeclMutabilityKind} {t : Rec} {q : ℕ} → kind ≡ k → t ≡ tplToTsType ks (isConst k) → Put a b p (encode t) q → Put a b p (encode (tplToTsType ks (isConst kind))) q

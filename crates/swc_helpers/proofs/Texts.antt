@@ -1,4 +1,4 @@
--- Literals of an accepted tree: the f64 of a Nu, the literal that a mark says, and the texts of negated numbers and big integers. Assumes nothing.
+-- Literals of an accepted tree: the f64 of a Nu, the literal that a mark says, and the texts of negated numbers and big integers.
 use mathlib.Core.Path.{_≡_, refl, sym, _∙_, ap}
 use mathlib.Core.List.{List, [], _∷_, _++_, append-assoc}
 use mathlib.Core.Bool.{Bool, true, false, cond, _&&_}
@@ -169,14 +169,14 @@ same-head : (h : Head) (t : List ℕ) → length t ≡ length (h .text) → head
 unfolding headBytes
 same-head h t e = rw e
 
-respelled-is : (range : Range) (left : ℕ) (s : List ℕ) (at : ℕ) (t : List ℕ) → length t ≡ length (textAt s at) → litFront range s at ++ t ≡ encode (tsLitType range (respelled (treeAt left s at) t))
+respelled-is : (range : Range) (levels : ℕ) (s : List ℕ) (at : ℕ) (t : List ℕ) → length t ≡ length (textAt s at) → litFront range s at ++ t ≡ encode (tsLitType range (respelled (treeAt levels s at) t))
 unfolding headAt
-respelled-is range left s at t e =
+respelled-is range levels s at t e =
     append-assoc (headBytes (made "Tl" 0 range []) 1) (headBytes (headAt s at) 0) t
     ∙ ap (λ (b : List ℕ). headBytes (made "Tl" 0 range []) 1 ++ (b ++ t)) (same-head (headAt s at) t e)
     ∙ ap (λ (b : List ℕ). headBytes (made "Tl" 0 range []) 1 ++ b) (encode-leaf (withText (headAt s at) t))
     ∙ encode-one (made "Tl" 0 range []) (rec (withText (headAt s at) t) nil) refl
-    ∙ ap (λ (h : Head). encode (tsLitType range (rec (withText h t) nil))) (sym (head-is left s at))
+    ∙ ap (λ (h : Head). encode (tsLitType range (rec (withText h t) nil))) (sym (head-is levels s at))
 
 -- the head that is read there, without children
 pub bare-head : (s : List ℕ) (at : ℕ) (h : Fields.Head) → h ≡ fieldsAt s at → bodyAt s at ≤ length s
@@ -187,57 +187,57 @@ bare-head s at h r f =
 
 -- ---- literals of an accepted tree
 
-module _ (left : ℕ) (s : List ℕ) (at : ℕ) (a : AcceptedAt left s at) where
+module _ (levels : ℕ) (s : List ℕ) (at : ℕ) (a : AcceptedAt levels s at) where
   pub body-fits : bodyAt s at ≤ length s
-  body-fits = itself left s at a .fits
+  body-fits = itself levels s at a .fits
 
   -- a Nu has eight bytes of f64
   module _ (e : markAt s at ≡ mark "Nu") where
     pub number-fits : at + headSize + 8 ≤ length s
-    number-fits = omega (arith, body-fits, nu-text left s at a e)
+    number-fits = omega (arith, body-fits, nu-text levels s at a e)
 
-    pub number-is : u64At s (at + headSize) ≡ u64At (textOf (treeAt left s at)) 0
-    number-is = text-number s at (omega (arith, nu-text left s at a e)) ∙ ap (λ (t : List ℕ). u64At t 0) (sym (text-is left s at))
+    pub number-is : u64At s (at + headSize) ≡ u64At (textOf (treeAt levels s at)) 0
+    number-is = text-number s at (omega (arith, nu-text levels s at a e)) ∙ ap (λ (t : List ℕ). u64At t 0) (sym (text-is levels s at))
 
     -- the type that is written, from the bits with the sign turned
     pub negated-is : (range : Range) → Bytes s → (m : ℕ) → m ≡ turnedBits (u64At s (at + headSize))
-        → litFront range s at ++ le8 m ≡ encode (tsLitType range (respelled (treeAt left s at) (turned (textOf (treeAt left s at)))))
+        → litFront range s at ++ le8 m ≡ encode (tsLitType range (respelled (treeAt levels s at) (turned (textOf (treeAt levels s at)))))
     negated-is range bytes m q =
-        let n : lengthAt s at ≡ 8 = nu-text left s at a e in
-        let l : length (textAt s at) ≡ 8 = text-length left s at a ∙ n in
+        let n : lengthAt s at ≡ 8 = nu-text levels s at a e in
+        let l : length (textAt s at) ≡ 8 = text-length levels s at a ∙ n in
         let t : le8 m ≡ turned (textAt s at) = ap le8 (q ∙ ap turnedBits (text-number s at (omega arith))) ∙ turned-bytes (textAt s at) l (λ i h. text-below s at bytes i (omega arith)) in
-        respelled-is range left s at (le8 m) (sym l) ∙ ap (λ (x : List ℕ). encode (tsLitType range (respelled (treeAt left s at) x))) (t ∙ ap turned (sym (text-is left s at)))
+        respelled-is range levels s at (le8 m) (sym l) ∙ ap (λ (x : List ℕ). encode (tsLitType range (respelled (treeAt levels s at) x))) (t ∙ ap turned (sym (text-is levels s at)))
 
   -- a Bi has a sign and digits
   module _ (e : markAt s at ≡ mark "Bi") where
     integer : isInteger (textAt s at) ≡ true
-    integer = bi-text left s at a e
+    integer = bi-text levels s at a e
 
     pub integer-long : 2 ≤ length (textAt s at)
     integer-long = integer-length (textAt s at) integer
 
     pub negated-integer : (range : Range) (sign : ℕ) → sign ≡ turnedSign (getD (textAt s at) 0 0) (getD (textAt s at) 1 0)
-        → litFront range s at ++ (sign ∷ drop 1 (textAt s at)) ≡ encode (tsLitType range (respelled (treeAt left s at) (turnedInteger (textOf (treeAt left s at)))))
+        → litFront range s at ++ (sign ∷ drop 1 (textAt s at)) ≡ encode (tsLitType range (respelled (treeAt levels s at) (turnedInteger (textOf (treeAt levels s at)))))
     negated-integer range sign q =
         let t : sign ∷ drop 1 (textAt s at) ≡ turnedInteger (textAt s at) = ap (λ (x : ℕ). x ∷ drop 1 (textAt s at)) q ∙ turned-integer (textAt s at) integer in
         let l : length (sign ∷ drop 1 (textAt s at)) ≡ length (textAt s at) = omega (arith, length-drop 1 (textAt s at), integer-long) in
-        respelled-is range left s at (sign ∷ drop 1 (textAt s at)) l
-        ∙ ap (λ (x : List ℕ). encode (tsLitType range (respelled (treeAt left s at) x))) (t ∙ ap turnedInteger (sym (text-is left s at)))
+        respelled-is range levels s at (sign ∷ drop 1 (textAt s at)) l
+        ∙ ap (λ (x : List ℕ). encode (tsLitType range (respelled (treeAt levels s at) x))) (t ∙ ap turnedInteger (sym (text-is levels s at)))
 
 -- ---- the literal that a head says
 
-module _ (left : ℕ) (s : List ℕ) (at : ℕ) (h : Fields.Head) (r : h ≡ fieldsAt s at) where
+module _ (levels : ℕ) (s : List ℕ) (at : ℕ) (h : Fields.Head) (r : h ≡ fieldsAt s at) where
   pub marked : (m : ℕ) → h .mark ≡ m → markAt s at ≡ m
   marked m e = sym (ap (λ (h : Fields.Head). h .mark) r) ∙ e
 
-  pub literal-is : (m : ℕ) → h .mark ≡ m → literalBy (litKind m) at (treeAt left s at) ≡ literalOf at (treeAt left s at)
-  literal-is m e = ap (λ (k : ℕ). literalBy (litKind k) at (treeAt left s at)) (sym (mark-is left s at ∙ marked m e))
+  pub literal-is : (m : ℕ) → h .mark ≡ m → literalBy (litKind m) at (treeAt levels s at) ≡ literalOf at (treeAt levels s at)
+  literal-is m e = ap (λ (k : ℕ). literalBy (litKind k) at (treeAt levels s at)) (sym (mark-is levels s at ∙ marked m e))
 
-  pub boolean-is : {b : Bool} → b ≡ hasFlag 1 (h .flags) → h .mark ≡ mark "Bl" → Boolean b ≡ literalOf at (treeAt left s at)
+  pub boolean-is : {b : Bool} → b ≡ hasFlag 1 (h .flags) → h .mark ≡ mark "Bl" → Boolean b ≡ literalOf at (treeAt levels s at)
   unfolding litKind literalBy
-  boolean-is q e = ap Boolean q ∙ ap (λ (f : ℕ). Boolean (hasFlag 1 f)) (ap (λ (h : Fields.Head). h .flags) r ∙ sym (flags-is left s at)) ∙ literal-is (mark "Bl") e
+  boolean-is q e = ap Boolean q ∙ ap (λ (f : ℕ). Boolean (hasFlag 1 f)) (ap (λ (h : Fields.Head). h .flags) r ∙ sym (flags-is levels s at)) ∙ literal-is (mark "Bl") e
 
   pub no-literal : (h .mark ≡ mark "Ss" → ⊥) → (h .mark ≡ mark "Bl" → ⊥) → (h .mark ≡ mark "Nl" → ⊥) → (h .mark ≡ mark "Nu" → ⊥) → (h .mark ≡ mark "Bi" → ⊥) → (h .mark ≡ mark "Re" → ⊥)
-      → JsxText ≡ literalOf at (treeAt left s at)
+      → JsxText ≡ literalOf at (treeAt levels s at)
   unfolding litKind literalBy
   no-literal n1 n2 n3 n4 n5 n6 = simp (ne-eqb _ _ n1, ne-eqb _ _ n2, ne-eqb _ _ n3, ne-eqb _ _ n4, ne-eqb _ _ n5, ne-eqb _ _ n6) at (literal-is (h .mark) refl)

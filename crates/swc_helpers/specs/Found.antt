@@ -1,4 +1,4 @@
--- Answers: what was found, a type that may be missing, the tests that the code makes. Assumes nothing: these are definitions.
+-- Answers: what was found, a type that may be missing, the tests that the code makes.
 use mathlib.Core.Path.{_≡_}
 use mathlib.Core.List.{List, []}
 use mathlib.Core.Bool.{Bool, true, false, _&&_, _||_}

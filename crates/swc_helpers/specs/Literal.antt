@@ -1,4 +1,4 @@
--- A literal of the tree as a value of the code, the bits of a number and its sign. Assumes nothing: these are definitions.
+-- A literal of the tree as a value of the code, the bits of a number and its sign.
 use Prim.Native.Nat.{ℕ, _+_, _*_, _/_, _%_}
 use mathlib.Core.List.{List, [], _∷_, _++_}
 use mathlib.Core.Bool.{cond}

@@ -1,4 +1,4 @@
--- Records that are made: keywords, and the fronts of records that wrap a type which is typed later. Assumes nothing: these are definitions.
+-- Records that are made: keywords, and the fronts of records that wrap a type which is typed later.
 use mathlib.Core.List.{List, [], _++_}
 use Prim.Native.Nat.{ℕ}
 use Prim.Native.String.{String}

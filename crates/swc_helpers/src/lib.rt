@@ -92,18 +92,18 @@ pub fn type_ref(range: Range, name: &[u8], out: &mut [u8], p: usize) -> usize
 pub fn reference_to(
     tree: &[u8],
     at: usize,
-    left: usize,
+    levels: usize,
     range: Range,
     out: &mut [u8],
     p: usize,
 ) -> usize
-    requires { ⌜ AcceptedAt left (now tree) at ⌝ }
+    requires { ⌜ AcceptedAt levels (now tree) at ⌝ }
     ensures { λ r. ⌜
-        Put (now (out .entry)) (now (out .exit)) p (encode (referenceTo (span range) (treeAt left (now (tree .entry)) at))) r
+        Put (now (out .entry)) (now (out .exit)) p (encode (referenceTo (span range) (treeAt levels (now (tree .entry)) at))) r
         ⌝ }
 {
     let q = put_made_front(RF, 0, range, 2, out, p);
-    let r = records::put_record(tree, at, left, out, q);
+    let r = records::put_record(tree, at, levels, out, q);
     put_absent(out, r)
 }
 
@@ -111,16 +111,16 @@ pub fn reference_to(
 pub fn ts_lit_type(
     tree: &[u8],
     at: usize,
-    left: usize,
+    levels: usize,
     range: Range,
     out: &mut [u8],
     p: usize,
 ) -> usize
-    requires { ⌜ AcceptedAt left (now tree) at ⌝ }
-    ensures { λ r. ⌜ Put (now (out .entry)) (now (out .exit)) p (encode (tsLitType (span range) (treeAt left (now (tree .entry)) at))) r ⌝ }
+    requires { ⌜ AcceptedAt levels (now tree) at ⌝ }
+    ensures { λ r. ⌜ Put (now (out .entry)) (now (out .exit)) p (encode (tsLitType (span range) (treeAt levels (now (tree .entry)) at))) r ⌝ }
 {
     let q = put_made_front(TL, 0, range, 1, out, p);
-    records::put_record(tree, at, left, out, q)
+    records::put_record(tree, at, levels, out, q)
 }
 
 // `regex_type`.
@@ -149,16 +149,16 @@ pub fn ts_rest_type(range: Range, out: &mut [u8], p: usize) -> usize
 pub fn ts_type_query(
     tree: &[u8],
     at: usize,
-    left: usize,
+    levels: usize,
     range: Range,
     out: &mut [u8],
     p: usize,
 ) -> usize
-    requires { ⌜ AcceptedAt left (now tree) at ⌝ }
-    ensures { λ r. ⌜ Put (now (out .entry)) (now (out .exit)) p (encode (tsTypeQuery (span range) (treeAt left (now (tree .entry)) at))) r ⌝ }
+    requires { ⌜ AcceptedAt levels (now tree) at ⌝ }
+    ensures { λ r. ⌜ Put (now (out .entry)) (now (out .exit)) p (encode (tsTypeQuery (span range) (treeAt levels (now (tree .entry)) at))) r ⌝ }
 {
     let q = put_made_front(TF, 0, range, 1, out, p);
-    records::put_record(tree, at, left, out, q)
+    records::put_record(tree, at, levels, out, q)
 }
 
 // What may be found: an offset in the tree.
@@ -168,18 +168,18 @@ pub enum Found {
 }
 
 // The callee of `object_freeze_call_arg`: `Object.freeze`, where `Object` is the global object.
-fn is_object_freeze(tree: &[u8], at: usize, left: usize, unresolved: u32) -> bool
-    requires { ⌜ AcceptedAt left (now tree) at ⌝ }
-    ensures { λ r. ⌜ r ≡ isObjectFreeze unresolved (treeAt left (now (tree .entry)) at) ⌝ }
+fn is_object_freeze(tree: &[u8], at: usize, levels: usize, unresolved: u32) -> bool
+    requires { ⌜ AcceptedAt levels (now tree) at ⌝ }
+    ensures { λ r. ⌜ r ≡ isObjectFreeze unresolved (treeAt levels (now (tree .entry)) at) ⌝ }
 {
     if records::mark_at(tree, at) != MB {
         return false;
     }
     let obj = records::body_at(tree, at);
-    if !records::text::is_global(tree, obj, left - 1, unresolved, b"Object") {
+    if !records::text::is_global(tree, obj, levels - 1, unresolved, b"Object") {
         return false;
     }
-    let prop = records::record_end(tree, obj, left - 1);
+    let prop = records::record_end(tree, obj, levels - 1);
     if records::mark_at(tree, prop) != KI {
         return false;
     }
@@ -187,21 +187,21 @@ fn is_object_freeze(tree: &[u8], at: usize, left: usize, unresolved: u32) -> boo
 }
 
 // `object_freeze_call_arg`: the argument of a call of `Object.freeze` with one argument, which is no spread.
-pub fn object_freeze_call_arg(tree: &[u8], at: usize, left: usize, unresolved: u32) -> Found
-    requires { ⌜ AcceptedAt left (now tree) at × (markAt (now tree) at ≡ mark "Ca") ⌝ }
+pub fn object_freeze_call_arg(tree: &[u8], at: usize, levels: usize, unresolved: u32) -> Found
+    requires { ⌜ AcceptedAt levels (now tree) at × (markAt (now tree) at ≡ mark "Ca") ⌝ }
     ensures { λ r. ⌜
-        r ≡ foundIf (objectFreezeCallArg unresolved (kidsOf (treeAt left (now (tree .entry)) at))) (childAt left (now (tree .entry)) at 1)
+        r ≡ foundIf (objectFreezeCallArg unresolved (kidsOf (treeAt levels (now (tree .entry)) at))) (childAt levels (now (tree .entry)) at 1)
         ⌝ }
 {
     let callee = records::body_at(tree, at);
-    if !is_object_freeze(tree, callee, left - 1, unresolved) {
+    if !is_object_freeze(tree, callee, levels - 1, unresolved) {
         return Found::Nothing;
     }
     let count = records::count_at(tree, at);
     if count < 2 {
         return Found::Nothing;
     }
-    let arg = records::record_end(tree, callee, left - 1);
+    let arg = records::record_end(tree, callee, levels - 1);
     match records::mark_at(tree, arg) {
         OP | SP => return Found::Nothing,
         _ => {}
@@ -209,7 +209,7 @@ pub fn object_freeze_call_arg(tree: &[u8], at: usize, left: usize, unresolved: u
     if count == 2 {
         return Found::At(arg);
     }
-    let next = records::record_end(tree, arg, left - 1);
+    let next = records::record_end(tree, arg, levels - 1);
     if records::mark_at(tree, next) == OP {
         return Found::At(arg);
     }
@@ -223,9 +223,9 @@ pub enum DeclMutabilityKind {
 }
 
 // `tpl.exprs.is_empty()`: whether the Te at `at` has only quasis.
-fn no_exprs(tree: &[u8], at: usize, left: usize) -> bool
-    requires { ⌜ AcceptedAt left (now tree) at ⌝ }
-    ensures { λ r. ⌜ r ≡ noExprs (kidsOf (treeAt left (now (tree .entry)) at)) ⌝ }
+fn no_exprs(tree: &[u8], at: usize, levels: usize) -> bool
+    requires { ⌜ AcceptedAt levels (now tree) at ⌝ }
+    ensures { λ r. ⌜ r ≡ noExprs (kidsOf (treeAt levels (now (tree .entry)) at)) ⌝ }
 {
     let mut n = records::count_at(tree, at);
     let mut kid = records::body_at(tree, at);
@@ -233,7 +233,7 @@ fn no_exprs(tree: &[u8], at: usize, left: usize) -> bool
         if !is_quasi(records::mark_at(tree, kid)) {
             return false;
         }
-        kid = records::record_end(tree, kid, left - 1);
+        kid = records::record_end(tree, kid, levels - 1);
         n -= 1;
     }
     true
@@ -250,9 +250,9 @@ fn is_quasi(mark: u16) -> bool
 }
 
 // `tpl.quasis.first()` where it is cooked.
-fn first_cooked(tree: &[u8], at: usize, left: usize) -> Found
-    requires { ⌜ AcceptedAt left (now tree) at ⌝ }
-    ensures { λ r. ⌜ r ≡ foundIf (firstCooked (kidsOf (treeAt left (now (tree .entry)) at))) (childAt left (now (tree .entry)) at 0) ⌝ }
+fn first_cooked(tree: &[u8], at: usize, levels: usize) -> Found
+    requires { ⌜ AcceptedAt levels (now tree) at ⌝ }
+    ensures { λ r. ⌜ r ≡ foundIf (firstCooked (kidsOf (treeAt levels (now (tree .entry)) at))) (childAt levels (now (tree .entry)) at 0) ⌝ }
 {
     if records::count_at(tree, at) == 0 {
         return Found::Nothing;
@@ -272,24 +272,24 @@ fn first_cooked(tree: &[u8], at: usize, left: usize) -> Found
 pub fn tpl_to_ts_type(
     tree: &[u8],
     at: usize,
-    left: usize,
+    levels: usize,
     kind: DeclMutabilityKind,
     out: &mut [u8],
     p: usize,
 ) -> usize
-    requires { ⌜ AcceptedAt left (now tree) at ⌝ }
+    requires { ⌜ AcceptedAt levels (now tree) at ⌝ }
     ensures { λ r. ⌜
         Put (now (out .entry)) (now (out .exit)) p
-        (encode (tplToTsType (kidsOf (treeAt left (now (tree .entry)) at)) (isConst kind))) r
+        (encode (tplToTsType (kidsOf (treeAt levels (now (tree .entry)) at)) (isConst kind))) r
         ⌝ }
 {
     if let DeclMutabilityKind::Mutable = kind {
         return ts_keyword_type(DUMMY_SP, TsKeywordTypeKind::TsStringKeyword, out, p);
     }
-    if !no_exprs(tree, at, left) {
+    if !no_exprs(tree, at, levels) {
         return ts_keyword_type(DUMMY_SP, TsKeywordTypeKind::TsStringKeyword, out, p);
     }
-    let Found::At(quasi) = first_cooked(tree, at, left) else {
+    let Found::At(quasi) = first_cooked(tree, at, levels) else {
         return ts_keyword_type(DUMMY_SP, TsKeywordTypeKind::TsStringKeyword, out, p);
     };
     let q = put_made_front(TL, 0, DUMMY_SP, 1, out, p);
@@ -313,25 +313,25 @@ pub fn some_keyword(range: Range, kind: TsKeywordTypeKind, out: &mut [u8], p: us
 pub fn maybe_lit_to_ts_type(
     tree: &[u8],
     at: usize,
-    left: usize,
+    levels: usize,
     kind: DeclMutabilityKind,
     out: &mut [u8],
     p: usize,
 ) -> MaybeType
-    requires { ⌜ AcceptedAt left (now tree) at ⌝ }
+    requires { ⌜ AcceptedAt levels (now tree) at ⌝ }
     ensures { λ r. ⌜
         PutMaybe (now (out .entry)) (now (out .exit)) p
-        (maybeLitToTsType (litKind (markOf (treeAt left (now (tree .entry)) at))) (treeAt left (now (tree .entry)) at) (isConst kind)) r
+        (maybeLitToTsType (litKind (markOf (treeAt levels (now (tree .entry)) at))) (treeAt levels (now (tree .entry)) at) (isConst kind)) r
         ⌝ }
 {
-    let lit = literals::literal_at(tree, at, left);
+    let lit = literals::literal_at(tree, at, levels);
     match kind {
         DeclMutabilityKind::Const => match lit {
-            Literal::Str(_) => MaybeType::Typed(ts_lit_type(tree, at, left, DUMMY_SP, out, p)),
-            Literal::Bool(_) => MaybeType::Typed(ts_lit_type(tree, at, left, DUMMY_SP, out, p)),
+            Literal::Str(_) => MaybeType::Typed(ts_lit_type(tree, at, levels, DUMMY_SP, out, p)),
+            Literal::Bool(_) => MaybeType::Typed(ts_lit_type(tree, at, levels, DUMMY_SP, out, p)),
             Literal::Null => some_keyword(DUMMY_SP, TsKeywordTypeKind::TsNullKeyword, out, p),
-            Literal::Num(_) => MaybeType::Typed(ts_lit_type(tree, at, left, DUMMY_SP, out, p)),
-            Literal::BigInt(_) => MaybeType::Typed(ts_lit_type(tree, at, left, DUMMY_SP, out, p)),
+            Literal::Num(_) => MaybeType::Typed(ts_lit_type(tree, at, levels, DUMMY_SP, out, p)),
+            Literal::BigInt(_) => MaybeType::Typed(ts_lit_type(tree, at, levels, DUMMY_SP, out, p)),
             Literal::Regex => MaybeType::Typed(regex_type(DUMMY_SP, out, p)),
             Literal::JsxText => MaybeType::Untyped,
         },
@@ -356,21 +356,21 @@ pub fn maybe_lit_to_ts_type(
 pub fn minus_lit_to_ts_type(
     tree: &[u8],
     at: usize,
-    left: usize,
+    levels: usize,
     kind: DeclMutabilityKind,
     out: &mut [u8],
     p: usize,
 ) -> MaybeType
-    requires { ⌜ AcceptedAt left (now tree) at ⌝ }
+    requires { ⌜ AcceptedAt levels (now tree) at ⌝ }
     ensures { λ r. ⌜
         PutMaybe (now (out .entry)) (now (out .exit)) p
-        (minusBy (litKind (markOf (treeAt left (now (tree .entry)) at))) (treeAt left (now (tree .entry)) at) (isConst kind)) r
+        (minusBy (litKind (markOf (treeAt levels (now (tree .entry)) at))) (treeAt levels (now (tree .entry)) at) (isConst kind)) r
         ⌝ }
 {
-    match literals::literal_at(tree, at, left) {
+    match literals::literal_at(tree, at, levels) {
         Literal::Num(_) => match kind {
             DeclMutabilityKind::Const => {
-                MaybeType::Typed(literals::negated_number(tree, at, left, DUMMY_SP, out, p))
+                MaybeType::Typed(literals::negated_number(tree, at, levels, DUMMY_SP, out, p))
             }
             DeclMutabilityKind::Mutable => {
                 some_keyword(DUMMY_SP, TsKeywordTypeKind::TsNumberKeyword, out, p)
@@ -378,7 +378,7 @@ pub fn minus_lit_to_ts_type(
         },
         Literal::BigInt(_) => match kind {
             DeclMutabilityKind::Const => {
-                MaybeType::Typed(literals::negated_bigint(tree, at, left, DUMMY_SP, out, p))
+                MaybeType::Typed(literals::negated_bigint(tree, at, levels, DUMMY_SP, out, p))
             }
             DeclMutabilityKind::Mutable => {
                 some_keyword(DUMMY_SP, TsKeywordTypeKind::TsBigIntKeyword, out, p)

@@ -92,17 +92,17 @@ fn bits_at(tree: &[u8], at: usize) -> u64
 }
 
 // `num.value` of the Nu at `at`.
-pub fn number_at(tree: &[u8], at: usize, left: usize) -> f64
-    requires { ⌜ AcceptedAt left (now tree) at × (markAt (now tree) at ≡ mark "Nu") ⌝ }
-    ensures { λ r. ⌜ r ≡ numberOf (textOf (treeAt left (now (tree .entry)) at)) ⌝ }
+pub fn number_at(tree: &[u8], at: usize, levels: usize) -> f64
+    requires { ⌜ AcceptedAt levels (now tree) at × (markAt (now tree) at ≡ mark "Nu") ⌝ }
+    ensures { λ r. ⌜ r ≡ numberOf (textOf (treeAt levels (now (tree .entry)) at)) ⌝ }
 {
     number_of(bits_at(tree, at))
 }
 
 // The literal at `at`, by its mark; what is no literal is told as JSX text, which has no type either.
-pub fn literal_at(tree: &[u8], at: usize, left: usize) -> Literal
-    requires { ⌜ AcceptedAt left (now tree) at ⌝ }
-    ensures { λ r. ⌜ r ≡ literalOf at (treeAt left (now (tree .entry)) at) ⌝ }
+pub fn literal_at(tree: &[u8], at: usize, levels: usize) -> Literal
+    requires { ⌜ AcceptedAt levels (now tree) at ⌝ }
+    ensures { λ r. ⌜ r ≡ literalOf at (treeAt levels (now (tree .entry)) at) ⌝ }
 {
     let head = records::read_head(tree, at);
     let mark = head.mark;
@@ -111,7 +111,7 @@ pub fn literal_at(tree: &[u8], at: usize, left: usize) -> Literal
         SS => Literal::Str(at),
         BL => Literal::Bool(has_flag(flags, TRUE)),
         NL => Literal::Null,
-        NU => Literal::Num(number_at(tree, at, left)),
+        NU => Literal::Num(number_at(tree, at, levels)),
         BI => Literal::BigInt(at),
         RE => Literal::Regex,
         _ => Literal::JsxText,
@@ -143,15 +143,15 @@ fn put_respelled(tree: &[u8], at: usize, range: Range, out: &mut [u8], p: usize)
 pub fn negated_number(
     tree: &[u8],
     at: usize,
-    left: usize,
+    levels: usize,
     range: Range,
     out: &mut [u8],
     p: usize,
 ) -> usize
-    requires { ⌜ AcceptedAt left (now tree) at × (markAt (now tree) at ≡ mark "Nu") ⌝ }
-    ensures { λ r. ⌜ Put (now (out .entry)) (now (out .exit)) p (encode (tsLitType (span range) (respelled (treeAt left (now (tree .entry)) at) (turned (textOf (treeAt left (now (tree .entry)) at)))))) r ⌝ }
+    requires { ⌜ AcceptedAt levels (now tree) at × (markAt (now tree) at ≡ mark "Nu") ⌝ }
+    ensures { λ r. ⌜ Put (now (out .entry)) (now (out .exit)) p (encode (tsLitType (span range) (respelled (treeAt levels (now (tree .entry)) at) (turned (textOf (treeAt levels (now (tree .entry)) at)))))) r ⌝ }
 {
-    let value = number_at(tree, at, left);
+    let value = number_at(tree, at, levels);
     let bits = negated(value, bits_at(tree, at));
     let text = bytes_of(bits);
     let q = put_respelled(tree, at, range, out, p);
@@ -175,13 +175,13 @@ fn turned_sign(sign: u8, digit: u8) -> u8
 pub fn negated_bigint(
     tree: &[u8],
     at: usize,
-    left: usize,
+    levels: usize,
     range: Range,
     out: &mut [u8],
     p: usize,
 ) -> usize
-    requires { ⌜ AcceptedAt left (now tree) at × (markAt (now tree) at ≡ mark "Bi") ⌝ }
-    ensures { λ r. ⌜ Put (now (out .entry)) (now (out .exit)) p (encode (tsLitType (span range) (respelled (treeAt left (now (tree .entry)) at) (turnedInteger (textOf (treeAt left (now (tree .entry)) at)))))) r ⌝ }
+    requires { ⌜ AcceptedAt levels (now tree) at × (markAt (now tree) at ≡ mark "Bi") ⌝ }
+    ensures { λ r. ⌜ Put (now (out .entry)) (now (out .exit)) p (encode (tsLitType (span range) (respelled (treeAt levels (now (tree .entry)) at) (turnedInteger (textOf (treeAt levels (now (tree .entry)) at)))))) r ⌝ }
 {
     let text = records::text_at(tree, at);
     let sign = [turned_sign(text[0], text[1])];

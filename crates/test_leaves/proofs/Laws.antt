@@ -1,4 +1,4 @@
--- The records that the program hands on are accepted. Assumes nothing.
+-- The records that the program hands on are accepted.
 use mathlib.Core.Path.{_≡_, ap}
 use mathlib.Core.List.{List}
 use mathlib.Core.Bool.{true}
@@ -18,12 +18,12 @@ use Rattle.swc_helpers.proofs.Answers.{is-found}
 use Rattle.swc_helpers.specs.declared.Found.the-variants.{At}
 
 -- an accepted record lies in the tree, as `record_at` and `record_end` ask
-pub lies : {left : ℕ} {s : List ℕ} {at : ℕ} → AcceptedAt left s at → Whole left s at
-lies {left} {s} {at} a = accepted-whole left s at (a .slots) (a .past) (a .checked)
+pub lies : {levels : ℕ} {s : List ℕ} {at : ℕ} → AcceptedAt levels s at → Whole levels s at
+lies {levels} {s} {at} a = accepted-whole levels s at (a .slots) (a .past) (a .checked)
 
 -- there is a level for it
-pub level : {left : ℕ} {s : List ℕ} {at : ℕ} → AcceptedAt left s at → 1 ≤ left
-level {left} {s} {at} a = omega (arith, some-left left s at a)
+pub level : {levels : ℕ} {s : List ℕ} {at : ℕ} → AcceptedAt levels s at → 1 ≤ levels
+level {levels} {s} {at} a = omega (arith, some-left levels s at a)
 
 -- ---- the argument of `Object.freeze`
 
@@ -34,14 +34,14 @@ two-at-least unresolved (cons c nil) e = absurd (let z : _≡_ {A = ℕ} 0 1 = c
 two-at-least unresolved (cons c (cons r rs)) e = omega arith
 
 -- where one was found, it is the second child
-pub argument : (left : ℕ) (s : List ℕ) (at unresolved x : ℕ) → AcceptedAt left s at →
-    At x ≡ foundIf (objectFreezeCallArg unresolved (kidsOf (treeAt left s at))) (childAt left s at 1) → AcceptedAt (left - 1) s x
-argument left s at unresolved x a f =
-    let found = is-found (objectFreezeCallArg unresolved (kidsOf (treeAt left s at))) x (childAt left s at 1) f in
+pub argument : (levels : ℕ) (s : List ℕ) (at unresolved x : ℕ) → AcceptedAt levels s at →
+    At x ≡ foundIf (objectFreezeCallArg unresolved (kidsOf (treeAt levels s at))) (childAt levels s at 1) → AcceptedAt (levels - 1) s x
+argument levels s at unresolved x a f =
+    let found = is-found (objectFreezeCallArg unresolved (kidsOf (treeAt levels s at))) x (childAt levels s at 1) f in
     let there : 1 < countAt s at = omega (
       arith,
-      two-at-least unresolved (kidsOf (treeAt left s at)) (found .0),
-      ap count (kids-are left s at a),
-      count-readAll (treeAt (left - 1) s) (endAt (left - 1) s) (countAt s at) (bodyAt s at),
+      two-at-least unresolved (kidsOf (treeAt levels s at)) (found .0),
+      ap count (kids-are levels s at a),
+      count-readAll (treeAt (levels - 1) s) (endAt (levels - 1) s) (countAt s at) (bodyAt s at),
     ) in
-    rw (found .1) (child left s at a 1 there)
+    rw (found .1) (child levels s at a 1 there)

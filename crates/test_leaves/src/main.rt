@@ -96,65 +96,69 @@ fn print_written(out: &[u8], end: usize) {
 }
 
 // The record at `at`, as the part of the tree that it fills.
-fn print_record(tree: &[u8], at: usize, left: usize)
-    requires { ⌜ AcceptedAt left (now tree) at ⌝ }
+fn print_record(tree: &[u8], at: usize, levels: usize)
+    requires { ⌜ AcceptedAt levels (now tree) at ⌝ }
 {
-    print_bytes(records::record_at(tree, at, left));
+    print_bytes(records::record_at(tree, at, levels));
 }
 
 // ---- Types
 
-fn show_type(tree: &[u8], at: usize, left: usize)
-    requires { ⌜ AcceptedAt left (now tree) at ⌝ }
+fn show_type(tree: &[u8], at: usize, levels: usize)
+    requires { ⌜ AcceptedAt levels (now tree) at ⌝ }
 {
-    print_bool(at, b"is_array_type", prescan::is_array_type(tree, at, left));
+    print_bool(
+        at,
+        b"is_array_type",
+        prescan::is_array_type(tree, at, levels),
+    );
     let mut out = io::buffer();
     let end = swc_helpers::ts_readonly(DUMMY_SP, &mut out, 0);
     print_label(at, b"ts_readonly");
     print_hex(front(&out, end));
-    print_record(tree, at, left);
+    print_record(tree, at, levels);
 }
 
 // ---- Expressions
 
-fn show_expression(tree: &[u8], at: usize, left: usize)
-    requires { ⌜ AcceptedAt left (now tree) at ⌝ }
+fn show_expression(tree: &[u8], at: usize, levels: usize)
+    requires { ⌜ AcceptedAt levels (now tree) at ⌝ }
 {
     print_bool(
         at,
         b"is_array_lit_init",
-        prescan::is_array_lit_init(tree, at, left),
+        prescan::is_array_lit_init(tree, at, levels),
     );
-    let symbol = names::is_well_known_symbol_expr(tree, at, left, UNRESOLVED);
+    let symbol = names::is_well_known_symbol_expr(tree, at, levels, UNRESOLVED);
     print_bool(at, b"is_well_known_symbol_expr", symbol);
 }
 
-fn show_literal_as(tree: &[u8], at: usize, left: usize, kind: DeclMutabilityKind)
-    requires { ⌜ AcceptedAt left (now tree) at ⌝ }
+fn show_literal_as(tree: &[u8], at: usize, levels: usize, kind: DeclMutabilityKind)
+    requires { ⌜ AcceptedAt levels (now tree) at ⌝ }
 {
     let mut out = io::buffer();
-    let found = swc_helpers::maybe_lit_to_ts_type(tree, at, left, kind, &mut out, 0);
+    let found = swc_helpers::maybe_lit_to_ts_type(tree, at, levels, kind, &mut out, 0);
     match found {
         MaybeType::Typed(end) => print_written(&out, end),
         MaybeType::Untyped => print(b"none\n"),
     }
 }
 
-fn show_literal(tree: &[u8], at: usize, left: usize)
-    requires { ⌜ AcceptedAt left (now tree) at ⌝ }
+fn show_literal(tree: &[u8], at: usize, levels: usize)
+    requires { ⌜ AcceptedAt levels (now tree) at ⌝ }
 {
     print_label(at, b"maybe_lit_to_ts_type const");
-    show_literal_as(tree, at, left, DeclMutabilityKind::Const);
+    show_literal_as(tree, at, levels, DeclMutabilityKind::Const);
     print_label(at, b"maybe_lit_to_ts_type mutable");
-    show_literal_as(tree, at, left, DeclMutabilityKind::Mutable);
+    show_literal_as(tree, at, levels, DeclMutabilityKind::Mutable);
 }
 
 // The record that stands as the key, or over which a computed key is made.
-fn show_key(tree: &[u8], at: usize, left: usize)
-    requires { ⌜ AcceptedAt left (now tree) at ⌝ }
+fn show_key(tree: &[u8], at: usize, levels: usize)
+    requires { ⌜ AcceptedAt levels (now tree) at ⌝ }
 {
     print_label(at, b"valid_prop_name");
-    let key = names::valid_prop_name(tree, at, left, UNRESOLVED);
+    let key = names::valid_prop_name(tree, at, levels, UNRESOLVED);
     match key {
         Key::Stands(record, below) => {
             print(b"stands ");
@@ -169,186 +173,186 @@ fn show_key(tree: &[u8], at: usize, left: usize)
 }
 
 // The literal under a minus.
-fn show_minus_as(tree: &[u8], at: usize, left: usize, kind: DeclMutabilityKind)
-    requires { ⌜ AcceptedAt left (now tree) at ⌝ }
+fn show_minus_as(tree: &[u8], at: usize, levels: usize, kind: DeclMutabilityKind)
+    requires { ⌜ AcceptedAt levels (now tree) at ⌝ }
 {
     let mut out = io::buffer();
-    let found = swc_helpers::minus_lit_to_ts_type(tree, at, left, kind, &mut out, 0);
+    let found = swc_helpers::minus_lit_to_ts_type(tree, at, levels, kind, &mut out, 0);
     match found {
         MaybeType::Typed(end) => print_written(&out, end),
         MaybeType::Untyped => print(b"none\n"),
     }
 }
 
-fn show_minus(tree: &[u8], at: usize, left: usize)
-    requires { ⌜ AcceptedAt left (now tree) at ⌝ }
+fn show_minus(tree: &[u8], at: usize, levels: usize)
+    requires { ⌜ AcceptedAt levels (now tree) at ⌝ }
 {
     print_label(at, b"minus_lit_to_ts_type const");
-    show_minus_as(tree, at, left, DeclMutabilityKind::Const);
+    show_minus_as(tree, at, levels, DeclMutabilityKind::Const);
     print_label(at, b"minus_lit_to_ts_type mutable");
-    show_minus_as(tree, at, left, DeclMutabilityKind::Mutable);
+    show_minus_as(tree, at, levels, DeclMutabilityKind::Mutable);
 }
 
-fn show_template_as(tree: &[u8], at: usize, left: usize, kind: DeclMutabilityKind)
-    requires { ⌜ AcceptedAt left (now tree) at ⌝ }
+fn show_template_as(tree: &[u8], at: usize, levels: usize, kind: DeclMutabilityKind)
+    requires { ⌜ AcceptedAt levels (now tree) at ⌝ }
 {
     let mut out = io::buffer();
-    let end = swc_helpers::tpl_to_ts_type(tree, at, left, kind, &mut out, 0);
+    let end = swc_helpers::tpl_to_ts_type(tree, at, levels, kind, &mut out, 0);
     print_written(&out, end);
 }
 
-fn show_template(tree: &[u8], at: usize, left: usize)
-    requires { ⌜ AcceptedAt left (now tree) at ⌝ }
+fn show_template(tree: &[u8], at: usize, levels: usize)
+    requires { ⌜ AcceptedAt levels (now tree) at ⌝ }
 {
     print_label(at, b"tpl_to_ts_type const");
-    show_template_as(tree, at, left, DeclMutabilityKind::Const);
+    show_template_as(tree, at, levels, DeclMutabilityKind::Const);
     print_label(at, b"tpl_to_ts_type mutable");
-    show_template_as(tree, at, left, DeclMutabilityKind::Mutable);
+    show_template_as(tree, at, levels, DeclMutabilityKind::Mutable);
 }
 
-fn show_call(tree: &[u8], at: usize, left: usize)
-    requires { ⌜ AcceptedAt left (now tree) at × (markAt (now tree) at ≡ mark "Ca") ⌝ }
+fn show_call(tree: &[u8], at: usize, levels: usize)
+    requires { ⌜ AcceptedAt levels (now tree) at × (markAt (now tree) at ≡ mark "Ca") ⌝ }
 {
     print_label(at, b"object_freeze_call_arg");
-    let found = swc_helpers::object_freeze_call_arg(tree, at, left, UNRESOLVED);
+    let found = swc_helpers::object_freeze_call_arg(tree, at, levels, UNRESOLVED);
     match found {
-        Found::At(arg) => print_record(tree, arg, left - 1),
+        Found::At(arg) => print_record(tree, arg, levels - 1),
         Found::Nothing => print(b"none\n"),
     }
 }
 
 // ---- Identifiers: the three questions, and the types that are made of a name
 
-fn show_questions(tree: &[u8], at: usize, left: usize, scope: Scope)
-    requires { ⌜ AcceptedAt left (now tree) at ⌝ }
+fn show_questions(tree: &[u8], at: usize, levels: usize, scope: Scope)
+    requires { ⌜ AcceptedAt levels (now tree) at ⌝ }
     requires { ⌜ AcceptedAt deepest (now tree) 0 ⌝ }
     requires { ⌜ Skips (now tree) scope ⌝ }
 {
-    let safe = prescan::asked(tree, at, left, scope, Question::TypeofSafe);
+    let safe = prescan::asked(tree, at, levels, scope, Question::TypeofSafe);
     print_bool(at, b"typeof_safe", safe);
-    let class = prescan::asked(tree, at, left, scope, Question::NonGenericClass);
+    let class = prescan::asked(tree, at, levels, scope, Question::NonGenericClass);
     print_bool(at, b"non_generic_class", class);
-    let array = prescan::asked(tree, at, left, scope, Question::ArrayTyped);
+    let array = prescan::asked(tree, at, levels, scope, Question::ArrayTyped);
     print_bool(at, b"array_typed", array);
 }
 
-fn symbol_of(tree: &[u8], at: usize, left: usize) -> &[u8]
-    requires { ⌜ AcceptedAt left (now tree) at × (markAt (now tree) at ≡ mark "Id") ⌝ }
+fn symbol_of(tree: &[u8], at: usize, levels: usize) -> &[u8]
+    requires { ⌜ AcceptedAt levels (now tree) at × (markAt (now tree) at ≡ mark "Id") ⌝ }
 {
     records::text::symbol_at(tree, at)
 }
 
-fn show_type_ref(tree: &[u8], at: usize, left: usize)
-    requires { ⌜ AcceptedAt left (now tree) at × (markAt (now tree) at ≡ mark "Id") ⌝ }
+fn show_type_ref(tree: &[u8], at: usize, levels: usize)
+    requires { ⌜ AcceptedAt levels (now tree) at × (markAt (now tree) at ≡ mark "Id") ⌝ }
 {
     let mut out = io::buffer();
-    let end = swc_helpers::type_ref(DUMMY_SP, symbol_of(tree, at, left), &mut out, 0);
+    let end = swc_helpers::type_ref(DUMMY_SP, symbol_of(tree, at, levels), &mut out, 0);
     print_label(at, b"type_ref");
     print_written(&out, end);
 }
 
-fn show_query(tree: &[u8], at: usize, left: usize)
-    requires { ⌜ AcceptedAt left (now tree) at ⌝ }
+fn show_query(tree: &[u8], at: usize, levels: usize)
+    requires { ⌜ AcceptedAt levels (now tree) at ⌝ }
 {
     let mut out = io::buffer();
-    let end = swc_helpers::ts_type_query(tree, at, left, DUMMY_SP, &mut out, 0);
+    let end = swc_helpers::ts_type_query(tree, at, levels, DUMMY_SP, &mut out, 0);
     print_label(at, b"ts_type_query");
     print_written(&out, end);
 }
 
-fn show_reference(tree: &[u8], at: usize, left: usize)
-    requires { ⌜ AcceptedAt left (now tree) at ⌝ }
+fn show_reference(tree: &[u8], at: usize, levels: usize)
+    requires { ⌜ AcceptedAt levels (now tree) at ⌝ }
 {
     let mut out = io::buffer();
-    let end = swc_helpers::reference_to(tree, at, left, DUMMY_SP, &mut out, 0);
+    let end = swc_helpers::reference_to(tree, at, levels, DUMMY_SP, &mut out, 0);
     print_label(at, b"reference_to");
     print_written(&out, end);
 }
 
 // The tuple's element that a spread of the name becomes.
-fn show_rest(tree: &[u8], at: usize, left: usize)
-    requires { ⌜ AcceptedAt left (now tree) at ⌝ }
+fn show_rest(tree: &[u8], at: usize, levels: usize)
+    requires { ⌜ AcceptedAt levels (now tree) at ⌝ }
 {
     let mut out = io::buffer();
     let p = swc_helpers::ts_tuple_element(DUMMY_SP, &mut out, 0);
     let q = swc_helpers::ts_rest_type(DUMMY_SP, &mut out, p);
-    let end = swc_helpers::ts_type_query(tree, at, left, DUMMY_SP, &mut out, q);
+    let end = swc_helpers::ts_type_query(tree, at, levels, DUMMY_SP, &mut out, q);
     print_label(at, b"ts_rest_type");
     print_written(&out, end);
 }
 
-fn show_identifier(tree: &[u8], at: usize, left: usize, scope: Scope)
-    requires { ⌜ AcceptedAt left (now tree) at × (markAt (now tree) at ≡ mark "Id") ⌝ }
+fn show_identifier(tree: &[u8], at: usize, levels: usize, scope: Scope)
+    requires { ⌜ AcceptedAt levels (now tree) at × (markAt (now tree) at ≡ mark "Id") ⌝ }
     requires { ⌜ AcceptedAt deepest (now tree) 0 ⌝ }
     requires { ⌜ Skips (now tree) scope ⌝ }
 {
-    show_questions(tree, at, left, scope);
-    show_type_ref(tree, at, left);
-    show_query(tree, at, left);
-    show_reference(tree, at, left);
-    show_rest(tree, at, left);
+    show_questions(tree, at, levels, scope);
+    show_type_ref(tree, at, levels);
+    show_query(tree, at, levels);
+    show_reference(tree, at, levels);
+    show_rest(tree, at, levels);
 }
 
 // ---- Trees
 
-fn mark_of(tree: &[u8], at: usize, left: usize) -> u16
-    requires { ⌜ AcceptedAt left (now tree) at ⌝ }
+fn mark_of(tree: &[u8], at: usize, levels: usize) -> u16
+    requires { ⌜ AcceptedAt levels (now tree) at ⌝ }
     ensures { λ r. ⌜ r ≡ markAt (now (tree .entry)) at ⌝ }
 {
     records::mark_at(tree, at)
 }
 
 // The lines of the record at `at`, by its mark.
-fn show_record(tree: &[u8], at: usize, left: usize, scope: Scope)
-    requires { ⌜ AcceptedAt left (now tree) at ⌝ }
+fn show_record(tree: &[u8], at: usize, levels: usize, scope: Scope)
+    requires { ⌜ AcceptedAt levels (now tree) at ⌝ }
     requires { ⌜ AcceptedAt deepest (now tree) 0 ⌝ }
     requires { ⌜ Skips (now tree) scope ⌝ }
 {
-    match mark_of(tree, at, left) {
-        KI | KC => show_key(tree, at, left),
+    match mark_of(tree, at, levels) {
+        KI | KC => show_key(tree, at, levels),
         SS | NU | BI => {
-            show_expression(tree, at, left);
-            show_literal(tree, at, left);
-            show_minus(tree, at, left);
-            show_key(tree, at, left);
+            show_expression(tree, at, levels);
+            show_literal(tree, at, levels);
+            show_minus(tree, at, levels);
+            show_key(tree, at, levels);
         }
         BL | NL | RE | JT => {
-            show_expression(tree, at, left);
-            show_literal(tree, at, left);
-            show_minus(tree, at, left);
+            show_expression(tree, at, levels);
+            show_literal(tree, at, levels);
+            show_minus(tree, at, levels);
         }
         ID => {
-            show_expression(tree, at, left);
-            show_identifier(tree, at, left, scope);
+            show_expression(tree, at, levels);
+            show_identifier(tree, at, levels, scope);
         }
         TE => {
-            show_expression(tree, at, left);
-            show_template(tree, at, left);
+            show_expression(tree, at, levels);
+            show_template(tree, at, levels);
         }
         CA => {
-            show_expression(tree, at, left);
-            show_call(tree, at, left);
+            show_expression(tree, at, levels);
+            show_call(tree, at, levels);
         }
         AR | OB | FX | AW | MI | NE | MB | BN | OC | TC | NN | PR | AS | TS | TA | CX | OE => {
-            show_expression(tree, at, left);
+            show_expression(tree, at, levels);
         }
-        KW | TL | RF | TF | LI | AY | TU | RT | RO | FT | CT | OT => show_type(tree, at, left),
+        KW | TL | RF | TF | LI | AY | TU | RT | RO | FT | CT | OT => show_type(tree, at, levels),
         _ => {}
     }
 }
 
 // The lines of the record at `at` and of all below it.
-fn show_all(tree: &[u8], at: usize, left: usize, scope: Scope)
-    requires { ⌜ AcceptedAt left (now tree) at ⌝ }
+fn show_all(tree: &[u8], at: usize, levels: usize, scope: Scope)
+    requires { ⌜ AcceptedAt levels (now tree) at ⌝ }
     requires { ⌜ AcceptedAt deepest (now tree) 0 ⌝ }
     requires { ⌜ Skips (now tree) scope ⌝ }
 {
-    show_record(tree, at, left, scope);
+    show_record(tree, at, levels, scope);
     let mut n = records::count_at(tree, at);
     let mut kid = records::body_at(tree, at);
     while 0 < n {
-        show_all(tree, kid, left - 1, scope);
-        kid = records::record_end(tree, kid, left - 1);
+        show_all(tree, kid, levels - 1, scope);
+        kid = records::record_end(tree, kid, levels - 1);
         n -= 1;
     }
 }

@@ -7,6 +7,7 @@ use console::print_done;
 use console::print_number;
 use console::print_refusal;
 use grammar::Checked;
+use records::ENTRY_SIZE;
 use records::Head;
 use records::marks::AR;
 use records::marks::IM;
@@ -27,8 +28,6 @@ const LIST: usize = 40970;
 
 // More than the longest tree's declarations take.
 const OUTPUT: usize = 524416;
-
-const ENTRY: usize = 10;
 
 const OV: usize = 0x766f;
 
@@ -95,7 +94,7 @@ fn entries(list: &mut [u8], count: usize) {
     let mut n = count;
     while 0 < n {
         records::put2(list, p, OV);
-        p = records::advance(p, ENTRY);
+        p = records::advance(p, ENTRY_SIZE);
         n -= 1;
     }
 }

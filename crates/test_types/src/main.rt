@@ -79,38 +79,38 @@ fn show_label(at: usize, mode: Mode) {
 fn type_whole(
     tree: &[u8],
     at: usize,
-    left: usize,
+    levels: usize,
     mode: Mode,
     out: &mut [u8],
     diagnostics: &mut [u8],
 ) -> Typed
-    requires { ⌜ AcceptedAt left (now tree) at ⌝ }
+    requires { ⌜ AcceptedAt levels (now tree) at ⌝ }
     requires { ⌜ AcceptedAt deepest (now tree) 0 ⌝ }
     requires { ⌜ Skips (now tree) (mode .scope) ⌝ }
 {
-    typing::expr_to_ts_type(tree, at, left, mode, out, diagnostics, start())
+    typing::expr_to_ts_type(tree, at, levels, mode, out, diagnostics, start())
 }
 
 // The dry run: there is no room for anything.
-fn dry_run(tree: &[u8], at: usize, left: usize, mode: Mode) -> State
-    requires { ⌜ AcceptedAt left (now tree) at ⌝ }
+fn dry_run(tree: &[u8], at: usize, levels: usize, mode: Mode) -> State
+    requires { ⌜ AcceptedAt levels (now tree) at ⌝ }
     requires { ⌜ AcceptedAt deepest (now tree) 0 ⌝ }
     requires { ⌜ Skips (now tree) (mode .scope) ⌝ }
 {
     let mut out = [0u8; 0];
     let mut diagnostics = [0u8; 0];
-    let typed = type_whole(tree, at, left, mode, &mut out, &mut diagnostics);
+    let typed = type_whole(tree, at, levels, mode, &mut out, &mut diagnostics);
     show_label(at, mode);
     print(b" dry ");
     show_answer(typed)
 }
 
-fn run(tree: &[u8], at: usize, left: usize, mode: Mode, out: &mut [u8], diagnostics: &mut [u8])
-    requires { ⌜ AcceptedAt left (now tree) at ⌝ }
+fn run(tree: &[u8], at: usize, levels: usize, mode: Mode, out: &mut [u8], diagnostics: &mut [u8])
+    requires { ⌜ AcceptedAt levels (now tree) at ⌝ }
     requires { ⌜ AcceptedAt deepest (now tree) 0 ⌝ }
     requires { ⌜ Skips (now tree) (mode .scope) ⌝ }
 {
-    let typed = type_whole(tree, at, left, mode, out, diagnostics);
+    let typed = type_whole(tree, at, levels, mode, out, diagnostics);
     show_label(at, mode);
     print(b" run ");
     show_answer(typed);
@@ -121,8 +121,15 @@ fn run(tree: &[u8], at: usize, left: usize, mode: Mode, out: &mut [u8], diagnost
     print(b"\n");
 }
 
-fn show_typing(tree: &[u8], at: usize, left: usize, scope: Scope, as_const: bool, as_readonly: bool)
-    requires { ⌜ AcceptedAt left (now tree) at ⌝ }
+fn show_typing(
+    tree: &[u8],
+    at: usize,
+    levels: usize,
+    scope: Scope,
+    as_const: bool,
+    as_readonly: bool,
+)
+    requires { ⌜ AcceptedAt levels (now tree) at ⌝ }
     requires { ⌜ AcceptedAt deepest (now tree) 0 ⌝ }
     requires { ⌜ Skips (now tree) scope ⌝ }
 {
@@ -132,7 +139,7 @@ fn show_typing(tree: &[u8], at: usize, left: usize, scope: Scope, as_const: bool
         as_readonly,
         frozen: false,
     };
-    let s = dry_run(tree, at, left, mode);
+    let s = dry_run(tree, at, levels, mode);
     let p = s.p;
     let d = s.d;
     if ROOM < p {
@@ -148,7 +155,7 @@ fn show_typing(tree: &[u8], at: usize, left: usize, scope: Scope, as_const: bool
     run(
         tree,
         at,
-        left,
+        levels,
         mode,
         front_mut(&mut out, p),
         front_mut(&mut diagnostics, d),
@@ -158,27 +165,27 @@ fn show_typing(tree: &[u8], at: usize, left: usize, scope: Scope, as_const: bool
 // ---- Modules
 
 // The typings of the expression at `at`, in the four modes.
-fn show_typings(tree: &[u8], at: usize, left: usize, scope: Scope)
-    requires { ⌜ AcceptedAt left (now tree) at ⌝ }
+fn show_typings(tree: &[u8], at: usize, levels: usize, scope: Scope)
+    requires { ⌜ AcceptedAt levels (now tree) at ⌝ }
     requires { ⌜ AcceptedAt deepest (now tree) 0 ⌝ }
     requires { ⌜ Skips (now tree) scope ⌝ }
 {
-    show_typing(tree, at, left, scope, false, false);
-    show_typing(tree, at, left, scope, false, true);
-    show_typing(tree, at, left, scope, true, false);
-    show_typing(tree, at, left, scope, true, true);
+    show_typing(tree, at, levels, scope, false, false);
+    show_typing(tree, at, levels, scope, false, true);
+    show_typing(tree, at, levels, scope, true, false);
+    show_typing(tree, at, levels, scope, true, true);
 }
 
 // Those of the expression of an Xe; other items have none.
-fn show_item(tree: &[u8], at: usize, left: usize, scope: Scope)
-    requires { ⌜ AcceptedAt left (now tree) at ⌝ }
+fn show_item(tree: &[u8], at: usize, levels: usize, scope: Scope)
+    requires { ⌜ AcceptedAt levels (now tree) at ⌝ }
     requires { ⌜ AcceptedAt deepest (now tree) 0 ⌝ }
     requires { ⌜ Skips (now tree) scope ⌝ }
 {
     if records::mark_at(tree, at) != XE {
         return;
     }
-    show_typings(tree, records::body_at(tree, at), left - 1, scope);
+    show_typings(tree, records::body_at(tree, at), levels - 1, scope);
 }
 
 fn show_items(tree: &[u8])

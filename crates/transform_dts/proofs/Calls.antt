@@ -1,4 +1,4 @@
--- The exported call: what the check found decides. Assumes nothing.
+-- The exported call: what the check found decides.
 use mathlib.Core.Path.{_≡_, refl, sym, ap, _∙_}
 use mathlib.Core.List.{List}
 use Prim.Native.Nat.{ℕ, _*_, _≤_}

@@ -1,4 +1,4 @@
--- The run over the Mo of an accepted tree: what the items are asked, and what their answer makes of the whole. Assumes nothing.
+-- The run over the Mo of an accepted tree: what the items are asked, and what their answer makes of the whole.
 use mathlib.Core.Path.{_≡_, sym, ap, _∙_}
 use mathlib.Core.List.{List}
 use mathlib.Core.Bool.{true}
@@ -34,13 +34,13 @@ use Rattle.transform_dts.specs.Answers.{start, transformed}
 -- ---- the scope before the first item
 
 -- bytes past the end read as 0: a record there is a head without text and children
-pub end-behind : (left : ℕ) (s : List ℕ) (at : ℕ) → length s ≤ at → endAt (suc left) s at ≡ at + headSize
+pub end-behind : (levels : ℕ) (s : List ℕ) (at : ℕ) → length s ≤ at → endAt (suc levels) s at ≡ at + headSize
 unfolding endAt endOfAll
-end-behind left s at h =
+end-behind levels s at h =
     let z : (i : ℕ) → length s ≤ i → getD s i 0 ≡ 0 = λ i l. List·getD-eq-default s 0 {n = i} l in
     let n : countAt s at ≡ 0 = omega (arith, z (at + countPlace) (omega arith), z (at + countPlace + 1) (omega arith)) in
     let t : lengthAt s at ≡ 0 = omega (arith, z (at + lengthPlace) (omega arith), z (at + lengthPlace + 1) (omega arith)) in
-    ap (λ (k : ℕ). endOfAll (endAt left s) k (bodyAt s at)) n ∙ omega (arith, t)
+    ap (λ (k : ℕ). endOfAll (endAt levels s) k (bodyAt s at)) n ∙ omega (arith, t)
 
 -- the scope of no item
 abbrev pub outside : ℕ → List ℕ → Scope

@@ -1,4 +1,4 @@
--- The dry run and the run: what a run says of the output and the diagnostics, the answer that follows, and what was written. Assumes nothing.
+-- The dry run and the run: what a run says of the output and the diagnostics, the answer that follows, and what was written.
 use mathlib.Core.Path.{_≡_, refl, sym}
 use mathlib.Core.List.{List, [], _∷_, _++_}
 use mathlib.Core.Bool.{true, false}

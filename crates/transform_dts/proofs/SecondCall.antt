@@ -1,4 +1,4 @@
--- Two calls, the second on exactly the bytes that the first wrote: what they give, and demand 3 for them. Assumes nothing.
+-- Two calls, the second on exactly the bytes that the first wrote: what they give, and demand 3 for them.
 use mathlib.Core.Path.{_≡_, refl, sym, ap, _∙_}
 use mathlib.Core.List.{List}
 use Prim.Native.Nat.{ℕ}

@@ -1,4 +1,4 @@
--- No member of an object literal is left out in silence, said of the diagnostics buffer that the exported call leaves. Assumes nothing.
+-- No member of an object literal is left out in silence, said of the diagnostics buffer that the exported call leaves.
 use mathlib.Core.Path.{_≡_}
 use mathlib.Core.List.{List}
 use mathlib.Core.Bool.{Bool, false}

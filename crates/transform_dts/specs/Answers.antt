@@ -1,4 +1,4 @@
--- The call's answers in the terms of document 01. Assumes nothing: these are definitions.
+-- The call's answers in the terms of document 01.
 use Prim.Native.Nat.{ℕ}
 use mathlib.Core.Path.{_≡_}
 use mathlib.Core.Bool.{true}

@@ -1,5 +1,4 @@
--- What two calls give, the second on exactly the bytes that the first wrote, and what demand 3 says of them. Assumes nothing: these are
--- definitions.
+-- What two calls give, the second on exactly the bytes that the first wrote, and what demand 3 says of them.
 use Prim.Native.Nat.{ℕ}
 use mathlib.Core.Path.{_≡_}
 use mathlib.Core.List.{List}

@@ -1,4 +1,4 @@
--- The arms of `expr_to_ts_type` that type something below, and how their types are written where `readonly_of` them is wanted. Assumes nothing.
+-- The arms of `expr_to_ts_type` that type something below, and how their types are written where `readonly_of` them is wanted.
 use mathlib.Core.Path.{_≡_, refl, sym, ap, _∙_, subst}
 use mathlib.Core.List.{List, [], _∷_, _++_}
 use mathlib.Core.Bool.{Bool, true, false, cond, _&&_, _||_}
@@ -104,40 +104,40 @@ wrap-tuple h o = λ i. (go (o .0) i, o .1, o .2)
     go none = refl
     go (some ts) = refl
 
-module _ (tree : List ℕ) (m : Mode) (left at n : ℕ) where
+module _ (tree : List ℕ) (m : Mode) (levels at n : ℕ) where
   abbrev t : Rec
-  t = treeAt left tree at
+  t = treeAt levels tree at
 
   abbrev ids : PrescannedModuleIds
   ids = idsOf tree
 
   type-by : (k : Expr) → exprKind (markAt tree at) ≡ k
-      → typeOf tree m left at n ≡ readonlyIf (m .frozen) (exprBy ids (m .scope .unresolved) k (headOf t) (kidsOf t) (m .as_const) (m .as_readonly) (belowOf ids (m .scope .unresolved) (kidsOf t)) n)
+      → typeOf tree m levels at n ≡ readonlyIf (m .frozen) (exprBy ids (m .scope .unresolved) k (headOf t) (kidsOf t) (m .as_const) (m .as_readonly) (belowOf ids (m .scope .unresolved) (kidsOf t)) n)
   unfolding typeOf
   type-by k e =
       ap (readonlyIf (m .frozen)) (expr-eta ids (m .scope .unresolved) t (m .as_const) (m .as_readonly) n
-      ∙ ap (λ (x : Expr). exprBy ids (m .scope .unresolved) x (headOf t) (kidsOf t) (m .as_const) (m .as_readonly) (belowOf ids (m .scope .unresolved) (kidsOf t)) n) (ap exprKind (mark-is left tree at) ∙ e))
+      ∙ ap (λ (x : Expr). exprBy ids (m .scope .unresolved) x (headOf t) (kidsOf t) (m .as_const) (m .as_readonly) (belowOf ids (m .scope .unresolved) (kidsOf t)) n) (ap exprKind (mark-is levels tree at) ∙ e))
 
   -- ---- `Expr::Array`
 
   type-array : markAt tree at ≡ mark "Ar"
-      → typeOf tree m left at n
+      → typeOf tree m levels at n
       ≡ onValue (λ (ts : Option Recs). given ts none (λ ts. some (tupleOf (headOf t) (m .as_readonly || m .frozen) ts))) (elements ids (m .scope .unresolved) (kidsOf t) (m .as_const) (m .as_readonly) n)
   unfolding exprKind exprBy
   type-array e = type-by xArray (rw e) ∙ frozen-tuple (m .frozen) (m .as_readonly) (headOf t) (elements ids (m .scope .unresolved) (kidsOf t) (m .as_const) (m .as_readonly) n)
 
-  pub array-plain : markAt tree at ≡ mark "Ar" → (m .as_readonly || m .frozen) ≡ false → tupleType tree m left at n ≡ typeOf tree m left at n
+  pub array-plain : markAt tree at ≡ mark "Ar" → (m .as_readonly || m .frozen) ≡ false → tupleType tree m levels at n ≡ typeOf tree m levels at n
   unfolding tupleType
   array-plain e f = sym (type-array e ∙ rw f)
 
-  pub array-readonly : markAt tree at ≡ mark "Ar" → (m .as_readonly || m .frozen) ≡ true → wrapped (tsReadonly dummySp) (tupleType tree m left at n) ≡ typeOf tree m left at n
+  pub array-readonly : markAt tree at ≡ mark "Ar" → (m .as_readonly || m .frozen) ≡ true → wrapped (tsReadonly dummySp) (tupleType tree m levels at n) ≡ typeOf tree m levels at n
   unfolding tupleType
   array-readonly e f = sym (type-array e ∙ rw f (wrap-tuple (headOf t) (elements ids (m .scope .unresolved) (kidsOf t) (m .as_const) (m .as_readonly) n)))
 
   -- ---- `Expr::Object`
 
   pub type-object : markAt tree at ≡ mark "Ob"
-      → typeOf tree m left at n
+      → typeOf tree m levels at n
       ≡ onValue (λ (ms : Recs). some (rec (ranged "Li" (headOf t) []) (membersIf (m .frozen) ms))) (props ids (m .scope .unresolved) (kidsOf t) (m .as_const) (m .as_readonly) n)
   unfolding exprKind exprBy
   type-object e =
@@ -146,17 +146,17 @@ module _ (tree : List ℕ) (m : Mode) (left at n : ℕ) where
 
   -- ---- `Expr::TsConstAssertion`, `Expr::TsSatisfies`
 
-  pub type-const : {p : ℕ} → AcceptedAt left tree at → markAt tree at ≡ mark "Tc" → Child left tree at 0 p expression
-      → typeOf tree (record { scope = m .scope; as_const = true; as_readonly = true; frozen = m .frozen }) (left - 1) p n ≡ typeOf tree m left at n
+  pub type-const : {p : ℕ} → AcceptedAt levels tree at → markAt tree at ≡ mark "Tc" → Child levels tree at 0 p expression
+      → typeOf tree (record { scope = m .scope; as_const = true; as_readonly = true; frozen = m .frozen }) (levels - 1) p n ≡ typeOf tree m levels at n
   unfolding exprKind exprBy marks member typeOf
   type-const {p} a e k =
-      let one : 0 < count (kidsOf t) = (let l = k .there in omega (arith, kids-count left tree at a)) in
+      let one : 0 < count (kidsOf t) = (let l = k .there in omega (arith, kids-count levels tree at a)) in
       sym (type-by xConst (rw e) ∙ ap (readonlyIf (m .frozen)) (first-is ids (m .scope .unresolved) (kidsOf t) true true n one ∙ ap (λ (x : Rec). exprToTsType ids (m .scope .unresolved) x true true n) (k .tree)))
 
-  pub type-satisfies : {p : ℕ} → AcceptedAt left tree at → markAt tree at ≡ mark "Ts" → Child left tree at 0 p expression → typeOf tree m (left - 1) p n ≡ typeOf tree m left at n
+  pub type-satisfies : {p : ℕ} → AcceptedAt levels tree at → markAt tree at ≡ mark "Ts" → Child levels tree at 0 p expression → typeOf tree m (levels - 1) p n ≡ typeOf tree m levels at n
   unfolding exprKind exprBy marks member typeOf
   type-satisfies {p} a e k =
-      let one : 0 < count (kidsOf t) = (let l = k .there in omega (arith, kids-count left tree at a)) in
+      let one : 0 < count (kidsOf t) = (let l = k .there in omega (arith, kids-count levels tree at a)) in
       sym (type-by xSatisfies (rw e)
       ∙ ap (readonlyIf (m .frozen)) (first-is ids (m .scope .unresolved) (kidsOf t) (m .as_const) (m .as_readonly) n one ∙ ap (λ (x : Rec). exprToTsType ids (m .scope .unresolved) x (m .as_const) (m .as_readonly) n) (k .tree)))
 
@@ -166,25 +166,25 @@ module _ (tree : List ℕ) (m : Mode) (left at n : ℕ) where
   as-by false x e = rw e
   as-by true x e = rw e
 
-  pub type-as : {p : ℕ} → markAt tree at ≡ mark "As" → Child left tree at 1 p type → typeOf tree m left at n ≡ (some (asType (m .frozen) (kid 1 (kidsOf t))), [], n)
+  pub type-as : {p : ℕ} → markAt tree at ≡ mark "As" → Child levels tree at 1 p type → typeOf tree m levels at n ≡ (some (asType (m .frozen) (kid 1 (kidsOf t))), [], n)
   unfolding exprKind exprBy marks member
   type-as {p} e k =
       type-by xAs (rw e)
-      ∙ as-by (m .frozen) (kid 1 (kidsOf t)) (rw (k .tree) (not-mark (left - 1) tree p (mark "No") (member-not (markAt tree p) (mark "No") (marks type) refl (k .marks))))
+      ∙ as-by (m .frozen) (kid 1 (kidsOf t)) (rw (k .tree) (not-mark (levels - 1) tree p (mark "No") (member-not (markAt tree p) (mark "No") (marks type) refl (k .marks))))
 
   -- ---- `Expr::Fn`, `Expr::Arrow`
 
-  pub type-fn : {p : ℕ} → AcceptedAt left tree at → markAt tree at ≡ mark "Fx" → Child left tree at 1 p "Fu" → functionOf tree (m .scope .unresolved) true (left - 1) p n ≡ typeOf tree m left at n
+  pub type-fn : {p : ℕ} → AcceptedAt levels tree at → markAt tree at ≡ mark "Fx" → Child levels tree at 1 p "Fu" → functionOf tree (m .scope .unresolved) true (levels - 1) p n ≡ typeOf tree m levels at n
   unfolding exprKind exprBy marks member functionOf
   type-fn {p} a e k =
-      let two : 1 < count (kidsOf t) = (let l = k .there in omega (arith, kids-count left tree at a)) in
-      let f : Rec = treeAt (left - 1) tree p in
+      let two : 1 < count (kidsOf t) = (let l = k .there in omega (arith, kids-count levels tree at a)) in
+      let f : Rec = treeAt (levels - 1) tree p in
       sym (type-by xFn (rw e)
       ∙ (ap (readonlyIf (m .frozen)) (fn-second-is ids (m .scope .unresolved) (kidsOf t) n two ∙ (ap (λ (x : Rec). functionType ids (m .scope .unresolved) x n) (k .tree) ∙ function-eta ids (m .scope .unresolved) f n))
       ∙ (frozen-fn (m .frozen) (headOf f) (kidsOf f) (fnParams ids (m .scope .unresolved) (kidsOf f) 3 n)
       ∙ ap (onValue (λ (ps : Recs). some (fnType (headOf f) (kidsOf f) ps))) (fn-params ids (m .scope .unresolved) (kidsOf f) 3 n))))
 
-  pub type-arrow : markAt tree at ≡ mark "Aw" → functionOf tree (m .scope .unresolved) false left at n ≡ typeOf tree m left at n
+  pub type-arrow : markAt tree at ≡ mark "Aw" → functionOf tree (m .scope .unresolved) false levels at n ≡ typeOf tree m levels at n
   unfolding exprKind exprBy marks member functionOf
   type-arrow e =
       sym (type-by xArrow (rw e)
@@ -200,21 +200,21 @@ module _ (tree : List ℕ) (m : Mode) (left at n : ℕ) where
   call-none true = refl
   call-none false = refl
 
-  type-call : {p : ℕ} → AcceptedAt left tree at → markAt tree at ≡ mark "Ca" → objectFreezeCallArg (m .scope .unresolved) (kidsOf t) ≡ true → 1 < countAt tree at → p ≡ childAt left tree at 1
-      → keptIf (hasReadonly (treeAt (left - 1) tree p)) (typeOf tree (record { scope = m .scope; as_const = m .as_const; as_readonly = m .as_readonly; frozen = true }) (left - 1) p n) ≡ typeOf tree m left at n
+  type-call : {p : ℕ} → AcceptedAt levels tree at → markAt tree at ≡ mark "Ca" → objectFreezeCallArg (m .scope .unresolved) (kidsOf t) ≡ true → 1 < countAt tree at → p ≡ childAt levels tree at 1
+      → keptIf (hasReadonly (treeAt (levels - 1) tree p)) (typeOf tree (record { scope = m .scope; as_const = m .as_const; as_readonly = m .as_readonly; frozen = true }) (levels - 1) p n) ≡ typeOf tree m levels at n
   unfolding exprKind exprBy marks member typeOf keptIf
   type-call {p} a e f l q =
-      let two : 1 < count (kidsOf t) = omega (arith, kids-count left tree at a) in
-      let arg : Rec = treeAt (left - 1) tree p in
+      let two : 1 < count (kidsOf t) = omega (arith, kids-count levels tree at a) in
+      let arg : Rec = treeAt (levels - 1) tree p in
       let o : Out (Option Rec) = exprToTsType ids (m .scope .unresolved) arg (m .as_const) (m .as_readonly) n in
       frozen-from (hasReadonly arg) o (has-readonly ids (m .scope .unresolved) arg (m .as_const) (m .as_readonly) n)
       ∙ sym (type-by xCall (rw e)
       ∙ (ap (λ (x : Bool). readonlyIf (m .frozen) (ifM x (λ n. frozenOf (typeSecond ids (m .scope .unresolved) (kidsOf t) (m .as_const) (m .as_readonly) n)) (pure none) n)) f
       ∙ (ap (λ (x : Out (Option Rec)). readonlyIf (m .frozen) (frozenOf x)) (second-is ids (m .scope .unresolved) (kidsOf t) (m .as_const) (m .as_readonly) n two
-      ∙ ap (λ (x : Rec). exprToTsType ids (m .scope .unresolved) x (m .as_const) (m .as_readonly) n) (kid-is left tree at a 1 l ∙ ap (treeAt (left - 1) tree) (sym q)))
+      ∙ ap (λ (x : Rec). exprToTsType ids (m .scope .unresolved) x (m .as_const) (m .as_readonly) n) (kid-is levels tree at a 1 l ∙ ap (treeAt (levels - 1) tree) (sym q)))
       ∙ frozen-again (m .frozen) o)))
 
-  pub type-other-call : markAt tree at ≡ mark "Ca" → objectFreezeCallArg (m .scope .unresolved) (kidsOf t) ≡ false → typeOf tree m left at n ≡ (none, [], n)
+  pub type-other-call : markAt tree at ≡ mark "Ca" → objectFreezeCallArg (m .scope .unresolved) (kidsOf t) ≡ false → typeOf tree m levels at n ≡ (none, [], n)
   unfolding exprKind exprBy marks member
   type-other-call e f = type-by xCall (rw e) ∙ (ap (λ (x : Bool). readonlyIf (m .frozen) (ifM x (λ n. frozenOf (typeSecond ids (m .scope .unresolved) (kidsOf t) (m .as_const) (m .as_readonly) n)) (pure none) n)) f ∙ call-none (m .frozen))
 
@@ -225,16 +225,16 @@ module _ (tree : List ℕ) (m : Mode) (left at n : ℕ) where
   freeze-two (cons a nil) ctx e = absurd (let z : _≡_ {A = ℕ} 0 1 = cc in omega arith)
   freeze-two (cons a (cons b bs)) ctx e = omega arith
 
-  freeze-there : AcceptedAt left tree at → objectFreezeCallArg (m .scope .unresolved) (kidsOf t) ≡ true → 1 < countAt tree at
-  freeze-there a f = omega (arith, freeze-two (kidsOf t) (m .scope .unresolved) f, kids-count left tree at a)
+  freeze-there : AcceptedAt levels tree at → objectFreezeCallArg (m .scope .unresolved) (kidsOf t) ≡ true → 1 < countAt tree at
+  freeze-there a f = omega (arith, freeze-two (kidsOf t) (m .scope .unresolved) f, kids-count levels tree at a)
 
   -- the wish says how the argument's type is written, and whether it is the call's type is asked behind that
-  pub freeze-is : {p : ℕ} → AcceptedAt left tree at → markAt tree at ≡ mark "Ca" → (objectFreezeCallArg (m .scope .unresolved) (kidsOf t) ≡ true) × (p ≡ childAt left tree at 1)
-      → keptIf (hasReadonly (treeAt (left - 1) tree p)) (typeOf tree (record { scope = m .scope; as_const = m .as_const; as_readonly = m .as_readonly; frozen = true }) (left - 1) p n) ≡ typeOf tree m left at n
+  pub freeze-is : {p : ℕ} → AcceptedAt levels tree at → markAt tree at ≡ mark "Ca" → (objectFreezeCallArg (m .scope .unresolved) (kidsOf t) ≡ true) × (p ≡ childAt levels tree at 1)
+      → keptIf (hasReadonly (treeAt (levels - 1) tree p)) (typeOf tree (record { scope = m .scope; as_const = m .as_const; as_readonly = m .as_readonly; frozen = true }) (levels - 1) p n) ≡ typeOf tree m levels at n
   freeze-is a e f = type-call a e (f .0) (freeze-there a (f .0)) (f .1)
 
-  pub freeze-ready : {p k : ℕ} → Ready left tree at k (m .scope) → markAt tree at ≡ mark "Ca" → (objectFreezeCallArg (m .scope .unresolved) (kidsOf t) ≡ true) × (p ≡ childAt left tree at 1) → Ready (left - 1) tree p k (m .scope)
+  pub freeze-ready : {p k : ℕ} → Ready levels tree at k (m .scope) → markAt tree at ≡ mark "Ca" → (objectFreezeCallArg (m .scope .unresolved) (kidsOf t) ≡ true) × (p ≡ childAt levels tree at 1) → Ready (levels - 1) tree p k (m .scope)
   freeze-ready {p} {k} r e f =
       let two = freeze-there (r .accepted) (f .0) in
-      let low = child-after left tree at (r .accepted) 1 (omega arith) in
-      rw (f .1) (record { accepted = child left tree at (r .accepted) 1 two; root = r .root; low = omega (arith, r .low, low); skips = r .skips })
+      let low = child-after levels tree at (r .accepted) 1 (omega arith) in
+      rw (f .1) (record { accepted = child levels tree at (r .accepted) 1 two; root = r .root; low = omega (arith, r .low, low); skips = r .skips })

@@ -1,4 +1,4 @@
--- Whether `readonly_of` has an answer for the type of an expression: what is asked of the expression says it. Assumes nothing.
+-- Whether `readonly_of` has an answer for the type of an expression: what is asked of the expression says it.
 use mathlib.Core.Path.{_≡_, refl, sym, ap, _∙_}
 use mathlib.Core.List.{List, []}
 use mathlib.Core.Bool.{Bool, true, false, cond}
@@ -161,12 +161,12 @@ has-eta : (t : Rec) → hasReadonly t ≡ hasReadonlyBy (exprKind (markOf t)) (k
 unfolding hasReadonly
 has-eta (rec h ks) = ap (hasReadonlyBy (exprKind (h .mark)) ks) (first-is ks)
 
-module _ (left : ℕ) (tree : List ℕ) (at : ℕ) where
+module _ (levels : ℕ) (tree : List ℕ) (at : ℕ) where
   abbrev t : Rec
-  t = treeAt left tree at
+  t = treeAt levels tree at
 
   has-by : (k : Expr) → exprKind (markAt tree at) ≡ k → hasReadonly t ≡ hasReadonlyBy k (kidsOf t) (hasReadonly (kid 0 (kidsOf t)))
-  has-by k e = has-eta t ∙ rw (mark-is left tree at, e)
+  has-by k e = has-eta t ∙ rw (mark-is levels tree at, e)
 
   pub has-made : (markAt tree at ≡ mark "Ca") ⊎ ((markAt tree at ≡ mark "Ob") ⊎ ((markAt tree at ≡ mark "Ar") ⊎ ((markAt tree at ≡ mark "Aw") ⊎ (markAt tree at ≡ mark "Fx")))) → true ≡ hasReadonly t
   unfolding hasReadonlyBy exprKind marks member
@@ -174,18 +174,18 @@ module _ (left : ℕ) (tree : List ℕ) (at : ℕ) where
       ⊎-elim (λ e. sym (has-by xCall (rw e))) (⊎-elim (λ e. sym (has-by xObject (rw e))) (⊎-elim (λ e. sym (has-by xArray (rw e))) (⊎-elim (λ e. sym (has-by xArrow (rw e))) (λ e. sym (has-by xFn (rw e))))))
 
   -- what a Tc or a Ts asserts
-  pub asserted-expr : AcceptedAt left tree at → (markAt tree at ≡ mark "Tc") ⊎ (markAt tree at ≡ mark "Ts") → Child left tree at 0 (bodyAt tree at) expression
-  asserted-expr a = ⊎-elim (λ e. tc-expr left tree at a e) (λ e. ts-expr left tree at a e)
+  pub asserted-expr : AcceptedAt levels tree at → (markAt tree at ≡ mark "Tc") ⊎ (markAt tree at ≡ mark "Ts") → Child levels tree at 0 (bodyAt tree at) expression
+  asserted-expr a = ⊎-elim (λ e. tc-expr levels tree at a e) (λ e. ts-expr levels tree at a e)
 
-  pub has-first : {p : ℕ} → (markAt tree at ≡ mark "Tc") ⊎ (markAt tree at ≡ mark "Ts") → Child left tree at 0 p expression → hasReadonly (treeAt (left - 1) tree p) ≡ hasReadonly t
+  pub has-first : {p : ℕ} → (markAt tree at ≡ mark "Tc") ⊎ (markAt tree at ≡ mark "Ts") → Child levels tree at 0 p expression → hasReadonly (treeAt (levels - 1) tree p) ≡ hasReadonly t
   unfolding hasReadonlyBy exprKind marks member
   has-first m k = sym (⊎-elim (λ e. has-by xConst (rw e)) (λ e. has-by xSatisfies (rw e)) m ∙ ap hasReadonly (k .tree))
 
-  pub has-as : {p : ℕ} → markAt tree at ≡ mark "As" → Child left tree at 1 p type → typeHasReadonly (treeAt (left - 1) tree p) ≡ hasReadonly t
+  pub has-as : {p : ℕ} → markAt tree at ≡ mark "As" → Child levels tree at 1 p type → typeHasReadonly (treeAt (levels - 1) tree p) ≡ hasReadonly t
   unfolding hasReadonlyBy exprKind marks member
   has-as e k = sym (has-by xAs (rw e) ∙ ap typeHasReadonly (k .tree))
 
   pub has-none : ((markAt tree at ≡ mark "Ca") ⊎ ((markAt tree at ≡ mark "Ob") ⊎ ((markAt tree at ≡ mark "Ar") ⊎ ((markAt tree at ≡ mark "Aw") ⊎ (markAt tree at ≡ mark "Fx")))) → ⊥)
       → ((markAt tree at ≡ mark "Tc") ⊎ (markAt tree at ≡ mark "Ts") → ⊥) → (markAt tree at ≡ mark "As" → ⊥) → false ≡ hasReadonly t
   has-none a b c =
-      sym (has-eta t ∙ leaf-by (exprKind (markOf t)) (kidsOf t) _ (is-leaf tree left at (λ e. a (inr (inr (inl e)))) (λ e. a (inr (inl e))) (λ e. b (inl e)) (λ e. b (inr e)) c (λ e. a (inr (inr (inr (inr e))))) (λ e. a (inr (inr (inr (inl e))))) (λ e. a (inl e))))
+      sym (has-eta t ∙ leaf-by (exprKind (markOf t)) (kidsOf t) _ (is-leaf tree levels at (λ e. a (inr (inr (inl e)))) (λ e. a (inr (inl e))) (λ e. b (inl e)) (λ e. b (inr e)) c (λ e. a (inr (inr (inr (inr e))))) (λ e. a (inr (inr (inr (inl e))))) (λ e. a (inl e))))

@@ -1,4 +1,4 @@
--- The parameters of functions and arrows: the definition's step by their kind, and what the code does for each. Assumes nothing.
+-- The parameters of functions and arrows: the definition's step by their kind, and what the code does for each.
 use mathlib.Core.Path.{_≡_, refl, sym, ap, _∙_, subst}
 use mathlib.Core.List.{List, [], _∷_, _++_, append-nil, append-assoc}
 use mathlib.Core.Bool.{Bool, true, false, cond, _&&_}
@@ -55,12 +55,12 @@ kept-kind : (m : ℕ) → KeptMark m → paramKind m ≡ qKeep
 unfolding paramKind
 kept-kind m = ⊎-elim (λ e. rw e) (⊎-elim (λ e. rw e) (⊎-elim (λ e. rw e) (λ e. rw e)))
 
-module _ (tree : List ℕ) (scope : Scope) (left at n : ℕ) where
+module _ (tree : List ℕ) (scope : Scope) (levels at n : ℕ) where
   abbrev ctx : ℕ
   ctx = scope .unresolved
 
   abbrev t : Rec
-  t = treeAt left tree at
+  t = treeAt levels tree at
 
   abbrev ids : PrescannedModuleIds
   ids = idsOf tree
@@ -72,20 +72,20 @@ module _ (tree : List ℕ) (scope : Scope) (left at n : ℕ) where
   rec-eta : (t : Rec) → rec (headOf t) (kidsOf t) ≡ t
   rec-eta (rec h ks) = refl
 
-  pat-by : (k : Param) → paramKind (markAt tree at) ≡ k → patType tree ctx left at n ≡ paramBy k (headOf t) (kidsOf t) (λ n. typeSecond ids ctx (kidsOf t) false false n) n
+  pat-by : (k : Param) → paramKind (markAt tree at) ≡ k → patType tree ctx levels at n ≡ paramBy k (headOf t) (kidsOf t) (λ n. typeSecond ids ctx (kidsOf t) false false n) n
   unfolding patType
-  pat-by k e = pat-eta t ∙ ap (λ (x : Param). paramBy x (headOf t) (kidsOf t) (λ n. typeSecond ids ctx (kidsOf t) false false n) n) (ap paramKind (mark-is left tree at) ∙ e)
+  pat-by k e = pat-eta t ∙ ap (λ (x : Param). paramBy x (headOf t) (kidsOf t) (λ n. typeSecond ids ctx (kidsOf t) false false n) n) (ap paramKind (mark-is levels tree at) ∙ e)
 
-  pub pat-keep : KeptMark (markAt tree at) → patType tree ctx left at n ≡ (one t, [], n)
+  pub pat-keep : KeptMark (markAt tree at) → patType tree ctx levels at n ≡ (one t, [], n)
   unfolding paramBy
   pat-keep e = pat-by qKeep (kept-kind (markAt tree at) e) ∙ ap (λ (r : Rec). (one r, [], n)) (rec-eta t)
 
-  pub pat-expr : {p : ℕ} → markAt tree at ≡ mark "Pe" → Child left tree at 0 p expression → patType tree ctx left at n ≡ (nil, diagAt tree p (mark "d1") ∷ [], n)
+  pub pat-expr : {p : ℕ} → markAt tree at ≡ mark "Pe" → Child levels tree at 0 p expression → patType tree ctx levels at n ≡ (nil, diagAt tree p (mark "d1") ∷ [], n)
   unfolding paramKind paramBy
   pat-expr {p} e k =
-      pat-by qExpr (rw e) ∙ (ap (λ (r : Rec). (nil, diag "d1" (headOf r) ∷ [], n)) (k .tree) ∙ ap (λ (d : Diag). (nil, d ∷ [], n)) (sym (diag-is "d1" (left - 1) tree p)))
+      pat-by qExpr (rw e) ∙ (ap (λ (r : Rec). (nil, diag "d1" (headOf r) ∷ [], n)) (k .tree) ∙ ap (λ (d : Diag). (nil, d ∷ [], n)) (sym (diag-is "d1" (levels - 1) tree p)))
 
-  pub pat-other : (KeptMark (markAt tree at) → ⊥) → (markAt tree at ≡ mark "Ag" → ⊥) → (markAt tree at ≡ mark "Pe" → ⊥) → patType tree ctx left at n ≡ (nil, [], n)
+  pub pat-other : (KeptMark (markAt tree at) → ⊥) → (markAt tree at ≡ mark "Ag" → ⊥) → (markAt tree at ≡ mark "Pe" → ⊥) → patType tree ctx levels at n ≡ (nil, [], n)
   unfolding paramKind paramBy
   pat-other a b c =
       pat-by qOther (rw (
@@ -99,39 +99,39 @@ module _ (tree : List ℕ) (scope : Scope) (left at n : ℕ) where
 
   -- ---- defaults
 
-  assign-is : {q : ℕ} → AcceptedAt left tree at → markAt tree at ≡ mark "Ag" → Child left tree at 1 q expression
-      → patType tree ctx left at n
-      ≡ given (typeOf tree (mutableMode scope) (left - 1) q n .0) (nil, typeOf tree (mutableMode scope) (left - 1) q n .1, typeOf tree (mutableMode scope) (left - 1) q n .2)
-      (λ ty. defaultParam (headOf t) (kid 0 (kidsOf t)) ty (typeOf tree (mutableMode scope) (left - 1) q n .1) (typeOf tree (mutableMode scope) (left - 1) q n .2))
+  assign-is : {q : ℕ} → AcceptedAt levels tree at → markAt tree at ≡ mark "Ag" → Child levels tree at 1 q expression
+      → patType tree ctx levels at n
+      ≡ given (typeOf tree (mutableMode scope) (levels - 1) q n .0) (nil, typeOf tree (mutableMode scope) (levels - 1) q n .1, typeOf tree (mutableMode scope) (levels - 1) q n .2)
+      (λ ty. defaultParam (headOf t) (kid 0 (kidsOf t)) ty (typeOf tree (mutableMode scope) (levels - 1) q n .1) (typeOf tree (mutableMode scope) (levels - 1) q n .2))
   unfolding paramKind paramBy typeOf
   assign-is {q} a e k =
-      let two : 1 < count (kidsOf t) = (let l = k .there in omega (arith, kids-count left tree at a)) in
+      let two : 1 < count (kidsOf t) = (let l = k .there in omega (arith, kids-count levels tree at a)) in
       pat-by qAssign (rw e)
       ∙ ap (λ (o : Out (Option Rec)). given {B = Out Recs} (o .0) (nil, o .1, o .2) (λ ty. defaultParam (headOf t) (kid 0 (kidsOf t)) ty (o .1) (o .2)))
       (second-is ids ctx (kidsOf t) false false n two ∙ ap (λ (x : Rec). exprToTsType ids ctx x false false n) (k .tree))
 
   -- of a name, and of another pattern
-  module _ {p q : ℕ} (a : AcceptedAt left tree at) (e : markAt tree at ≡ mark "Ag") (j : Child left tree at 0 p pattern) (k : Child left tree at 1 q expression) where
+  module _ {p q : ℕ} (a : AcceptedAt levels tree at) (e : markAt tree at ≡ mark "Ag") (j : Child levels tree at 0 p pattern) (k : Child levels tree at 1 q expression) where
     abbrev o : Out (Option Rec)
-    o = typeOf tree (mutableMode scope) (left - 1) q n
+    o = typeOf tree (mutableMode scope) (levels - 1) q n
 
     given-as : (v : Option Rec) (f f' : Rec → Out Recs) → ((ty : Rec) → f ty ≡ f' ty) → given v (nil, o .1, o .2) f ≡ given v (nil, o .1, o .2) f'
     given-as none f f' h = refl
     given-as (some ty) f f' h = h ty
 
     pub pat-named : markAt tree p ≡ mark "Bd"
-        → patType tree ctx left at n ≡ given (o .0) (nil, o .1, o .2) (λ ty. (one (bindingIdent (headOf t) (symbolOf (kid 0 (kidsOf (kid 0 (kidsOf t))))) ty), o .1, o .2))
+        → patType tree ctx levels at n ≡ given (o .0) (nil, o .1, o .2) (λ ty. (one (bindingIdent (headOf t) (symbolOf (kid 0 (kidsOf (kid 0 (kidsOf t))))) ty), o .1, o .2))
     unfolding defaultParam
     pat-named f =
         assign-is a e k
-        ∙ given-as (o .0) _ _ (λ ty. let z : is "Bd" (kid 0 (kidsOf t)) ≡ true = rw (j .tree, mark-is (left - 1) tree p, f) refl in rw z refl)
+        ∙ given-as (o .0) _ _ (λ ty. let z : is "Bd" (kid 0 (kidsOf t)) ≡ true = rw (j .tree, mark-is (levels - 1) tree p, f) refl in rw z refl)
 
     pub pat-unnamed : (markAt tree p ≡ mark "Bd" → ⊥)
-        → patType tree ctx left at n ≡ given (o .0) (nil, o .1, o .2) (λ ty. (one (bindingIdent (headOf t) (genUniqueName (o .2 + 1)) ty), o .1, o .2 + 1))
+        → patType tree ctx levels at n ≡ given (o .0) (nil, o .1, o .2) (λ ty. (one (bindingIdent (headOf t) (genUniqueName (o .2 + 1)) ty), o .1, o .2 + 1))
     unfolding defaultParam
     pat-unnamed f =
         assign-is a e k
-        ∙ given-as (o .0) _ _ (λ ty. let z : is "Bd" (kid 0 (kidsOf t)) ≡ false = rw (j .tree, mark-is (left - 1) tree p) (ne-eqb _ _ f) in rw (z, add-one) refl)
+        ∙ given-as (o .0) _ _ (λ ty. let z : is "Bd" (kid 0 (kidsOf t)) ≡ false = rw (j .tree, mark-is (levels - 1) tree p) (ne-eqb _ _ f) in rw (z, add-one) refl)
 
 -- ---- what the code does for each
 
@@ -146,11 +146,11 @@ pub gave-mark : (o : List ℕ) {g g' : List ℕ} (s : State) {s' : State} {d : D
 gave-mark o s h w e = rw e (record { value = none; same = refl; did = did-none (step-marks o w h) })
 
 -- the front of a parameter
-binding-bytes : (left : ℕ) (tree : List ℕ) (at : ℕ) (name : List ℕ) (ty : Rec)
-    → bindingFront (span (rangeAt tree at)) name ++ encode ty ≡ encode (bindingIdent (headOf (treeAt left tree at)) name ty)
+binding-bytes : (levels : ℕ) (tree : List ℕ) (at : ℕ) (name : List ℕ) (ty : Rec)
+    → bindingFront (span (rangeAt tree at)) name ++ encode ty ≡ encode (bindingIdent (headOf (treeAt levels tree at)) name ty)
 unfolding headAt
-binding-bytes left tree at name ty =
-    rw (head-is left tree at)
+binding-bytes levels tree at name ty =
+    rw (head-is levels tree at)
     (append-assoc (headBytes (ranged "Bd" (headAt tree at) []) 2) (encode (identAt (headAt tree at) name)) (encode ty) ∙ encode-two (ranged "Bd" (headAt tree at) []) (identAt (headAt tree at) name) ty refl)
 
 binding-fits : (h : Head) (name : List ℕ) (ty : Rec) → textsFit (identAt h name) ≡ true → textsFit ty ≡ textsFit (bindingIdent h name ty)
@@ -168,16 +168,16 @@ gave-skipped {o} {o2} {g} {g2} s {s2} {y} k h z w e =
     let u : Step o o2 g g2 (movedTo s (sat (s .p) k)) s2 [] (y .1) (y .2) true = rw z at (w .step) in
     rw e (record { value = none; same = refl; did = did-none (step-lower s k h u) })
 
-module _ (tree : List ℕ) (left at : ℕ) {o o1 o2 g g2 : List ℕ} (s : State) {s2 : State} {y : Out (Option Rec)} {x : Out Recs} where
-  pub gave-named : {q : ℕ} (name : List ℕ) → s .d ≤ top → textsFit (identAt (headOf (treeAt left tree at)) name) ≡ true → Put o o1 (s .p) (bindingFront (span (rangeAt tree at)) name) q
-      → IsSome o1 o2 g g2 (movedTo s q) s2 y → x ≡ given (y .0) (nil, y .1, y .2) (λ ty. (one (bindingIdent (headOf (treeAt left tree at)) name ty), y .1, y .2))
+module _ (tree : List ℕ) (levels at : ℕ) {o o1 o2 g g2 : List ℕ} (s : State) {s2 : State} {y : Out (Option Rec)} {x : Out Recs} where
+  pub gave-named : {q : ℕ} (name : List ℕ) → s .d ≤ top → textsFit (identAt (headOf (treeAt levels tree at)) name) ≡ true → Put o o1 (s .p) (bindingFront (span (rangeAt tree at)) name) q
+      → IsSome o1 o2 g g2 (movedTo s q) s2 y → x ≡ given (y .0) (nil, y .1, y .2) (λ ty. (one (bindingIdent (headOf (treeAt levels tree at)) name ty), y .1, y .2))
       → Gave o o2 g g2 s (Some s2) x
   gave-named name k f v w e =
       let ty : Rec = w .type in
       rw (e, w .same) (record {
-        value = some (bindingIdent (headOf (treeAt left tree at)) name ty);
+        value = some (bindingIdent (headOf (treeAt levels tree at)) name ty);
         same = refl;
-        did = did-some (step-as (step-then (step-put g s v k) (w .step)) (binding-bytes left tree at name ty) refl refl (binding-fits (headOf (treeAt left tree at)) name ty f));
+        did = did-some (step-as (step-then (step-put g s v k) (w .step)) (binding-bytes levels tree at name ty) refl refl (binding-fits (headOf (treeAt levels tree at)) name ty f));
       })
 
 -- ---- a generated name
@@ -203,21 +203,21 @@ unnamed-step {o} {o1} {o2} {g} {g1} s {made} {r} {E} {ds} {n} {at} {f} w u =
       fits = w .fits;
     })
 
-pub gave-unnamed : (tree : List ℕ) (left at : ℕ) {o o1 o2 g g1 : List ℕ} (s : State) {made r : State} {q : ℕ} {y : Out (Option Rec)} {x : Out Recs} → q ≡ sat (s .p) (uniqueFront (s .n + 1))
+pub gave-unnamed : (tree : List ℕ) (levels at : ℕ) {o o1 o2 g g1 : List ℕ} (s : State) {made r : State} {q : ℕ} {y : Out (Option Rec)} {x : Out Recs} → q ≡ sat (s .p) (uniqueFront (s .n + 1))
     → IsSome o o1 g g1 (movedTo s q) made y → Unnamed o1 o2 s made r (span (rangeAt tree at))
-    → x ≡ given (y .0) (nil, y .1, y .2) (λ ty. (one (bindingIdent (headOf (treeAt left tree at)) (genUniqueName (y .2 + 1)) ty), y .1, y .2 + 1))
+    → x ≡ given (y .0) (nil, y .1, y .2) (λ ty. (one (bindingIdent (headOf (treeAt levels tree at)) (genUniqueName (y .2 + 1)) ty), y .1, y .2 + 1))
     → Gave o o2 g g1 s (Some r) x
-gave-unnamed tree left at {o} {o1} {o2} {g} {g1} s {made} {r} {q} {y} z w u e =
+gave-unnamed tree levels at {o} {o1} {o2} {g} {g1} s {made} {r} {q} {y} z w u e =
     let ty : Rec = w .type in
-    let f : textsFit (identAt (headOf (treeAt left tree at)) (genUniqueName (y .2 + 1))) ≡ true =
-    rw (← w .step .counter) (name-fits (headOf (treeAt left tree at)) (genUniqueName (made .n + 1)) (omega (arith, u .short))) in
+    let f : textsFit (identAt (headOf (treeAt levels tree at)) (genUniqueName (y .2 + 1))) ≡ true =
+    rw (← w .step .counter) (name-fits (headOf (treeAt levels tree at)) (genUniqueName (made .n + 1)) (omega (arith, u .short))) in
     let v : Step o o1 g g1 (movedTo s (sat (s .p) (uniqueFront (s .n + 1)))) made (encode ty) (y .1) (y .2) (textsFit ty) = rw z at (w .step) in
     let c : made .n ≡ y .2 = w .step .counter in
     let d : Step o o2 g g1 s r (bindingFront (span (rangeAt tree at)) (genUniqueName (y .2 + 1)) ++ encode ty) (y .1) (y .2 + 1) (textsFit ty) = rw c at (unnamed-step s v u) in
     rw (e, w .same) (record {
-      value = some (bindingIdent (headOf (treeAt left tree at)) (genUniqueName (y .2 + 1)) ty);
+      value = some (bindingIdent (headOf (treeAt levels tree at)) (genUniqueName (y .2 + 1)) ty);
       same = refl;
-      did = did-some (step-as d (binding-bytes left tree at (genUniqueName (y .2 + 1)) ty) refl refl (binding-fits (headOf (treeAt left tree at)) (genUniqueName (y .2 + 1)) ty f));
+      did = did-some (step-as d (binding-bytes levels tree at (genUniqueName (y .2 + 1)) ty) refl refl (binding-fits (headOf (treeAt levels tree at)) (genUniqueName (y .2 + 1)) ty f));
     })
 
 -- the same state, as a call returns it
@@ -225,35 +225,35 @@ pub gave-at : {o o' g g' : List ℕ} {s r s' : State} {x : Out Recs} → r ≡ s
 gave-at {o} {o'} {g} {g'} {s} {x = x} e w = subst (λ (q : State). Gave o o' g g' s (None q) x) (sym e) w
 
 -- the name of a Bd fits
-pub named-fits : (left : ℕ) (tree : List ℕ) (at : ℕ) → AcceptedAt left tree at → markAt tree at ≡ mark "Ag" → markAt tree (bodyAt tree at) ≡ mark "Bd" → ((i : ℕ) → mir.Val.Fits w8 (getD tree i 0))
-    → textsFit (identAt (headOf (treeAt left tree at)) (symbolOf (kid 0 (kidsOf (kid 0 (kidsOf (treeAt left tree at))))))) ≡ true
+pub named-fits : (levels : ℕ) (tree : List ℕ) (at : ℕ) → AcceptedAt levels tree at → markAt tree at ≡ mark "Ag" → markAt tree (bodyAt tree at) ≡ mark "Bd" → ((i : ℕ) → mir.Val.Fits w8 (getD tree i 0))
+    → textsFit (identAt (headOf (treeAt levels tree at)) (symbolOf (kid 0 (kidsOf (kid 0 (kidsOf (treeAt levels tree at))))))) ≡ true
 unfolding marks
-named-fits left tree at a e f known =
+named-fits levels tree at a e f known =
     let p : ℕ = bodyAt tree at in
-    let k = left-of left tree at a e in
-    let i = bd-ident (left - 1) tree p (k .accepted) f in
+    let k = left-of levels tree at a e in
+    let i = bd-ident (levels - 1) tree p (k .accepted) f in
     let q : ℕ = bodyAt tree p in
-    let z : kid 0 (kidsOf (kid 0 (kidsOf (treeAt left tree at)))) ≡ treeAt (left - 1 - 1) tree q = ap (λ (r : Rec). kid 0 (kidsOf r)) (k .tree) ∙ i .tree in
-    let l : length (textAt tree q) < 65536 = text-short (left - 1 - 1) tree q (i .accepted) known in
-    let four : 4 ≤ lengthAt tree q = id-text (left - 1 - 1) tree q (i .accepted) (member-one _ _ (i .marks)) in
-    name-fits (headOf (treeAt left tree at)) (symbolOf (kid 0 (kidsOf (kid 0 (kidsOf (treeAt left tree at))))))
-    (rw (z, text-is (left - 1 - 1) tree q, length-drop) (omega (arith, text-length (left - 1 - 1) tree q (i .accepted))))
+    let z : kid 0 (kidsOf (kid 0 (kidsOf (treeAt levels tree at)))) ≡ treeAt (levels - 1 - 1) tree q = ap (λ (r : Rec). kid 0 (kidsOf r)) (k .tree) ∙ i .tree in
+    let l : length (textAt tree q) < 65536 = text-short (levels - 1 - 1) tree q (i .accepted) known in
+    let four : 4 ≤ lengthAt tree q = id-text (levels - 1 - 1) tree q (i .accepted) (member-one _ _ (i .marks)) in
+    name-fits (headOf (treeAt levels tree at)) (symbolOf (kid 0 (kidsOf (kid 0 (kidsOf (treeAt levels tree at))))))
+    (rw (z, text-is (levels - 1 - 1) tree q, length-drop) (omega (arith, text-length (levels - 1 - 1) tree q (i .accepted))))
 
 -- what is asked for a generated name, once the default has been typed
-pub unnamed-ready : (tree : List ℕ) (scope : Scope) (left at : ℕ) {o o1 g g1 : List ℕ} (s : State) {made : State} {p q : ℕ} → Ready left tree at (s .n) scope → Child left tree at 0 (bodyAt tree at) pattern
-    → Child left tree at 1 p expression → p ≡ endAt (left - 1) tree (bodyAt tree at) → q ≡ sat (s .p) (uniqueFront (s .n + 1))
-    → IsSome o o1 g g1 (movedTo s q) made (typeOf tree (mutableMode scope) (left - 1) p (s .n))
+pub unnamed-ready : (tree : List ℕ) (scope : Scope) (levels at : ℕ) {o o1 g g1 : List ℕ} (s : State) {made : State} {p q : ℕ} → Ready levels tree at (s .n) scope → Child levels tree at 0 (bodyAt tree at) pattern
+    → Child levels tree at 1 p expression → p ≡ endAt (levels - 1) tree (bodyAt tree at) → q ≡ sat (s .p) (uniqueFront (s .n + 1))
+    → IsSome o o1 g g1 (movedTo s q) made (typeOf tree (mutableMode scope) (levels - 1) p (s .n))
     → (at + headSize ≤ length tree) × (((s .n ≤ made .n) × (made .n < length tree)) × (sat (s .p) (uniqueFront (s .n + 1)) ≤ made .p))
 unfolding typeOf
-unnamed-ready tree scope left at s {made} {p} {q} r j k e z w =
+unnamed-ready tree scope levels at s {made} {p} {q} r j k e z w =
     let ctx : ℕ = scope .unresolved in
     let ids : PrescannedModuleIds = idsOf tree in
-    let x : Rec = treeAt (left - 1) tree p in
+    let x : Rec = treeAt (levels - 1) tree p in
     let c : made .n ≡ exprToTsType ids ctx x false false (s .n) .2 = w .step .counter in
-    let a : bodyAt tree at + headSize ≤ endAt (left - 1) tree (bodyAt tree at) = end-after (left - 1) tree (bodyAt tree at) (j .accepted) in
-    let b : p + records x ≤ endAt (left - 1) tree p = records-within (left - 1) tree p (k .accepted) in
-    let d : endAt (left - 1) tree p ≤ length tree = end-inside (left - 1) tree p (k .accepted) in (
-      itself left tree at (r .accepted) .room,
+    let a : bodyAt tree at + headSize ≤ endAt (levels - 1) tree (bodyAt tree at) = end-after (levels - 1) tree (bodyAt tree at) (j .accepted) in
+    let b : p + records x ≤ endAt (levels - 1) tree p = records-within (levels - 1) tree p (k .accepted) in
+    let d : endAt (levels - 1) tree p ≤ length tree = end-inside (levels - 1) tree p (k .accepted) in (
+      itself levels tree at (r .accepted) .room,
       (
         (omega (arith, c, counter-low ids ctx x false false (s .n)), omega (arith, c, counter-high ids ctx x false false (s .n), a, b, d, e, r .low)),
         omega (arith, z, w .step .ran .atp),

@@ -1,4 +1,4 @@
--- What a typing asks, of the children of a record of which it was asked. Assumes nothing.
+-- What a typing asks, of the children of a record of which it was asked.
 use mathlib.Core.Path.{_≡_, refl, sym, ap, _∙_}
 use mathlib.Core.List.{List}
 use Prim.Native.Nat.{ℕ, _+_, _-_, _≤_}
@@ -12,23 +12,23 @@ use Rattle.prescan.specs.declared.Scope.{Scope}
 use Rattle.typing.specs.declared.Mode.{Mode}
 use Rattle.typing.specs.Did.{Ready, mutableMode}
 
-module _ {left : ℕ} {tree : List ℕ} {at n : ℕ} {scope : Scope} (r : Ready left tree at n scope) where
+module _ {levels : ℕ} {tree : List ℕ} {at n : ℕ} {scope : Scope} (r : Ready levels tree at n scope) where
   -- the first child
-  pub ready-first : {p i : ℕ} {S : String} → Child left tree at i p S → p ≡ bodyAt tree at → Ready (left - 1) tree p n scope
+  pub ready-first : {p i : ℕ} {S : String} → Child levels tree at i p S → p ≡ bodyAt tree at → Ready (levels - 1) tree p n scope
   ready-first k e = record { accepted = k .accepted; root = r .root; low = omega (arith, r .low, e); skips = r .skips }
 
   -- the second one, behind the first
-  pub ready-second : {b p i j : ℕ} {S T : String} → Child left tree at i b S → b ≡ bodyAt tree at → Child left tree at j p T → p ≡ endAt (left - 1) tree b → Ready (left - 1) tree p n scope
-  ready-second {b} j e k f = record { accepted = k .accepted; root = r .root; low = omega (arith, r .low, e, f, end-after (left - 1) tree b (j .accepted)); skips = r .skips }
+  pub ready-second : {b p i j : ℕ} {S T : String} → Child levels tree at i b S → b ≡ bodyAt tree at → Child levels tree at j p T → p ≡ endAt (levels - 1) tree b → Ready (levels - 1) tree p n scope
+  ready-second {b} j e k f = record { accepted = k .accepted; root = r .root; low = omega (arith, r .low, e, f, end-after (levels - 1) tree b (j .accepted)); skips = r .skips }
 
 -- where the second child begins
-pub second-at : (left : ℕ) (tree : List ℕ) (at : ℕ) {p : ℕ} → p ≡ childAt left tree at 1 → p ≡ endAt (left - 1) tree (bodyAt tree at)
-second-at left tree at e = e ∙ child-1 left tree at
+pub second-at : (levels : ℕ) (tree : List ℕ) (at : ℕ) {p : ℕ} → p ≡ childAt levels tree at 1 → p ≡ endAt (levels - 1) tree (bodyAt tree at)
+second-at levels tree at e = e ∙ child-1 levels tree at
 
 -- the same record, at another state
-pub ready-on : {left : ℕ} {tree : List ℕ} {at n m : ℕ} {scope : Scope} → Ready left tree at n scope → m ≡ n → Ready left tree at m scope
+pub ready-on : {levels : ℕ} {tree : List ℕ} {at n m : ℕ} {scope : Scope} → Ready levels tree at n scope → m ≡ n → Ready levels tree at m scope
 ready-on {at = at} r e = record { accepted = r .accepted; root = r .root; low = omega (arith, r .low, e); skips = r .skips }
 
 -- the same record, in the mode of a default
-pub ready-mutable : {left : ℕ} {tree : List ℕ} {at n : ℕ} {scope : Scope} {m : Mode} → Ready left tree at n scope → m ≡ mutableMode scope → Ready left tree at n (m .scope)
+pub ready-mutable : {levels : ℕ} {tree : List ℕ} {at n : ℕ} {scope : Scope} {m : Mode} → Ready levels tree at n scope → m ≡ mutableMode scope → Ready levels tree at n (m .scope)
 ready-mutable r e = rw e r

@@ -1,4 +1,4 @@
--- What a typing is asked, what it gives, and what it did to the two buffers. Assumes nothing: these are definitions.
+-- What a typing is asked, what it gives, and what it did to the two buffers.
 use mathlib.Core.Path.{_≡_}
 use mathlib.Core.List.{List, [], _∷_}
 use mathlib.Core.Bool.{Bool, true, false, _&&_}
@@ -25,10 +25,10 @@ use Rattle.typing.specs.Parts.{readonlyOrSame}
 
 -- ---- what is asked
 
--- the record at `at` of an accepted tree, with `left` levels left; no more names were made than bytes stand before it, and the scope's item ends
+-- the record at `at` of an accepted tree, with `levels` levels left; no more names were made than bytes stand before it, and the scope's item ends
 -- where it says
-pub record Ready (left : ℕ) (tree : List ℕ) (at n : ℕ) (scope : Scope) : Type 0 where
-  pub accepted : AcceptedAt left tree at
+pub record Ready (levels : ℕ) (tree : List ℕ) (at n : ℕ) (scope : Scope) : Type 0 where
+  pub accepted : AcceptedAt levels tree at
   pub root : AcceptedAt deepest tree 0
   pub low : n ≤ at
   pub skips : Skips tree scope
@@ -48,7 +48,7 @@ mutableMode scope = record { scope = scope; as_const = false; as_readonly = fals
 
 -- the type of the expression at `at`
 unfoldable pub typeOf : List ℕ → Mode → ℕ → ℕ → ℕ → Out (Option Rec)
-typeOf tree m left at n = readonlyIf (m .frozen) (exprToTsType (idsOf tree) (m .scope .unresolved) (treeAt left tree at) (m .as_const) (m .as_readonly) n)
+typeOf tree m levels at n = readonlyIf (m .frozen) (exprToTsType (idsOf tree) (m .scope .unresolved) (treeAt levels tree at) (m .as_const) (m .as_readonly) n)
 
 -- ---- what was done
 

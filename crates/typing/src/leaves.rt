@@ -49,9 +49,9 @@ fn decl_kind(as_const: bool) -> DeclMutabilityKind
 }
 
 // `"NaN" | "Infinity" =>` of the `match` in `ident_to_ts_type`, and what follows it.
-fn number_name(tree: &[u8], at: usize, left: usize, out: &mut [u8], p: usize) -> MaybeType
-    requires { ⌜ AcceptedAt left (now tree) at × (markAt (now tree) at ≡ mark "Id") ⌝ }
-    ensures { λ r. ⌜ PutMaybe (now (out .entry)) (now (out .exit)) p (numberName (symbolOf (treeAt left (now (tree .entry)) at))) r ⌝ }
+fn number_name(tree: &[u8], at: usize, levels: usize, out: &mut [u8], p: usize) -> MaybeType
+    requires { ⌜ AcceptedAt levels (now tree) at × (markAt (now tree) at ≡ mark "Id") ⌝ }
+    ensures { λ r. ⌜ PutMaybe (now (out .entry)) (now (out .exit)) p (numberName (symbolOf (treeAt levels (now (tree .entry)) at))) r ⌝ }
 {
     let name = records::text::symbol_at(tree, at);
     if same_text(name, b"NaN") {
@@ -67,46 +67,46 @@ fn number_name(tree: &[u8], at: usize, left: usize, out: &mut [u8], p: usize) ->
 fn global_type(
     tree: &[u8],
     at: usize,
-    left: usize,
+    levels: usize,
     as_const: bool,
     out: &mut [u8],
     p: usize,
 ) -> MaybeType
-    requires { ⌜ AcceptedAt left (now tree) at × (markAt (now tree) at ≡ mark "Id") ⌝ }
-    ensures { λ r. ⌜ PutMaybe (now (out .entry)) (now (out .exit)) p (nameType (symbolOf (treeAt left (now (tree .entry)) at)) as_const) r ⌝ }
+    requires { ⌜ AcceptedAt levels (now tree) at × (markAt (now tree) at ≡ mark "Id") ⌝ }
+    ensures { λ r. ⌜ PutMaybe (now (out .entry)) (now (out .exit)) p (nameType (symbolOf (treeAt levels (now (tree .entry)) at)) as_const) r ⌝ }
 {
     if !as_const {
-        return number_name(tree, at, left, out, p);
+        return number_name(tree, at, levels, out, p);
     }
     if same_text(records::text::symbol_at(tree, at), b"undefined") {
         return some_keyword(DUMMY_SP, TsKeywordTypeKind::TsUndefinedKeyword, out, p);
     }
-    number_name(tree, at, left, out, p)
+    number_name(tree, at, levels, out, p)
 }
 
 // `ident_to_ts_type`.
 pub fn ident_to_ts_type(
     tree: &[u8],
     at: usize,
-    left: usize,
+    levels: usize,
     scope: Scope,
     as_const: bool,
     out: &mut [u8],
     p: usize,
 ) -> MaybeType
-    requires { ⌜ AcceptedAt left (now tree) at × (markAt (now tree) at ≡ mark "Id") ⌝ }
+    requires { ⌜ AcceptedAt levels (now tree) at × (markAt (now tree) at ≡ mark "Id") ⌝ }
     requires { ⌜ AcceptedAt deepest (now tree) 0 ⌝ }
     requires { ⌜ Skips (now tree) scope ⌝ }
     ensures { λ r. ⌜
         PutMaybe (now (out .entry)) (now (out .exit)) p
-        (identToTsType (idsOf (now (tree .entry))) (scope .unresolved) (treeAt left (now (tree .entry)) at) as_const) r
+        (identToTsType (idsOf (now (tree .entry))) (scope .unresolved) (treeAt levels (now (tree .entry)) at) as_const) r
         ⌝ }
 {
     if records::text::context_at(tree, at) == scope.unresolved {
-        return global_type(tree, at, left, as_const, out, p);
+        return global_type(tree, at, levels, as_const, out, p);
     }
-    if prescan::asked(tree, at, left, scope, Question::TypeofSafe) {
-        return MaybeType::Typed(swc_helpers::ts_type_query(tree, at, left, DUMMY_SP, out, p));
+    if prescan::asked(tree, at, levels, scope, Question::TypeofSafe) {
+        return MaybeType::Typed(swc_helpers::ts_type_query(tree, at, levels, DUMMY_SP, out, p));
     }
     MaybeType::Untyped
 }
@@ -115,64 +115,78 @@ pub fn ident_to_ts_type(
 fn new_type(
     tree: &[u8],
     at: usize,
-    left: usize,
+    levels: usize,
     scope: Scope,
     out: &mut [u8],
     p: usize,
 ) -> MaybeType
-    requires { ⌜ AcceptedAt left (now tree) at × (markAt (now tree) at ≡ mark "Ne") ⌝ }
+    requires { ⌜ AcceptedAt levels (now tree) at × (markAt (now tree) at ≡ mark "Ne") ⌝ }
     requires { ⌜ AcceptedAt deepest (now tree) 0 ⌝ }
     requires { ⌜ Skips (now tree) scope ⌝ }
     ensures { λ r. ⌜
-        PutMaybe (now (out .entry)) (now (out .exit)) p (classType (idsOf (now (tree .entry))) (kidsOf (treeAt left (now (tree .entry)) at))) r
+        PutMaybe (now (out .entry)) (now (out .exit)) p (classType (idsOf (now (tree .entry))) (kidsOf (treeAt levels (now (tree .entry)) at))) r
         ⌝ }
 {
     let ident = records::body_at(tree, at);
     if records::mark_at(tree, ident) != ID {
         return MaybeType::Untyped;
     }
-    let type_args = records::record_end(tree, ident, left - 1);
+    let type_args = records::record_end(tree, ident, levels - 1);
     if records::mark_at(tree, type_args) != NO {
         return MaybeType::Untyped;
     }
-    if prescan::asked(tree, ident, left - 1, scope, Question::NonGenericClass) {
-        return MaybeType::Typed(swc_helpers::reference_to(tree, ident, left - 1, DUMMY_SP, out, p));
+    if prescan::asked(tree, ident, levels - 1, scope, Question::NonGenericClass) {
+        return MaybeType::Typed(swc_helpers::reference_to(
+            tree,
+            ident,
+            levels - 1,
+            DUMMY_SP,
+            out,
+            p,
+        ));
     }
     MaybeType::Untyped
 }
 
 // `Expr::TsAs`: its type, copied, or written as `readonly_of` it.
-pub fn as_type(tree: &[u8], at: usize, left: usize, frozen: bool, out: &mut [u8], p: usize) -> usize
-    requires { ⌜ AcceptedAt left (now tree) at × (markAt (now tree) at ≡ mark "As") ⌝ }
-    ensures { λ r. ⌜ Put (now (out .entry)) (now (out .exit)) p (encode (asType frozen (kid 1 (kidsOf (treeAt left (now (tree .entry)) at))))) r ⌝ }
+pub fn as_type(
+    tree: &[u8],
+    at: usize,
+    levels: usize,
+    frozen: bool,
+    out: &mut [u8],
+    p: usize,
+) -> usize
+    requires { ⌜ AcceptedAt levels (now tree) at × (markAt (now tree) at ≡ mark "As") ⌝ }
+    ensures { λ r. ⌜ Put (now (out .entry)) (now (out .exit)) p (encode (asType frozen (kid 1 (kidsOf (treeAt levels (now (tree .entry)) at))))) r ⌝ }
 {
     let expr = records::body_at(tree, at);
-    let type_ann = records::record_end(tree, expr, left - 1);
+    let type_ann = records::record_end(tree, expr, levels - 1);
     if frozen {
-        return readonly_or_same(tree, type_ann, left - 1, out, p);
+        return readonly_or_same(tree, type_ann, levels - 1, out, p);
     }
-    records::put_record(tree, type_ann, left - 1, out, p)
+    records::put_record(tree, type_ann, levels - 1, out, p)
 }
 
 // An array-typed Id that is spread: `Expr::Ident(ident) if self.array_typed_ids.contains(&ident.to_id())`.
 pub fn array_ident(
     tree: &[u8],
     at: usize,
-    left: usize,
+    levels: usize,
     scope: Scope,
     out: &mut [u8],
     p: usize,
 ) -> MaybeType
-    requires { ⌜ AcceptedAt left (now tree) at ⌝ }
+    requires { ⌜ AcceptedAt levels (now tree) at ⌝ }
     requires { ⌜ AcceptedAt deepest (now tree) 0 ⌝ }
     requires { ⌜ Skips (now tree) scope ⌝ }
     ensures { λ r. ⌜
         PutMaybe (now (out .entry)) (now (out .exit)) p
-        (cond (idsOf (now (tree .entry)) .arrayTyped (textAt (now (tree .entry)) at)) (some (tsTypeQuery dummySp (treeAt left (now (tree .entry)) at))) none) r
+        (cond (idsOf (now (tree .entry)) .arrayTyped (textAt (now (tree .entry)) at)) (some (tsTypeQuery dummySp (treeAt levels (now (tree .entry)) at))) none) r
         ⌝ }
 {
-    if prescan::asked(tree, at, left, scope, Question::ArrayTyped) {
-        return MaybeType::Typed(swc_helpers::ts_type_query(tree, at, left, DUMMY_SP, out, p));
+    if prescan::asked(tree, at, levels, scope, Question::ArrayTyped) {
+        return MaybeType::Typed(swc_helpers::ts_type_query(tree, at, levels, DUMMY_SP, out, p));
     }
     MaybeType::Untyped
 }
@@ -182,33 +196,33 @@ pub fn array_ident(
 pub fn leaf_type(
     tree: &[u8],
     at: usize,
-    left: usize,
+    levels: usize,
     mode: Mode,
     out: &mut [u8],
     p: usize,
 ) -> MaybeType
-    requires { ⌜ AcceptedAt left (now tree) at ⌝ }
+    requires { ⌜ AcceptedAt levels (now tree) at ⌝ }
     requires { ⌜ AcceptedAt deepest (now tree) 0 ⌝ }
     requires { ⌜ Skips (now tree) (mode .scope) ⌝ }
-    ensures { λ r. ⌜ PutMaybe (now (out .entry)) (now (out .exit)) p (leafType (now (tree .entry)) mode left at) r ⌝ }
+    ensures { λ r. ⌜ PutMaybe (now (out .entry)) (now (out .exit)) p (leafType (now (tree .entry)) mode levels at) r ⌝ }
 {
     let kind = decl_kind(mode.as_const);
     match records::mark_at(tree, at) {
         SS | BL | NL | NU | BI | RE | JT => swc_helpers::maybe_lit_to_ts_type(
             tree,
             at,
-            left,
+            levels,
             kind,
             out,
             p,
         ),
-        TE => MaybeType::Typed(swc_helpers::tpl_to_ts_type(tree, at, left, kind, out, p)),
-        ID => ident_to_ts_type(tree, at, left, mode.scope, mode.as_const, out, p),
+        TE => MaybeType::Typed(swc_helpers::tpl_to_ts_type(tree, at, levels, kind, out, p)),
+        ID => ident_to_ts_type(tree, at, levels, mode.scope, mode.as_const, out, p),
         MI => {
             let arg = records::body_at(tree, at);
-            swc_helpers::minus_lit_to_ts_type(tree, arg, left - 1, kind, out, p)
+            swc_helpers::minus_lit_to_ts_type(tree, arg, levels - 1, kind, out, p)
         }
-        NE => new_type(tree, at, left, mode.scope, out, p),
+        NE => new_type(tree, at, levels, mode.scope, out, p),
         _ => MaybeType::Untyped,
     }
 }

@@ -193,21 +193,21 @@ pub fn skipped(tree: &[u8], at: usize, code: u16, diagnostics: &mut [u8], s: Sta
 fn shorthand(
     tree: &[u8],
     at: usize,
-    left: usize,
+    levels: usize,
     mode: Mode,
     out: &mut [u8],
     diagnostics: &mut [u8],
     s: State,
 ) -> Counted
-    requires { ⌜ Ready left (now tree) at (s .n) (mode .scope) × (markAt (now tree) at ≡ mark "Sh") ⌝ }
+    requires { ⌜ Ready levels (now tree) at (s .n) (mode .scope) × (markAt (now tree) at ≡ mark "Sh") ⌝ }
     ensures { λ r. ⌜
         Gives (now (out .entry)) (now (out .exit)) (now (diagnostics .entry)) (now (diagnostics .exit)) s r
-        (memberType (now (tree .entry)) mode left at (s .n))
+        (memberType (now (tree .entry)) mode levels at (s .n))
         ⌝ }
 {
     let ident = records::body_at(tree, at);
-    let q = put_shorthand(tree, ident, left - 1, is_readonly(mode), out, s.p);
-    let made = ident_to_ts_type(tree, ident, left - 1, mode.scope, mode.as_const, out, q);
+    let q = put_shorthand(tree, ident, levels - 1, is_readonly(mode), out, s.p);
+    let made = ident_to_ts_type(tree, ident, levels - 1, mode.scope, mode.as_const, out, q);
     let MaybeType::Typed(end) = made else {
         return skipped(tree, at, D3, diagnostics, s);
     };
@@ -242,44 +242,44 @@ fn params_from(function: bool) -> usize
 pub fn expr_to_ts_type(
     tree: &[u8],
     at: usize,
-    left: usize,
+    levels: usize,
     mode: Mode,
     out: &mut [u8],
     diagnostics: &mut [u8],
     s: State,
 ) -> Typed
-    requires { ⌜ Ready left (now tree) at (s .n) (mode .scope) ⌝ }
+    requires { ⌜ Ready levels (now tree) at (s .n) (mode .scope) ⌝ }
     ensures { λ r. ⌜
         Did (now (out .entry)) (now (out .exit)) (now (diagnostics .entry)) (now (diagnostics .exit)) s r
-        (typeOf (now (tree .entry)) mode left at (s .n))
+        (typeOf (now (tree .entry)) mode levels at (s .n))
         ⌝ }
 {
     match records::mark_at(tree, at) {
-        AR => array_type(tree, at, left, mode, out, diagnostics, s),
-        OB => object_type(tree, at, left, mode, out, diagnostics, s),
+        AR => array_type(tree, at, levels, mode, out, diagnostics, s),
+        OB => object_type(tree, at, levels, mode, out, diagnostics, s),
         TC => {
             let mut asserted = mode;
             asserted.as_const = true;
             asserted.as_readonly = true;
             let expr = records::body_at(tree, at);
-            expr_to_ts_type(tree, expr, left - 1, asserted, out, diagnostics, s)
+            expr_to_ts_type(tree, expr, levels - 1, asserted, out, diagnostics, s)
         }
         TS => {
             let expr = records::body_at(tree, at);
-            expr_to_ts_type(tree, expr, left - 1, mode, out, diagnostics, s)
+            expr_to_ts_type(tree, expr, levels - 1, mode, out, diagnostics, s)
         }
         AS => {
             let mut next = s;
-            next.p = as_type(tree, at, left, mode.frozen, out, s.p);
+            next.p = as_type(tree, at, levels, mode.frozen, out, s.p);
             Typed::Some(next)
         }
         FX => {
-            let fu = child_at(tree, at, left, 1);
-            function_type(tree, fu, left - 1, mode.scope, true, out, diagnostics, s)
+            let fu = child_at(tree, at, levels, 1);
+            function_type(tree, fu, levels - 1, mode.scope, true, out, diagnostics, s)
         }
-        AW => function_type(tree, at, left, mode.scope, false, out, diagnostics, s),
-        CA => call_type(tree, at, left, mode, out, diagnostics, s),
-        _ => answer_of(s, leaf_type(tree, at, left, mode, out, s.p)),
+        AW => function_type(tree, at, levels, mode.scope, false, out, diagnostics, s),
+        CA => call_type(tree, at, levels, mode, out, diagnostics, s),
+        _ => answer_of(s, leaf_type(tree, at, levels, mode, out, s.p)),
     }
 }
 
@@ -287,24 +287,24 @@ pub fn expr_to_ts_type(
 fn array_type(
     tree: &[u8],
     at: usize,
-    left: usize,
+    levels: usize,
     mode: Mode,
     out: &mut [u8],
     diagnostics: &mut [u8],
     s: State,
 ) -> Typed
-    requires { ⌜ Ready left (now tree) at (s .n) (mode .scope) × (markAt (now tree) at ≡ mark "Ar") ⌝ }
+    requires { ⌜ Ready levels (now tree) at (s .n) (mode .scope) × (markAt (now tree) at ≡ mark "Ar") ⌝ }
     ensures { λ r. ⌜
         Did (now (out .entry)) (now (out .exit)) (now (diagnostics .entry)) (now (diagnostics .exit)) s r
-        (typeOf (now (tree .entry)) mode left at (s .n))
+        (typeOf (now (tree .entry)) mode levels at (s .n))
         ⌝ }
 {
     if !is_readonly(mode) {
-        return tuple_type(tree, at, left, mode, out, diagnostics, s);
+        return tuple_type(tree, at, levels, mode, out, diagnostics, s);
     }
     let mut next = s;
     next.p = swc_helpers::ts_readonly(DUMMY_SP, out, s.p);
-    match tuple_type(tree, at, left, mode, out, diagnostics, next) {
+    match tuple_type(tree, at, levels, mode, out, diagnostics, next) {
         Typed::Some(made) => Typed::Some(made),
         Typed::None(failed) => Typed::None(back(s, failed)),
     }
@@ -314,16 +314,16 @@ fn array_type(
 fn tuple_type(
     tree: &[u8],
     at: usize,
-    left: usize,
+    levels: usize,
     mode: Mode,
     out: &mut [u8],
     diagnostics: &mut [u8],
     s: State,
 ) -> Typed
-    requires { ⌜ Ready left (now tree) at (s .n) (mode .scope) ⌝ }
+    requires { ⌜ Ready levels (now tree) at (s .n) (mode .scope) ⌝ }
     ensures { λ r. ⌜
         Did (now (out .entry)) (now (out .exit)) (now (diagnostics .entry)) (now (diagnostics .exit)) s r
-        (tupleType (now (tree .entry)) mode left at (s .n))
+        (tupleType (now (tree .entry)) mode levels at (s .n))
         ⌝ }
 {
     let head = records::read_head(tree, at);
@@ -333,7 +333,7 @@ fn tuple_type(
     next.p = records::advance(s.p, HEAD_SIZE);
     let mut count = 0;
     while 0 < n {
-        match element_type(tree, child, left - 1, mode, out, diagnostics, next) {
+        match element_type(tree, child, levels - 1, mode, out, diagnostics, next) {
             Elements::All(made) => {
                 next = made.s;
                 count += made.count;
@@ -342,7 +342,7 @@ fn tuple_type(
                 return Typed::None(back(s, failed));
             }
         }
-        child = records::record_end(tree, child, left - 1);
+        child = records::record_end(tree, child, levels - 1);
         n -= 1;
     }
     let range = Range {
@@ -357,22 +357,22 @@ fn tuple_type(
 fn element_type(
     tree: &[u8],
     at: usize,
-    left: usize,
+    levels: usize,
     mode: Mode,
     out: &mut [u8],
     diagnostics: &mut [u8],
     s: State,
 ) -> Elements
-    requires { ⌜ Ready left (now tree) at (s .n) (mode .scope) ⌝ }
+    requires { ⌜ Ready levels (now tree) at (s .n) (mode .scope) ⌝ }
     ensures { λ r. ⌜
         DidAll (now (out .entry)) (now (out .exit)) (now (diagnostics .entry)) (now (diagnostics .exit)) s r
-        (elementType (now (tree .entry)) mode left at (s .n))
+        (elementType (now (tree .entry)) mode levels at (s .n))
         ⌝ }
 {
     let mut next = s;
     match records::mark_at(tree, at) {
         OP => Elements::All(Counted { s, count: 0 }),
-        SP => spread_type(tree, at, left, mode, out, diagnostics, s),
+        SP => spread_type(tree, at, levels, mode, out, diagnostics, s),
         NO => {
             let q = swc_helpers::ts_tuple_element(DUMMY_SP, out, s.p);
             next.p = swc_helpers::any_type_ann(DUMMY_SP, out, q);
@@ -382,7 +382,7 @@ fn element_type(
             let mut inner = mode;
             inner.frozen = false;
             next.p = swc_helpers::ts_tuple_element(DUMMY_SP, out, s.p);
-            let t = expr_to_ts_type(tree, at, left, inner, out, diagnostics, next);
+            let t = expr_to_ts_type(tree, at, levels, inner, out, diagnostics, next);
             let made = or_any(tree, at, D1, t, out, diagnostics);
             Elements::All(Counted { s: made, count: 1 })
         }
@@ -393,23 +393,23 @@ fn element_type(
 fn spread_type(
     tree: &[u8],
     at: usize,
-    left: usize,
+    levels: usize,
     mode: Mode,
     out: &mut [u8],
     diagnostics: &mut [u8],
     s: State,
 ) -> Elements
-    requires { ⌜ Ready left (now tree) at (s .n) (mode .scope) × (markAt (now tree) at ≡ mark "Sp") ⌝ }
+    requires { ⌜ Ready levels (now tree) at (s .n) (mode .scope) × (markAt (now tree) at ≡ mark "Sp") ⌝ }
     ensures { λ r. ⌜
         DidAll (now (out .entry)) (now (out .exit)) (now (diagnostics .entry)) (now (diagnostics .exit)) s r
-        (elementType (now (tree .entry)) mode left at (s .n))
+        (elementType (now (tree .entry)) mode levels at (s .n))
         ⌝ }
 {
     let expr = records::body_at(tree, at);
     let q = swc_helpers::ts_tuple_element(DUMMY_SP, out, s.p);
     let mut next = s;
     next.p = swc_helpers::ts_rest_type(DUMMY_SP, out, q);
-    match rest_type(tree, expr, left - 1, mode, out, diagnostics, next) {
+    match rest_type(tree, expr, levels - 1, mode, out, diagnostics, next) {
         Typed::Some(made) => Elements::All(Counted { s: made, count: 1 }),
         Typed::None(failed) => {
             let given_up = back(s, failed);
@@ -422,25 +422,25 @@ fn spread_type(
 fn rest_type(
     tree: &[u8],
     at: usize,
-    left: usize,
+    levels: usize,
     mode: Mode,
     out: &mut [u8],
     diagnostics: &mut [u8],
     s: State,
 ) -> Typed
-    requires { ⌜ Ready left (now tree) at (s .n) (mode .scope) ⌝ }
+    requires { ⌜ Ready levels (now tree) at (s .n) (mode .scope) ⌝ }
     ensures { λ r. ⌜
         Did (now (out .entry)) (now (out .exit)) (now (diagnostics .entry)) (now (diagnostics .exit)) s r
-        (restType (now (tree .entry)) mode left at (s .n))
+        (restType (now (tree .entry)) mode levels at (s .n))
         ⌝ }
 {
     match records::mark_at(tree, at) {
-        ID => answer_of(s, array_ident(tree, at, left, mode.scope, out, s.p)),
+        ID => answer_of(s, array_ident(tree, at, levels, mode.scope, out, s.p)),
         AR => {
             let mut inner = mode;
             inner.as_readonly = false;
             inner.frozen = false;
-            expr_to_ts_type(tree, at, left, inner, out, diagnostics, s)
+            expr_to_ts_type(tree, at, levels, inner, out, diagnostics, s)
         }
         _ => Typed::None(s),
     }
@@ -450,16 +450,16 @@ fn rest_type(
 fn object_type(
     tree: &[u8],
     at: usize,
-    left: usize,
+    levels: usize,
     mode: Mode,
     out: &mut [u8],
     diagnostics: &mut [u8],
     s: State,
 ) -> Typed
-    requires { ⌜ Ready left (now tree) at (s .n) (mode .scope) × (markAt (now tree) at ≡ mark "Ob") ⌝ }
+    requires { ⌜ Ready levels (now tree) at (s .n) (mode .scope) × (markAt (now tree) at ≡ mark "Ob") ⌝ }
     ensures { λ r. ⌜
         Did (now (out .entry)) (now (out .exit)) (now (diagnostics .entry)) (now (diagnostics .exit)) s r
-        (typeOf (now (tree .entry)) mode left at (s .n))
+        (typeOf (now (tree .entry)) mode levels at (s .n))
         ⌝ }
 {
     let head = records::read_head(tree, at);
@@ -469,10 +469,10 @@ fn object_type(
     next.p = records::advance(s.p, HEAD_SIZE);
     let mut count = 0;
     while 0 < n {
-        let made = property_type(tree, child, left - 1, mode, out, diagnostics, next);
+        let made = property_type(tree, child, levels - 1, mode, out, diagnostics, next);
         next = made.s;
         count += made.count;
-        child = records::record_end(tree, child, left - 1);
+        child = records::record_end(tree, child, levels - 1);
         n -= 1;
     }
     let range = Range {
@@ -487,21 +487,21 @@ fn object_type(
 fn property_type(
     tree: &[u8],
     at: usize,
-    left: usize,
+    levels: usize,
     mode: Mode,
     out: &mut [u8],
     diagnostics: &mut [u8],
     s: State,
 ) -> Counted
-    requires { ⌜ Ready left (now tree) at (s .n) (mode .scope) ⌝ }
+    requires { ⌜ Ready levels (now tree) at (s .n) (mode .scope) ⌝ }
     ensures { λ r. ⌜
         Gives (now (out .entry)) (now (out .exit)) (now (diagnostics .entry)) (now (diagnostics .exit)) s r
-        (memberType (now (tree .entry)) mode left at (s .n))
+        (memberType (now (tree .entry)) mode levels at (s .n))
         ⌝ }
 {
     match records::mark_at(tree, at) {
-        KV => key_value(tree, at, left, mode, out, diagnostics, s),
-        SH => shorthand(tree, at, left, mode, out, diagnostics, s),
+        KV => key_value(tree, at, levels, mode, out, diagnostics, s),
+        SH => shorthand(tree, at, levels, mode, out, diagnostics, s),
         SP => skipped(tree, at, D4, diagnostics, s),
         OP => Counted { s, count: 0 },
         _ => skipped(tree, at, D3, diagnostics, s),
@@ -512,24 +512,24 @@ fn property_type(
 fn key_value(
     tree: &[u8],
     at: usize,
-    left: usize,
+    levels: usize,
     mode: Mode,
     out: &mut [u8],
     diagnostics: &mut [u8],
     s: State,
 ) -> Counted
-    requires { ⌜ Ready left (now tree) at (s .n) (mode .scope) × (markAt (now tree) at ≡ mark "Kv") ⌝ }
+    requires { ⌜ Ready levels (now tree) at (s .n) (mode .scope) × (markAt (now tree) at ≡ mark "Kv") ⌝ }
     ensures { λ r. ⌜
         Gives (now (out .entry)) (now (out .exit)) (now (diagnostics .entry)) (now (diagnostics .exit)) s r
-        (memberType (now (tree .entry)) mode left at (s .n))
+        (memberType (now (tree .entry)) mode levels at (s .n))
         ⌝ }
 {
     let key = records::body_at(tree, at);
-    let value = records::record_end(tree, key, left - 1);
+    let value = records::record_end(tree, key, levels - 1);
     let mut inner = mode;
     inner.frozen = false;
-    let next = put_keyed(tree, key, left - 1, is_readonly(mode), out, s);
-    let t = expr_to_ts_type(tree, value, left - 1, inner, out, diagnostics, next);
+    let next = put_keyed(tree, key, levels - 1, is_readonly(mode), out, s);
+    let t = expr_to_ts_type(tree, value, levels - 1, inner, out, diagnostics, next);
     let made = or_any(tree, value, D2, t, out, diagnostics);
     Counted { s: made, count: 1 }
 }
@@ -539,29 +539,29 @@ fn key_value(
 fn call_type(
     tree: &[u8],
     at: usize,
-    left: usize,
+    levels: usize,
     mode: Mode,
     out: &mut [u8],
     diagnostics: &mut [u8],
     s: State,
 ) -> Typed
-    requires { ⌜ Ready left (now tree) at (s .n) (mode .scope) × (markAt (now tree) at ≡ mark "Ca") ⌝ }
+    requires { ⌜ Ready levels (now tree) at (s .n) (mode .scope) × (markAt (now tree) at ≡ mark "Ca") ⌝ }
     ensures { λ r. ⌜
         Did (now (out .entry)) (now (out .exit)) (now (diagnostics .entry)) (now (diagnostics .exit)) s r
-        (typeOf (now (tree .entry)) mode left at (s .n))
+        (typeOf (now (tree .entry)) mode levels at (s .n))
         ⌝ }
 {
-    let found = swc_helpers::object_freeze_call_arg(tree, at, left, mode.scope.unresolved);
+    let found = swc_helpers::object_freeze_call_arg(tree, at, levels, mode.scope.unresolved);
     let Found::At(arg) = found else {
         return Typed::None(s);
     };
     let mut frozen = mode;
     frozen.frozen = true;
-    let inner_type = expr_to_ts_type(tree, arg, left - 1, frozen, out, diagnostics, s);
+    let inner_type = expr_to_ts_type(tree, arg, levels - 1, frozen, out, diagnostics, s);
     let Typed::Some(next) = inner_type else {
         return inner_type;
     };
-    if !has_readonly(tree, arg, left - 1) {
+    if !has_readonly(tree, arg, levels - 1) {
         return Typed::None(back(s, next));
     }
     Typed::Some(next)
@@ -571,32 +571,32 @@ fn call_type(
 fn function_type(
     tree: &[u8],
     at: usize,
-    left: usize,
+    levels: usize,
     scope: Scope,
     function: bool,
     out: &mut [u8],
     diagnostics: &mut [u8],
     s: State,
 ) -> Typed
-    requires { ⌜ Ready left (now tree) at (s .n) scope × (markAt (now tree) at ≡ functionMark function) ⌝ }
+    requires { ⌜ Ready levels (now tree) at (s .n) scope × (markAt (now tree) at ≡ functionMark function) ⌝ }
     ensures { λ r. ⌜
         Did (now (out .entry)) (now (out .exit)) (now (diagnostics .entry)) (now (diagnostics .exit)) s r
-        (functionOf (now (tree .entry)) (scope .unresolved) function left at (s .n))
+        (functionOf (now (tree .entry)) (scope .unresolved) function levels at (s .n))
         ⌝ }
 {
     let head = records::read_head(tree, at);
     let first = params_from(function);
     let mut n = head.count - first;
-    let mut child = child_at(tree, at, left, first);
+    let mut child = child_at(tree, at, levels, first);
     let q = records::advance(s.p, HEAD_SIZE);
     let mut next = s;
-    next.p = put_fn_front(tree, at, left, out, q);
+    next.p = put_fn_front(tree, at, levels, out, q);
     let mut count = 0;
     while 0 < n {
         let made = param_type(
             tree,
             child,
-            left - 1,
+            levels - 1,
             scope,
             function,
             out,
@@ -605,7 +605,7 @@ fn function_type(
         );
         next = made.s;
         count += made.count;
-        child = records::record_end(tree, child, left - 1);
+        child = records::record_end(tree, child, levels - 1);
         n -= 1;
     }
     let range = Range {
@@ -620,57 +620,57 @@ fn function_type(
 fn param_type(
     tree: &[u8],
     at: usize,
-    left: usize,
+    levels: usize,
     scope: Scope,
     function: bool,
     out: &mut [u8],
     diagnostics: &mut [u8],
     s: State,
 ) -> Counted
-    requires { ⌜ Ready left (now tree) at (s .n) scope ⌝ }
+    requires { ⌜ Ready levels (now tree) at (s .n) scope ⌝ }
     ensures { λ r. ⌜
         Gives (now (out .entry)) (now (out .exit)) (now (diagnostics .entry)) (now (diagnostics .exit)) s r
-        (paramType (now (tree .entry)) (scope .unresolved) function left at (s .n))
+        (paramType (now (tree .entry)) (scope .unresolved) function levels at (s .n))
         ⌝ }
 {
     if !function {
-        return one_or_none(pat_to_ts_fn_param(tree, at, left, scope, out, diagnostics, s));
+        return one_or_none(pat_to_ts_fn_param(tree, at, levels, scope, out, diagnostics, s));
     }
     if records::mark_at(tree, at) != PA {
         return Counted { s, count: 0 };
     }
     let pattern = records::body_at(tree, at);
-    one_or_none(pat_to_ts_fn_param(tree, pattern, left - 1, scope, out, diagnostics, s))
+    one_or_none(pat_to_ts_fn_param(tree, pattern, levels - 1, scope, out, diagnostics, s))
 }
 
 // `pat_to_ts_fn_param`.
 pub fn pat_to_ts_fn_param(
     tree: &[u8],
     at: usize,
-    left: usize,
+    levels: usize,
     scope: Scope,
     out: &mut [u8],
     diagnostics: &mut [u8],
     s: State,
 ) -> Typed
-    requires { ⌜ Ready left (now tree) at (s .n) scope ⌝ }
+    requires { ⌜ Ready levels (now tree) at (s .n) scope ⌝ }
     ensures { λ r. ⌜
         Gave (now (out .entry)) (now (out .exit)) (now (diagnostics .entry)) (now (diagnostics .exit)) s r
-        (patType (now (tree .entry)) (scope .unresolved) left at (s .n))
+        (patType (now (tree .entry)) (scope .unresolved) levels at (s .n))
         ⌝ }
 {
     match records::mark_at(tree, at) {
         BD | PB | RS | PO => {
             let mut next = s;
-            next.p = records::put_record(tree, at, left, out, s.p);
+            next.p = records::put_record(tree, at, levels, out, s.p);
             Typed::Some(next)
         }
         AG => {
             let pattern = records::body_at(tree, at);
             if records::mark_at(tree, pattern) == BD {
-                return named_param(tree, at, left, scope, out, diagnostics, s);
+                return named_param(tree, at, levels, scope, out, diagnostics, s);
             }
-            unnamed_param(tree, at, left, scope, out, diagnostics, s)
+            unnamed_param(tree, at, levels, scope, out, diagnostics, s)
         }
         PE => {
             let expr = records::body_at(tree, at);
@@ -684,26 +684,26 @@ pub fn pat_to_ts_fn_param(
 fn named_param(
     tree: &[u8],
     at: usize,
-    left: usize,
+    levels: usize,
     scope: Scope,
     out: &mut [u8],
     diagnostics: &mut [u8],
     s: State,
 ) -> Typed
-    requires { ⌜ Ready left (now tree) at (s .n) scope × (markAt (now tree) at ≡ mark "Ag") ⌝ }
+    requires { ⌜ Ready levels (now tree) at (s .n) scope × (markAt (now tree) at ≡ mark "Ag") ⌝ }
     requires { ⌜ markAt (now tree) (bodyAt (now tree) at) ≡ mark "Bd" ⌝ }
     ensures { λ r. ⌜
         Gave (now (out .entry)) (now (out .exit)) (now (diagnostics .entry)) (now (diagnostics .exit)) s r
-        (patType (now (tree .entry)) (scope .unresolved) left at (s .n))
+        (patType (now (tree .entry)) (scope .unresolved) levels at (s .n))
         ⌝ }
 {
-    let right = child_at(tree, at, left, 1);
+    let right = child_at(tree, at, levels, 1);
     let mut next = s;
-    next.p = put_named(tree, at, left, out, s.p);
+    next.p = put_named(tree, at, levels, out, s.p);
     match expr_to_ts_type(
         tree,
         right,
-        left - 1,
+        levels - 1,
         mutable(scope),
         out,
         diagnostics,
@@ -718,26 +718,26 @@ fn named_param(
 fn unnamed_param(
     tree: &[u8],
     at: usize,
-    left: usize,
+    levels: usize,
     scope: Scope,
     out: &mut [u8],
     diagnostics: &mut [u8],
     s: State,
 ) -> Typed
-    requires { ⌜ Ready left (now tree) at (s .n) scope × (markAt (now tree) at ≡ mark "Ag") ⌝ }
+    requires { ⌜ Ready levels (now tree) at (s .n) scope × (markAt (now tree) at ≡ mark "Ag") ⌝ }
     requires { ⌜ (markAt (now tree) (bodyAt (now tree) at) ≡ mark "Bd" → ⊥) ⌝ }
     ensures { λ r. ⌜
         Gave (now (out .entry)) (now (out .exit)) (now (diagnostics .entry)) (now (diagnostics .exit)) s r
-        (patType (now (tree .entry)) (scope .unresolved) left at (s .n))
+        (patType (now (tree .entry)) (scope .unresolved) levels at (s .n))
         ⌝ }
 {
-    let right = child_at(tree, at, left, 1);
+    let right = child_at(tree, at, levels, 1);
     let mut next = s;
     next.p = records::advance(s.p, unique_binding_size(s.n + 1));
     match expr_to_ts_type(
         tree,
         right,
-        left - 1,
+        levels - 1,
         mutable(scope),
         out,
         diagnostics,

@@ -1,4 +1,4 @@
--- `class_body_to_type` meets its contract. Assumes nothing.
+-- `class_body_to_type` meets its contract.
 use Prim.Native.Nat.{_-_}
 use native.Mathlib.Omega.{arith}
 use borrow.Author.Needs.{needs}
@@ -19,11 +19,11 @@ use Rattle.records.proofs.read_head.Reads as read-head-reads
 use Rattle.records.proofs.record_end.Reads as record-end-reads
 
 abbrev Inv-loop : tie.InvT-loop
-Inv-loop tree at left scope list out₀ diagnostics₀ s head type-params n₀ child₀ next₀ count₀ out diagnostics n child next count =
-    Body list scope (left - 1) tree n₀ child₀ out₀ out diagnostics₀ diagnostics next₀ next n child count
+Inv-loop tree at levels scope list out₀ diagnostics₀ s head type-params n₀ child₀ next₀ count₀ out diagnostics n child next count =
+    Body list scope (levels - 1) tree n₀ child₀ out₀ out diagnostics₀ diagnostics next₀ next n child count
 
 abbrev μ-loop : tie.MeasureT-loop
-μ-loop tree at left scope list out₀ diagnostics₀ s head type-params n₀ child₀ next₀ count₀ out diagnostics n child next count =
+μ-loop tree at levels scope list out₀ diagnostics₀ s head type-params n₀ child₀ next₀ count₀ out diagnostics n child next count =
     n
 
 read-head-requires : tie.Need-read-head-requires Inv-loop μ-loop

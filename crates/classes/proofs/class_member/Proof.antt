@@ -1,4 +1,4 @@
--- `class_member` meets its contract. Assumes nothing.
+-- `class_member` meets its contract.
 use native.Mathlib.Omega.{arith}
 use Rattle.records.proofs.Accepted.{room}
 use Rattle.typing.proofs.Props.{gives-none}

@@ -1,4 +1,4 @@
--- `class_prop` meets its contract. Assumes nothing.
+-- `class_prop` meets its contract.
 use mathlib.Core.Path.{refl, ap, _∙_}
 use mathlib.Core.Logic.{inl, inr}
 use native.Mathlib.Omega.{arith}

@@ -1,4 +1,4 @@
--- `console::front_mut` meets its contract: `take` past the end gives all. Assumes nothing.
+-- `console::front_mut` meets its contract: `take` past the end gives all.
 use mathlib.Core.Path.{sym}
 use borrow.Author.Needs.{needs}
 use native.Mathlib.Omega.{arith}

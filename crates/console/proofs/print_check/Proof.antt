@@ -1,4 +1,4 @@
--- `console::print_check` meets its contract: the root of a tree that was checked is accepted. Assumes nothing.
+-- `console::print_check` meets its contract: the root of a tree that was checked is accepted.
 use mathlib.Core.Path.{_≡_, sym, ap, _∙_}
 use Prim.Native.Nat.{ℕ}
 use borrow.Author.Needs.{needs}

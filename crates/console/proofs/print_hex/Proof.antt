@@ -1,4 +1,4 @@
--- `console::print_hex` is safe and ends: each turn leaves one byte less. Assumes nothing.
+-- `console::print_hex` is safe and ends: each turn leaves one byte less.
 use Prim.Native.Nat.{_≤_, _-_}
 use borrow.Author.Needs.{needs}
 use lib.ListN.{length}

@@ -1,4 +1,4 @@
--- `console::read_bytes` meets its contract: the bytes fit in the buffer, and what was read is at its start. Assumes nothing.
+-- `console::read_bytes` meets its contract: the bytes fit in the buffer, and what was read is at its start.
 use borrow.Author.Needs.{needs}
 use native.Mathlib.Omega.{arith}
 use lib.ListN.{length-take, length-append}

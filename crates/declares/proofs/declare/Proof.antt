@@ -1,4 +1,4 @@
--- `declares::declare` is safe: the diagnostics lie in their buffer. Assumes nothing.
+-- `declares::declare` is safe: the diagnostics lie in their buffer.
 use borrow.Author.Needs.{needs}
 use Rattle.transform_dts.proofs.Calls.{marked-inside}
 use Rattle.declares.proofs.declare.Statement.{statement}

@@ -1,4 +1,4 @@
--- `declares::show_diagnostics` is safe and ends: each turn passes one diagnostic. Assumes nothing.
+-- `declares::show_diagnostics` is safe and ends: each turn passes one diagnostic.
 use Prim.Native.Nat.{_+_, _*_, _≤_}
 use borrow.Author.Needs.{needs}
 use lib.ListN.{length}

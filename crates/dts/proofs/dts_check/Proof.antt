@@ -1,4 +1,4 @@
--- `dts_check` meets its contract: both numbers are those of what `check_tree` found. Assumes nothing.
+-- `dts_check` meets its contract: both numbers are those of what `check_tree` found.
 use borrow.Author.Needs.{needs}
 use mathlib.Core.Path.{sym, ap, _∙_}
 use Rattle.grammar.specs.Answers.{checked}

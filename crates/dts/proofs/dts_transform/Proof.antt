@@ -1,4 +1,4 @@
--- `dts_transform` meets its contract: both numbers and both buffers are those of the call. Assumes nothing.
+-- `dts_transform` meets its contract: both numbers and both buffers are those of the call.
 use Rattle.dts.proofs.Codes.{coded-done, coded-refused}
 use borrow.Author.Needs.{needs}
 use Rattle.dts.proofs.dts_transform.Statement.{statement}

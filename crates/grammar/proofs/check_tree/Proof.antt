@@ -1,4 +1,4 @@
--- `grammar::check_tree` meets its contract. Assumes nothing.
+-- `grammar::check_tree` meets its contract.
 use mathlib.Core.Path.{sym, ap, _∙_}
 use borrow.Author.Tests.{not-true, not-false}
 use borrow.Author.Needs.{needs}

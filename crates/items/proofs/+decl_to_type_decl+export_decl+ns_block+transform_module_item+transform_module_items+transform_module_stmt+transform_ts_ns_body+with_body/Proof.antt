@@ -1,4 +1,4 @@
--- The cycle of `transform_module_items`: each member meets its contract, and the remaining depth falls. Assumes nothing.
+-- The cycle of `transform_module_items`: each member meets its contract, and the remaining depth falls.
 mod Base
 mod M-decl-to-type-decl
 mod M-export-decl

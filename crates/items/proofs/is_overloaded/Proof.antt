@@ -1,4 +1,4 @@
--- `is_overloaded` meets its contract. Assumes nothing.
+-- `is_overloaded` meets its contract.
 use Rattle.items.proofs.Items.{goes-not, goes-if}
 use borrow.Author.Needs.{needs}
 use Rattle.items.proofs.is_overloaded.Statement.{statement}

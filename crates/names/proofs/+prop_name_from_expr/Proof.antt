@@ -1,4 +1,4 @@
--- `names::prop_name_from_expr` meets its contract: in each arm the mark picks the definition's case. The measure is the depth left. Assumes nothing.
+-- `names::prop_name_from_expr` meets its contract: in each arm the mark picks the definition's case. The measure is the depth left.
 use mathlib.Core.Path.{sym, _∙_}
 use Prim.Native.Nat.{ℕ, _<_}
 use native.Mathlib.Omega.{arith}

@@ -1,4 +1,4 @@
--- `names::is_one_expression` meets its contract. Assumes nothing.
+-- `names::is_one_expression` meets its contract.
 use mathlib.Core.Path.{sym}
 use native.Mathlib.Omega.{arith}
 use Rattle.records.proofs.Accepted.{room, lies, level}

@@ -1,4 +1,4 @@
--- `names::is_well_known_symbol_expr` meets its contract: the object and the property are where the definition has them. Assumes nothing.
+-- `names::is_well_known_symbol_expr` meets its contract: the object and the property are where the definition has them.
 use mathlib.Core.Path.{sym, _∙_}
 use native.Mathlib.Omega.{arith}
 use borrow.Author.Needs.{needs}

@@ -1,4 +1,4 @@
--- `names::valid_prop_name` meets its contract. Assumes nothing.
+-- `names::valid_prop_name` meets its contract.
 use mathlib.Core.Path.{sym}
 use native.Mathlib.Omega.{arith}
 use Rattle.records.proofs.Accepted.{room, level}

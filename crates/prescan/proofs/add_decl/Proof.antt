@@ -1,4 +1,4 @@
--- `prescan::add_decl` meets its contract: in each arm the mark picks the definition's case. Assumes nothing.
+-- `prescan::add_decl` meets its contract: in each arm the mark picks the definition's case.
 use mathlib.Core.Path.{sym, _∙_}
 use native.Mathlib.Omega.{arith}
 use borrow.Author.Needs.{needs}

@@ -1,4 +1,4 @@
--- `prescan::add_declarator` meets its contract: the children that it reads are where the definition has them. Assumes nothing.
+-- `prescan::add_declarator` meets its contract: the children that it reads are where the definition has them.
 use mathlib.Core.Path.{sym, _∙_}
 use native.Mathlib.Omega.{arith}
 use Rattle.records.proofs.Accepted.{room, lies, level}

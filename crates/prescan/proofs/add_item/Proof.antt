@@ -1,4 +1,4 @@
--- `prescan::add_item` meets its contract. Assumes nothing.
+-- `prescan::add_item` meets its contract.
 use mathlib.Core.Path.{sym, _∙_}
 use native.Mathlib.Omega.{arith}
 use borrow.Author.Needs.{needs}

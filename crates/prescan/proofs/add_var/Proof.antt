@@ -1,4 +1,4 @@
--- `prescan::add_var` meets its contract: each turn of the loop passes one declarator that does not add the name. Assumes nothing.
+-- `prescan::add_var` meets its contract: each turn of the loop passes one declarator that does not add the name.
 use mathlib.Core.Path.{sym, ap, _∙_}
 use Prim.Native.Nat.{_-_}
 use native.Mathlib.Omega.{arith}
@@ -15,10 +15,10 @@ use Rattle.prescan.proofs.add_var.Statement.{statement}
 use Rattle.prescan.proofs.add_var.Tie as tie
 
 abbrev Inv-loop : tie.InvT-loop
-Inv-loop tree at left name question n₀ declarator₀ n declarator = Seek (Declares (meant question) name) (kidsOf (treeAt left tree at)) (left - 1) tree n declarator
+Inv-loop tree at levels name question n₀ declarator₀ n declarator = Seek (Declares (meant question) name) (kidsOf (treeAt levels tree at)) (levels - 1) tree n declarator
 
 abbrev μ-loop : tie.MeasureT-loop
-μ-loop tree at left name question n₀ declarator₀ n declarator = n
+μ-loop tree at levels name question n₀ declarator₀ n declarator = n
 
 read-head-requires : tie.Need-read-head-requires Inv-loop μ-loop
 read-head-requires c κs = room (c .before .before .pre)

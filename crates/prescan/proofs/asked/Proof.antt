@@ -1,4 +1,4 @@
--- `prescan::asked` meets its contract: each turn of the loop passes one item that does not add the name. Assumes nothing.
+-- `prescan::asked` meets its contract: each turn of the loop passes one item that does not add the name.
 use mathlib.Core.Path.{sym, ap, _∙_}
 use Prim.Native.Nat.{_-_}
 use native.Mathlib.Omega.{arith}
@@ -13,10 +13,10 @@ use Rattle.prescan.proofs.asked.Statement.{statement}
 use Rattle.prescan.proofs.asked.Tie as tie
 
 abbrev Inv-loop : tie.InvT-loop
-Inv-loop tree id left scope question name n₀ item₀ n item = Seek (Asks (meant question) name) (kidsOf (treeAt deepest tree 0)) (deepest - 1) tree n item
+Inv-loop tree id levels scope question name n₀ item₀ n item = Seek (Asks (meant question) name) (kidsOf (treeAt deepest tree 0)) (deepest - 1) tree n item
 
 abbrev μ-loop : tie.MeasureT-loop
-μ-loop tree id left scope question name n₀ item₀ n item = n
+μ-loop tree id levels scope question name n₀ item₀ n item = n
 
 text-at-requires : tie.Need-text-at-requires Inv-loop μ-loop
 text-at-requires c κs = fits (c .before .pre .0)

@@ -1,4 +1,4 @@
--- `prescan::named` meets its contract: the definition's answer is one of the head's mark and text. Assumes nothing.
+-- `prescan::named` meets its contract: the definition's answer is one of the head's mark and text.
 use mathlib.Core.Path.{sym, _∙_}
 use borrow.Author.Needs.{needs}
 use Rattle.records.proofs.Accepted.{room, fits}

@@ -1,4 +1,4 @@
--- `prescan::next_item` meets its contract. Assumes nothing.
+-- `prescan::next_item` meets its contract.
 use mathlib.Core.Path.{sym, ap, _∙_}
 use Prim.Native.Nat.{_-_}
 use native.Mathlib.Omega.{arith}

@@ -1,4 +1,4 @@
--- `prescan::next_one` meets its contract. Assumes nothing.
+-- `prescan::next_one` meets its contract.
 use Rattle.prescan.proofs.next_one.Statement.{statement}
 use Rattle.prescan.proofs.next_one.Tie as tie
 

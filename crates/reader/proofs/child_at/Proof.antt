@@ -1,5 +1,5 @@
 -- `reader::child_at` meets its contract: a walk of its MIR, by hand. The reader that `reader_at` returns is held in a local and passed to `first_child`, and the reader that this returns to `part`.
--- Of the three the proof knows their contracts alone. In a local of a body MIR erases the lifetime of the struct's type, so a reader's machine value is shown to have the type at `erased`. Assumes nothing.
+-- Of the three the proof knows their contracts alone. In a local of a body MIR erases the lifetime of the struct's type, so a reader's machine value is shown to have the type at `erased`.
 use mathlib.Core.Path.{_≡_, refl}
 use Prim.Native.Nat.{ℕ, _+_, _≤_, _<_, _^_}
 use mathlib.Core.List.{List, [], _∷_}

@@ -1,5 +1,5 @@
 -- `reader::first_child` meets its contract: a walk of its MIR, by hand. The reader is taken apart, `body_at` is called with the tree and the offset, and a reader is made of the tree and the offset returned.
--- Of `body_at` the proof knows its contract alone. A reader is Copy: what it owns goes to the callee and stays for the result. Assumes nothing.
+-- Of `body_at` the proof knows its contract alone. A reader is Copy: what it owns goes to the callee and stays for the result.
 use mathlib.Core.Path.{refl}
 use Prim.Native.Nat.{_+_, _≤_}
 use mathlib.Core.List.{[], _∷_}

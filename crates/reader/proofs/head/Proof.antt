@@ -1,5 +1,5 @@
 -- `reader::head` meets its contract: a walk of its MIR, by hand. The reader is taken apart, and `read_head` is called with the tree and the offset.
--- Of `read_head` the proof knows its contract alone. Assumes nothing.
+-- Of `read_head` the proof knows its contract alone.
 use mathlib.Core.Path.{_≡_, refl}
 use Prim.Native.Nat.{_+_, _≤_}
 use mathlib.Core.List.{[], _∷_}

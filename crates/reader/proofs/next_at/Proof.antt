@@ -1,5 +1,5 @@
 -- `reader::next_at` meets its contract: a walk of its MIR, by hand. The reader that `reader_at` returns is held in a local and passed to `next_sibling`, and the offset is read of the reader that this returns.
--- Of the two the proof knows their contracts alone. In a local of a body MIR erases the lifetime of the struct's type, so a reader's machine value is shown to have the type at `erased`. Assumes nothing.
+-- Of the two the proof knows their contracts alone. In a local of a body MIR erases the lifetime of the struct's type, so a reader's machine value is shown to have the type at `erased`.
 use mathlib.Core.Path.{refl}
 use Prim.Native.Nat.{ℕ, _<_, _^_}
 use mathlib.Core.List.{List, [], _∷_}

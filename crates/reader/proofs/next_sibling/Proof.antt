@@ -1,5 +1,5 @@
 -- `reader::next_sibling` meets its contract: a walk of its MIR, by hand. The reader is taken apart, `record_end` is called with the tree, the offset and the levels, and a reader is made of the tree and the offset returned.
--- Of `record_end` the proof knows its contract alone. A reader is Copy: what it owns goes to the callee and stays for the result. Assumes nothing.
+-- Of `record_end` the proof knows its contract alone. A reader is Copy: what it owns goes to the callee and stays for the result.
 use mathlib.Core.Path.{refl}
 use Prim.Native.Nat.{ℕ, _<_, _^_}
 use mathlib.Core.List.{[], _∷_}

@@ -1,5 +1,5 @@
 -- `reader::part` meets its contract: a walk of its MIR, by hand. The reader is taken apart, and `record_at` is called with the tree, the offset and the levels.
--- Of `record_at` the proof knows its contract alone. Assumes nothing.
+-- Of `record_at` the proof knows its contract alone.
 use mathlib.Core.Path.{_≡_, refl}
 use Prim.Native.Nat.{ℕ, _<_, _^_}
 use mathlib.Core.List.{[], _∷_}

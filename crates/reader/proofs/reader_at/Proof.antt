@@ -1,5 +1,5 @@
 -- `reader::reader_at` meets its contract: a walk of its MIR, by hand. The reader is made of the slice and the number passed, in the result's local.
--- What the two own together is what the reader owns. Assumes nothing.
+-- What the two own together is what the reader owns.
 use mathlib.Core.Path.{refl}
 use Prim.Native.Nat.{ℕ, _<_, _^_}
 use mathlib.Core.List.{List, [], _∷_}

@@ -1,5 +1,5 @@
 -- `reader::text` meets its contract: a walk of its MIR, by hand. The reader is taken apart, and `text_at` is called with the tree and the offset.
--- Of `text_at` the proof knows its contract alone. Assumes nothing.
+-- Of `text_at` the proof knows its contract alone.
 use mathlib.Core.Path.{_≡_, refl}
 use Prim.Native.Nat.{_≤_}
 use mathlib.Core.List.{[], _∷_}

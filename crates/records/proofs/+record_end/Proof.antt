@@ -1,4 +1,4 @@
--- `records::record_end` meets its contract: each turn of the loop passes one child. The measure is the depth left. Assumes nothing.
+-- `records::record_end` meets its contract: each turn of the loop passes one child. The measure is the depth left.
 use Prim.Native.Nat.{ℕ, _<_}
 use native.Mathlib.Omega.{arith}
 use borrow.Fn.Kinds.{In}
@@ -25,25 +25,25 @@ abbrev calls : ℕ → record-end-lts.Claims
 calls t = (count-at-reads.Asked, count-at-reads.Learnt, body-at-reads.Asked, body-at-reads.Learnt, below t, reads.Post)
 
 abbrev Inv-loop : record-end-lts.InvT-loop
-Inv-loop tree at left n₀ end₀ n end = Siblings left tree at n end
+Inv-loop tree at levels n₀ end₀ n end = Siblings levels tree at n end
 
 abbrev μ-loop : record-end-lts.MeasureT-loop
-μ-loop tree at left n₀ end₀ n end = n
+μ-loop tree at levels n₀ end₀ n end = n
 
 count-at-requires : (t : ℕ) → record-end-lts.Need-count-at-requires (calls t) (this t) reads.Post Inv-loop μ-loop
 count-at-requires t c κs =
     let a = c .before .args in
-    omega (arith, whole-body (a .left) (a .tree .now) (a .at) (c .before .pre .1))
+    omega (arith, whole-body (a .levels) (a .tree .now) (a .at) (c .before .pre .1))
 
 body-at-requires : (t : ℕ) → record-end-lts.Need-body-at-requires (calls t) (this t) reads.Post Inv-loop μ-loop
 body-at-requires t c κs =
     let a = c .before .before .args in
-    omega (arith, whole-body (a .left) (a .tree .now) (a .at) (c .before .before .pre .1))
+    omega (arith, whole-body (a .levels) (a .tree .now) (a .at) (c .before .before .pre .1))
 
 loop-holds : (t : ℕ) → record-end-lts.Need-loop-holds (calls t) (this t) reads.Post Inv-loop μ-loop
 loop-holds t c =
     let a = c .before .before .before .args in
-    rw (c .before .count-at .ensures .0, c .body-at .ensures) (siblings-start (a .left) (a .tree .now) (a .at) (c .before .before .before .pre .1))
+    rw (c .before .count-at .ensures .0, c .body-at .ensures) (siblings-start (a .levels) (a .tree .now) (a .at) (c .before .before .before .pre .1))
 
 sub-record-end : (t : ℕ) → record-end-lts.Need-sub-record-end (calls t) (this t) reads.Post Inv-loop μ-loop
 sub-record-end t c = omega (arith, c .before .loop .inv .pos)
@@ -52,7 +52,7 @@ record-end-requires : (t : ℕ) → record-end-lts.Need-record-end-requires (cal
 record-end-requires t c κs =
     let l = c .before .loop in
     let a = c .before .before .before .before .before .args in
-    (omega (arith, c .before .before .before .before .before .pre .0, l .inv .pos), siblings-first (a .left) (a .tree .now) (a .at) (l .n) (l .end) (l .inv) (c .loop-test .taken))
+    (omega (arith, c .before .before .before .before .before .pre .0, l .inv .pos), siblings-first (a .levels) (a .tree .now) (a .at) (l .n) (l .end) (l .inv) (c .loop-test .taken))
 
 sub-n : (t : ℕ) → record-end-lts.Need-sub-n (calls t) (this t) reads.Post Inv-loop μ-loop
 sub-n t c = omega arith
@@ -64,13 +64,13 @@ loop-again : (t : ℕ) → record-end-lts.Need-loop-again (calls t) (this t) rea
 loop-again t c =
     let l = c .before .before .loop in
     let a = c .before .before .before .before .before .before .args in
-    rw (c .record-end .ensures) (siblings-next (a .left) (a .tree .now) (a .at) (l .n) (l .end) (l .inv) (c .before .loop-test .taken))
+    rw (c .record-end .ensures) (siblings-next (a .levels) (a .tree .now) (a .at) (l .n) (l .end) (l .inv) (c .before .loop-test .taken))
 
 returns : (t : ℕ) → record-end-lts.Need-returns (calls t) (this t) reads.Post Inv-loop μ-loop
 returns t c =
     let l = c .before .loop in
     let a = c .before .before .before .before .before .args in
-    siblings-done (a .left) (a .tree .now) (a .at) (l .n) (l .end) (l .inv) (c .loop-test .left)
+    siblings-done (a .levels) (a .tree .now) (a .at) (l .n) (l .end) (l .inv) (c .loop-test .left)
 
 pub +record-end-spec : {M : Type 1} → statement M
 +record-end-spec =

@@ -1,4 +1,4 @@
--- `records::advance` meets its contract: the sum where it fits, and the largest position where it does not. Assumes nothing.
+-- `records::advance` meets its contract: the sum where it fits, and the largest position where it does not.
 use native.Mathlib.Omega.{arith}
 use Rattle.records.proofs.advance.Statement.{statement}
 use Rattle.records.proofs.advance.Tie as tie

@@ -1,4 +1,4 @@
--- `records::body_at` meets its contract: the head, and behind it the text. Assumes nothing.
+-- `records::body_at` meets its contract: the head, and behind it the text.
 use native.Mathlib.Omega.{arith}
 use borrow.Author.Needs.{needs}
 use Rattle.records.proofs.body_at.Statement.{statement}

@@ -1,4 +1,4 @@
--- `records::copy` meets its contract: after i turns the first i bytes are copied. The measure is what is left. Assumes nothing.
+-- `records::copy` meets its contract: after i turns the first i bytes are copied. The measure is what is left.
 use mathlib.Core.Path.{_≡_, refl, sym, ap, _∙_}
 use mathlib.Core.List.{List}
 use Prim.Native.Nat.{ℕ, _≤_, _-_}

@@ -1,4 +1,4 @@
--- `records::put` meets its contract: a byte past the end is no store. Assumes nothing.
+-- `records::put` meets its contract: a byte past the end is no store.
 use mathlib.Core.Path.{sym}
 use lib.Seq.{set-out}
 use borrow.Author.Needs.{needs}

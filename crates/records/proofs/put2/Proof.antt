@@ -1,4 +1,4 @@
--- `records::put2` meets its contract: two bytes in a row; past the end none. Assumes nothing.
+-- `records::put2` meets its contract: two bytes in a row; past the end none.
 use mathlib.Core.Path.{sym}
 use native.Mathlib.Numerals.{add-one}
 use Rattle.definition.specs.Tree.{le2}

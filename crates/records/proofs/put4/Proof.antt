@@ -1,4 +1,4 @@
--- `records::put4` meets its contract: four bytes in a row; past the end none. Assumes nothing.
+-- `records::put4` meets its contract: four bytes in a row; past the end none.
 use mathlib.Core.Path.{sym}
 use native.Mathlib.Numerals.{add-one, add-two, add-three}
 use Rattle.definition.specs.Tree.{le4}

@@ -1,4 +1,4 @@
--- `records::put_cut_head` meets its contract: the fields one after the other are the bytes of the head; past the end none. Assumes nothing.
+-- `records::put_cut_head` meets its contract: the fields one after the other are the bytes of the head; past the end none.
 use mathlib.Core.Path.{sym}
 use Rattle.records.specs.Fields.{fieldBytes}
 use Rattle.records.proofs.Stores.{sets-out, head-sets}

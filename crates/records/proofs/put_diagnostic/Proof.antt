@@ -1,4 +1,4 @@
--- `records::put_diagnostic` meets its contract: mark, start and end one after the other are the bytes of the diagnostic. Assumes nothing.
+-- `records::put_diagnostic` meets its contract: mark, start and end one after the other are the bytes of the diagnostic.
 use mathlib.Core.Path.{sym, _∙_, ap}
 use Prim.Native.Nat.{ℕ}
 use Rattle.definition.specs.Record.{diagBytes}

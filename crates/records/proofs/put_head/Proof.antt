@@ -1,4 +1,4 @@
--- `records::put_head` meets its contract: both ways write the bytes of the head, of which there are 15. Assumes nothing.
+-- `records::put_head` meets its contract: both ways write the bytes of the head, of which there are 15.
 use mathlib.Core.Path.{sym, _∙_, ap}
 use Prim.Native.Nat.{ℕ}
 use Rattle.records.specs.Wrote.{sat}

@@ -1,4 +1,4 @@
--- `records::put_record` meets its contract: the part of the tree that the record fills is written as a text. Assumes nothing.
+-- `records::put_record` meets its contract: the part of the tree that the record fills is written as a text.
 use borrow.Author.Needs.{needs}
 use Rattle.records.proofs.put_record.Statement.{statement}
 use Rattle.records.proofs.put_record.Tie as tie

@@ -1,4 +1,4 @@
--- `records::put_text` meets its contract: a text that fits is written as a part; of one that is cut, what fits. Assumes nothing.
+-- `records::put_text` meets its contract: a text that fits is written as a part; of one that is cut, what fits.
 use mathlib.Core.Path.{_≡_, sym}
 use Prim.Native.Nat.{_-_}
 use native.Mathlib.Omega.{arith}

@@ -1,4 +1,4 @@
--- `range_at` meets its contract. Assumes nothing.
+-- `range_at` meets its contract.
 use borrow.Author.Needs.{needs}
 use Rattle.records.proofs.range_at.Statement.{statement}
 use Rattle.records.proofs.range_at.Tie as tie

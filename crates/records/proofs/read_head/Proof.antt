@@ -1,4 +1,4 @@
--- `records::read_head` meets its contract: each field is what its reader ensures. Assumes nothing.
+-- `records::read_head` meets its contract: each field is what its reader ensures.
 use borrow.Author.Needs.{needs}
 use Rattle.records.proofs.read_head.Statement.{statement}
 use Rattle.records.proofs.read_head.Tie as tie

@@ -1,4 +1,4 @@
--- `records::record_at` meets its contract: a whole record ends behind its start, within the tree. Assumes nothing.
+-- `records::record_at` meets its contract: a whole record ends behind its start, within the tree.
 use mathlib.Core.Path.{_≡_, ap}
 use Prim.Native.Nat.{ℕ, _-_}
 use native.Mathlib.Omega.{arith}
@@ -14,17 +14,17 @@ record-end-requires c κs = search needs
 sub-result : tie.Need-sub-result
 sub-result c =
     let a = c .before .before .args in
-    omega (arith, c .record-end .ensures, whole-span (a .left) (a .tree .now) (a .at) (c .before .before .pre))
+    omega (arith, c .record-end .ensures, whole-span (a .levels) (a .tree .now) (a .at) (c .before .before .pre))
 
 part-result-start : tie.Need-part-result-start
 part-result-start c =
     let a = c .before .before .args in
-    omega (arith, c .record-end .ensures, whole-span (a .left) (a .tree .now) (a .at) (c .before .before .pre))
+    omega (arith, c .record-end .ensures, whole-span (a .levels) (a .tree .now) (a .at) (c .before .before .pre))
 
 part-result-end : tie.Need-part-result-end
 part-result-end c =
     let a = c .before .before .args in
-    omega (arith, c .record-end .ensures, whole-span (a .left) (a .tree .now) (a .at) (c .before .before .pre))
+    omega (arith, c .record-end .ensures, whole-span (a .levels) (a .tree .now) (a .at) (c .before .before .pre))
 
 returns : tie.Need-returns
 returns c =

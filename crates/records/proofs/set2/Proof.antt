@@ -1,4 +1,4 @@
--- `records::set2` meets its contract: two stores in a row. Assumes nothing.
+-- `records::set2` meets its contract: two stores in a row.
 use native.Mathlib.Numerals.{add-one}
 use native.Mathlib.Omega.{arith}
 use lib.ListN.{length-set}

@@ -1,4 +1,4 @@
--- `records::set4` meets its contract: four stores in a row. Assumes nothing.
+-- `records::set4` meets its contract: four stores in a row.
 use native.Mathlib.Numerals.{add-one, add-two, add-three}
 use native.Mathlib.Omega.{arith}
 use lib.ListN.{length-set}

@@ -1,4 +1,4 @@
--- `records::set_head` meets its contract: the fields one after the other are the bytes of the head. Assumes nothing.
+-- `records::set_head` meets its contract: the fields one after the other are the bytes of the head.
 use mathlib.Core.Path.{refl, _∙_}
 use Prim.Native.Nat.{_+_}
 use native.Mathlib.Omega.{arith}

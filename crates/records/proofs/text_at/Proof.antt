@@ -1,4 +1,4 @@
--- `records::text_at` meets its contract: the part between the head and the children is as long as the head says. Assumes nothing.
+-- `records::text_at` meets its contract: the part between the head and the children is as long as the head says.
 use mathlib.Core.Path.{_≡_, ap}
 use Prim.Native.Nat.{ℕ, _+_, _-_}
 use native.Mathlib.Omega.{arith}

@@ -1,4 +1,4 @@
--- `first_cooked` meets its contract. Assumes nothing.
+-- `first_cooked` meets its contract.
 use mathlib.Core.Path.{_∙_, sym}
 use borrow.Author.Needs.{needs}
 use Rattle.definition.proofs.Children.{itself}

@@ -1,4 +1,4 @@
--- `is_object_freeze` meets its contract. Assumes nothing.
+-- `is_object_freeze` meets its contract.
 use mathlib.Core.Path.{_∙_, sym}
 use borrow.Author.Needs.{needs}
 use borrow.Author.Tests.{not-true, not-false}
@@ -18,10 +18,10 @@ body-at-requires : tie.Need-body-at-requires
 body-at-requires c κs = itself _ _ _ (c .before .before .before .pre) .room
 
 -- what is known behind each test
-member : (c : tie.After-body-at) → Member (c .before .before .before .before .args .left) (c .before .before .before .before .args .tree .now) (c .before .before .before .before .args .at) (c .body-at .result)
+member : (c : tie.After-body-at) → Member (c .before .before .before .before .args .levels) (c .before .before .before .before .args .tree .now) (c .before .before .before .before .args .at) (c .body-at .result)
 member c = record { it = c .before .before .before .before .pre; marked = sym (c .before .before .mark-at .ensures .0) ∙ c .before .if1 .left; body = c .body-at .ensures }
 
-of-object : (c : tie.After-record-end) → OfObject (c .before .before .before .before .before .before .before .before .args .left) (c .before .before .before .before .before .before .before .before .args .tree .now) (c .before .before .before .before .before .before .before .before .args .at) (c .before .before .before .before .before .before .before .before .args .unresolved) (c .before .before .before .before .body-at .result) (c .record-end .result)
+of-object : (c : tie.After-record-end) → OfObject (c .before .before .before .before .before .before .before .before .args .levels) (c .before .before .before .before .before .before .before .before .args .tree .now) (c .before .before .before .before .before .before .before .before .args .at) (c .before .before .before .before .before .before .before .before .args .unresolved) (c .before .before .before .before .body-at .result) (c .record-end .result)
 of-object c = record { member = member (c .before .before .before .before); global = sym (c .before .before .is-global .ensures) ∙ not-false _ (c .before .if2 .left); behind = c .record-end .ensures }
 
 sub-is-global : tie.Need-sub-is-global

@@ -1,4 +1,4 @@
--- `is_quasi` meets its contract. Assumes nothing.
+-- `is_quasi` meets its contract.
 use Rattle.swc_helpers.proofs.Templates.{a-quasi, no-quasi-mark}
 use Rattle.swc_helpers.proofs.is_quasi.Statement.{statement}
 use Rattle.swc_helpers.proofs.is_quasi.Tie as tie

@@ -1,5 +1,5 @@
 -- `no_exprs` meets its contract. The loop's invariant: the children that are left are accepted, and those before them are no expressions; the
--- measure is their number. Assumes nothing.
+-- measure is their number.
 use mathlib.Core.Path.{_∙_, sym, ap}
 use Prim.Native.Nat.{_<_, _^_}
 use native.Mathlib.Omega.{arith}
@@ -14,10 +14,10 @@ use Rattle.swc_helpers.proofs.no_exprs.Statement.{statement}
 use Rattle.swc_helpers.proofs.no_exprs.Tie as tie
 
 abbrev Inv-loop : tie.InvT-loop
-Inv-loop tree at left n₀ kid₀ n kid = Quasis left tree at n kid × (n < 2 ^ 64)
+Inv-loop tree at levels n₀ kid₀ n kid = Quasis levels tree at n kid × (n < 2 ^ 64)
 
 abbrev μ-loop : tie.MeasureT-loop
-μ-loop tree at left n₀ kid₀ n kid = n
+μ-loop tree at levels n₀ kid₀ n kid = n
 
 count-at-requires : tie.Need-count-at-requires Inv-loop μ-loop
 count-at-requires c κs = itself _ _ _ (c .before .pre) .room

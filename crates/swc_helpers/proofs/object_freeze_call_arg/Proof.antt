@@ -1,4 +1,4 @@
--- `object_freeze_call_arg` meets its contract. Assumes nothing.
+-- `object_freeze_call_arg` meets its contract.
 use native.Mathlib.Omega.{arith}
 use mathlib.Core.Path.{_∙_, sym}
 use mathlib.Core.Logic.{inl, inr}
@@ -28,10 +28,10 @@ body-at-requires : tie.Need-body-at-requires
 body-at-requires c κs = itself _ _ _ (c .before .pre .0) .room
 
 -- what is known behind each test
-call : (c : tie.After-body-at) → Call (c .before .before .args .left) (c .before .before .args .tree .now) (c .before .before .args .at) (c .body-at .result)
+call : (c : tie.After-body-at) → Call (c .before .before .args .levels) (c .before .before .args .tree .now) (c .before .before .args .at) (c .body-at .result)
 call c = record { it = c .before .before .pre .0; marked = c .before .before .pre .1; body = c .body-at .ensures }
 
-freeze : (c : tie.After-record-end) → Freeze (c .before .before .before .before .before .before .before .args .left) (c .before .before .before .before .before .before .before .args .tree .now) (c .before .before .before .before .before .before .before .args .at) (c .before .before .before .before .before .before .before .args .unresolved) (c .before .before .before .before .before .body-at .result) (c .record-end .result)
+freeze : (c : tie.After-record-end) → Freeze (c .before .before .before .before .before .before .before .args .levels) (c .before .before .before .before .before .before .before .args .tree .now) (c .before .before .before .before .before .before .before .args .at) (c .before .before .before .before .before .before .before .args .unresolved) (c .before .before .before .before .before .body-at .result) (c .record-end .result)
 freeze c = record {
   call = call (c .before .before .before .before .before);
   freezes = sym (c .before .before .before .before .is-object-freeze .ensures) ∙ not-false _ (c .before .before .before .if1 .left);
@@ -39,14 +39,14 @@ freeze c = record {
   behind = c .record-end .ensures;
 }
 
-plain : (c : tie.At-match-rest) → Plain (c .before .before .before .before .before .before .before .before .before .args .left) (c .before .before .before .before .before .before .before .before .before .args .tree .now) (c .before .before .before .before .before .before .before .before .before .args .at) (c .before .before .before .before .before .before .before .before .before .args .unresolved) (c .before .before .before .before .before .before .before .body-at .result) (c .before .before .record-end .result)
+plain : (c : tie.At-match-rest) → Plain (c .before .before .before .before .before .before .before .before .before .args .levels) (c .before .before .before .before .before .before .before .before .before .args .tree .now) (c .before .before .before .before .before .before .before .before .before .args .at) (c .before .before .before .before .before .before .before .before .before .args .unresolved) (c .before .before .before .before .before .before .before .body-at .result) (c .before .before .record-end .result)
 plain c = record {
   freeze = freeze (c .before .before);
   no-op = λ e. c .match .rest .1 (inl (c .before .mark-at .ensures .0 ∙ e));
   no-spread = λ e. c .match .rest .1 (inr (c .before .mark-at .ensures .0 ∙ e));
 }
 
-followed : (c : tie.After-record-end2) → Followed (c .before .before .before .before .before .before .before .before .before .before .before .args .left) (c .before .before .before .before .before .before .before .before .before .before .before .args .tree .now) (c .before .before .before .before .before .before .before .before .before .before .before .args .at) (c .before .before .before .before .before .before .before .before .before .before .before .args .unresolved) (c .before .before .before .before .before .before .before .before .before .body-at .result) (c .before .before .before .before .record-end .result) (c .record-end2 .result)
+followed : (c : tie.After-record-end2) → Followed (c .before .before .before .before .before .before .before .before .before .before .before .args .levels) (c .before .before .before .before .before .before .before .before .before .before .before .args .tree .now) (c .before .before .before .before .before .before .before .before .before .before .before .args .at) (c .before .before .before .before .before .before .before .before .before .before .before .args .unresolved) (c .before .before .before .before .before .before .before .before .before .body-at .result) (c .before .before .before .before .record-end .result) (c .record-end2 .result)
 followed c = record { plain = plain (c .before .before); more = λ e. c .before .if3 .left (c .before .before .before .before .before .before .count-at .ensures .0 ∙ e); behind = c .record-end2 .ensures }
 
 sub-is-object-freeze : tie.Need-sub-is-object-freeze

@@ -1,4 +1,4 @@
--- `tpl_to_ts_type` meets its contract. Assumes nothing.
+-- `tpl_to_ts_type` meets its contract.
 use native.Mathlib.Omega.{arith}
 use mathlib.Core.Path.{_∙_, sym, refl}
 use borrow.Author.Tests.{not-true, not-false}

@@ -1,4 +1,4 @@
--- `ts_keyword_type` meets its contract. Assumes nothing.
+-- `ts_keyword_type` meets its contract.
 use Rattle.records.specs.Fields.{span}
 use Rattle.swc_helpers.proofs.Made.{keyword-put}
 use borrow.Author.Needs.{needs}

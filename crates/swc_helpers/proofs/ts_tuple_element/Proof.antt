@@ -1,4 +1,4 @@
--- `ts_tuple_element` meets its contract. Assumes nothing.
+-- `ts_tuple_element` meets its contract.
 use native.Mathlib.Omega.{arith}
 use Rattle.swc_helpers.proofs.Made.{put-put}
 use borrow.Author.Needs.{needs}

@@ -1,4 +1,4 @@
--- `test_leaves::show_all` is safe and ends: each child of an accepted record is accepted, with one level less. Assumes nothing.
+-- `test_leaves::show_all` is safe and ends: each child of an accepted record is accepted, with one level less.
 use Prim.Native.Nat.{ℕ, _-_, _<_}
 use native.Mathlib.Omega.{arith}
 use borrow.Fn.Kinds.{In}
@@ -40,23 +40,23 @@ calls t = (
 )
 
 abbrev Inv-loop : show-all-lts.InvT-loop
-Inv-loop tree at left scope n₀ kid₀ n kid = AllAccepted (left - 1) tree n kid
+Inv-loop tree at levels scope n₀ kid₀ n kid = AllAccepted (levels - 1) tree n kid
 
 abbrev μ-loop : show-all-lts.MeasureT-loop
-μ-loop tree at left scope n₀ kid₀ n kid = n
+μ-loop tree at levels scope n₀ kid₀ n kid = n
 
 show-record-requires : (t : ℕ) → show-all-lts.Need-show-record-requires (calls t) (this t) reads.Post Inv-loop μ-loop
 show-record-requires t c κs = c .before .pre .1
 
 count-at-requires : (t : ℕ) → show-all-lts.Need-count-at-requires (calls t) (this t) reads.Post Inv-loop μ-loop
-count-at-requires t c κs = itself (c .before .before .args .left) (c .before .before .args .tree .now) (c .before .before .args .at) (c .before .before .pre .1 .0) .room
+count-at-requires t c κs = itself (c .before .before .args .levels) (c .before .before .args .tree .now) (c .before .before .args .at) (c .before .before .pre .1 .0) .room
 
 body-at-requires : (t : ℕ) → show-all-lts.Need-body-at-requires (calls t) (this t) reads.Post Inv-loop μ-loop
-body-at-requires t c κs = itself (c .before .before .before .args .left) (c .before .before .before .args .tree .now) (c .before .before .before .args .at) (c .before .before .before .pre .1 .0) .room
+body-at-requires t c κs = itself (c .before .before .before .args .levels) (c .before .before .before .args .tree .now) (c .before .before .before .args .at) (c .before .before .before .pre .1 .0) .room
 
 loop-holds : (t : ℕ) → show-all-lts.Need-loop-holds (calls t) (this t) reads.Post Inv-loop μ-loop
 loop-holds t c =
-    rw (c .before .count-at .ensures .0, c .body-at .ensures) (children (c .before .before .before .before .args .left) (c .before .before .before .before .args .tree .now) (c .before .before .before .before .args .at) (c .before .before .before .before .pre .1 .0))
+    rw (c .before .count-at .ensures .0, c .body-at .ensures) (children (c .before .before .before .before .args .levels) (c .before .before .before .before .args .tree .now) (c .before .before .before .before .args .at) (c .before .before .before .before .pre .1 .0))
 
 sub-show-all : (t : ℕ) → show-all-lts.Need-sub-show-all (calls t) (this t) reads.Post Inv-loop μ-loop
 sub-show-all t c = omega (arith, level (c .before .before .before .before .before .before .pre .1 .0))
@@ -64,14 +64,14 @@ sub-show-all t c = omega (arith, level (c .before .before .before .before .befor
 show-all-requires : (t : ℕ) → show-all-lts.Need-show-all-requires (calls t) (this t) reads.Post Inv-loop μ-loop
 show-all-requires t c κs = (
   omega (arith, level (c .before .before .before .before .before .before .pre .1 .0), c .before .before .before .before .before .before .pre .0),
-  (first-one (c .before .before .before .before .before .before .args .left - 1) (c .before .before .before .before .before .before .args .tree .now) (c .before .loop .n) (c .before .loop .kid) (c .before .loop .inv) (c .loop-test .taken), c .before .before .before .before .before .before .pre .1 .1),
+  (first-one (c .before .before .before .before .before .before .args .levels - 1) (c .before .before .before .before .before .before .args .tree .now) (c .before .loop .n) (c .before .loop .kid) (c .before .loop .inv) (c .loop-test .taken), c .before .before .before .before .before .before .pre .1 .1),
 )
 
 sub-record-end : (t : ℕ) → show-all-lts.Need-sub-record-end (calls t) (this t) reads.Post Inv-loop μ-loop
 sub-record-end t c = omega (arith, level (c .before .before .before .before .before .before .before .pre .1 .0))
 
 record-end-requires : (t : ℕ) → show-all-lts.Need-record-end-requires (calls t) (this t) reads.Post Inv-loop μ-loop
-record-end-requires t c κs = lies (first-one (c .before .before .before .before .before .before .before .args .left - 1) (c .before .before .before .before .before .before .before .args .tree .now) (c .before .before .loop .n) (c .before .before .loop .kid) (c .before .before .loop .inv) (c .before .loop-test .taken))
+record-end-requires t c κs = lies (first-one (c .before .before .before .before .before .before .before .args .levels - 1) (c .before .before .before .before .before .before .before .args .tree .now) (c .before .before .loop .n) (c .before .before .loop .kid) (c .before .before .loop .inv) (c .before .loop-test .taken))
 
 sub-n : (t : ℕ) → show-all-lts.Need-sub-n (calls t) (this t) reads.Post Inv-loop μ-loop
 sub-n t c = omega (arith, c .before .before .loop-test .taken)
@@ -81,7 +81,7 @@ loop-less t c = omega (arith, c .before .before .loop-test .taken)
 
 loop-again : (t : ℕ) → show-all-lts.Need-loop-again (calls t) (this t) reads.Post Inv-loop μ-loop
 loop-again t c =
-    rw (c .record-end .ensures) (others (c .before .before .before .before .before .before .before .before .args .left - 1) (c .before .before .before .before .before .before .before .before .args .tree .now) (c .before .before .before .loop .n) (c .before .before .before .loop .kid) (c .before .before .before .loop .inv) (c .before .before .loop-test .taken))
+    rw (c .record-end .ensures) (others (c .before .before .before .before .before .before .before .before .args .levels - 1) (c .before .before .before .before .before .before .before .before .args .tree .now) (c .before .before .before .loop .n) (c .before .before .before .loop .kid) (c .before .before .before .loop .inv) (c .before .before .loop-test .taken))
 
 returns : (t : ℕ) → show-all-lts.Need-returns (calls t) (this t) reads.Post Inv-loop μ-loop
 returns t c = tt

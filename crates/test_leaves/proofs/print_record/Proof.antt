@@ -1,4 +1,4 @@
--- `test_leaves::print_record` is safe: an accepted record lies in the tree. Assumes nothing.
+-- `test_leaves::print_record` is safe: an accepted record lies in the tree.
 use borrow.Author.Needs.{needs}
 use Rattle.test_leaves.proofs.Laws.{lies}
 use Rattle.test_leaves.proofs.print_record.Statement.{statement}

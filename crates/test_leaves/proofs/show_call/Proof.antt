@@ -1,4 +1,4 @@
--- `test_leaves::show_call` is safe: the argument that is found is a child of the call. Assumes nothing.
+-- `test_leaves::show_call` is safe: the argument that is found is a child of the call.
 use mathlib.Core.Path.{sym, _∙_}
 use borrow.Author.Needs.{needs}
 use native.Mathlib.Omega.{arith}
@@ -22,7 +22,7 @@ sub-print-record : tie.Need-sub-print-record
 sub-print-record c = omega (arith, level (c .before .before .before .before .before .before .before .pre .0))
 
 print-record-requires : tie.Need-print-record-requires
-print-record-requires c κs = argument (c .before .before .before .before .before .before .before .args .left) (c .before .before .before .before .before .before .before .args .tree .now) (c .before .before .before .before .before .before .before .args .at) 1 (c .before .found .given .0 .0) (c .before .before .before .before .before .before .before .pre .0) (sym (c .before .found .given .1) ∙ c .before .before .before .object-freeze-call-arg .ensures)
+print-record-requires c κs = argument (c .before .before .before .before .before .before .before .args .levels) (c .before .before .before .before .before .before .before .args .tree .now) (c .before .before .before .before .before .before .before .args .at) 1 (c .before .found .given .0 .0) (c .before .before .before .before .before .before .before .pre .0) (sym (c .before .found .given .1) ∙ c .before .before .before .object-freeze-call-arg .ensures)
 
 enum-told : tie.Need-enum-told
 enum-told c = search needs

@@ -1,4 +1,4 @@
--- `test_leaves::show_items` is safe and ends: each item of an accepted module is accepted. Assumes nothing.
+-- `test_leaves::show_items` is safe and ends: each item of an accepted module is accepted.
 use Prim.Native.Nat.{_-_}
 use native.Mathlib.Omega.{arith}
 use Rattle.definition.specs.Check.{deepest}

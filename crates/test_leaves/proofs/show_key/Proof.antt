@@ -1,4 +1,4 @@
--- `test_leaves::show_key` is safe: the record that a key names was accepted. Assumes nothing.
+-- `test_leaves::show_key` is safe: the record that a key names was accepted.
 use mathlib.Core.Path.{subst}
 use borrow.Author.Needs.{needs}
 use Rattle.names.specs.Keys.{KeyAccepted}

@@ -1,4 +1,4 @@
--- `test_leaves::show_large_names` is safe and ends: the power rises and stays in its range. Assumes nothing.
+-- `test_leaves::show_large_names` is safe and ends: the power rises and stays in its range.
 use Prim.Native.Nat.{_≤_, _-_}
 use borrow.Author.Needs.{needs}
 use native.Mathlib.Omega.{arith}

@@ -1,4 +1,4 @@
--- `test_leaves::show_tree` is safe: the root of a tree that was checked is accepted. Assumes nothing.
+-- `test_leaves::show_tree` is safe: the root of a tree that was checked is accepted.
 use borrow.Author.Needs.{needs}
 use Rattle.test_leaves.proofs.show_tree.Statement.{statement}
 use Rattle.test_leaves.proofs.show_tree.Tie as tie

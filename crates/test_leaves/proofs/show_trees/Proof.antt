@@ -1,4 +1,4 @@
--- `test_leaves::show_trees` is safe and ends: each turn raises the tree's number. Assumes nothing.
+-- `test_leaves::show_trees` is safe and ends: each turn raises the tree's number.
 use Prim.Native.Nat.{_-_}
 use borrow.Author.Needs.{needs}
 use Rattle.test_leaves.proofs.show_trees.Statement.{statement}

@@ -1,4 +1,4 @@
--- `test_leaves::symbol_of` is safe: an Id has a context. Assumes nothing.
+-- `test_leaves::symbol_of` is safe: an Id has a context.
 use Rattle.definition.proofs.Children.{itself}
 use Rattle.definition.proofs.Kids.{id-text}
 use Rattle.test_leaves.proofs.symbol_of.Statement.{statement}
@@ -8,7 +8,7 @@ symbol-at-requires : tie.Need-symbol-at-requires
 symbol-at-requires c κs =
     let a = c .before .args in
     let p = c .before .pre in
-    (itself (a .left) (a .tree .now) (a .at) (p .0) .fits, id-text (a .left) (a .tree .now) (a .at) (p .0) (p .1))
+    (itself (a .levels) (a .tree .now) (a .at) (p .0) .fits, id-text (a .levels) (a .tree .now) (a .at) (p .0) (p .1))
 
 returns : tie.Need-returns
 returns c = tt

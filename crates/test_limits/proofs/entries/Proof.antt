@@ -1,4 +1,4 @@
--- `test_limits::entries` is safe and ends: each turn leaves one entry less. Assumes nothing.
+-- `test_limits::entries` is safe and ends: each turn leaves one entry less.
 use mathlib.Core.Path.{_≡_, refl, ap, _∙_}
 use borrow.Author.Needs.{needs}
 use lib.ListN.{length}

@@ -1,4 +1,4 @@
--- `test_limits::nest` is safe and ends: each turn leaves one level less. Assumes nothing.
+-- `test_limits::nest` is safe and ends: each turn leaves one level less.
 use mathlib.Core.Path.{_≡_, refl, ap, _∙_}
 use borrow.Author.Needs.{needs}
 use lib.ListN.{length}

@@ -1,4 +1,4 @@
--- `fill` is safe and ends: each turn fills one byte more. Assumes nothing.
+-- `fill` is safe and ends: each turn fills one byte more.
 use mathlib.Core.Path.{_≡_}
 use Prim.Native.Nat.{_≤_, _-_}
 use native.Mathlib.Omega.{arith}

@@ -1,4 +1,4 @@
--- `is_noise` is safe and ends: each turn looks at one byte more. Assumes nothing.
+-- `is_noise` is safe and ends: each turn looks at one byte more.
 use Prim.Native.Nat.{_-_}
 use lib.ListN.{length}
 use borrow.Author.Needs.{needs}

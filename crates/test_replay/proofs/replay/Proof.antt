@@ -1,4 +1,4 @@
--- `replay` is safe and ends: each turn reads one case more. Assumes nothing.
+-- `replay` is safe and ends: each turn reads one case more.
 use mathlib.Core.Path.{_≡_}
 use Prim.Native.Nat.{_+_, _-_, _≤_}
 use native.Mathlib.Omega.{arith}

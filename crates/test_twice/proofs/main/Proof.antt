@@ -1,4 +1,4 @@
--- `test_twice::main` is safe and ends: each turn raises the module's number. Assumes nothing.
+-- `test_twice::main` is safe and ends: each turn raises the module's number.
 use Prim.Native.Nat.{_-_}
 use borrow.Author.Needs.{needs}
 use Rattle.test_twice.proofs.main.Statement.{statement}

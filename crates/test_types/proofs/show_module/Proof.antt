@@ -1,4 +1,4 @@
--- `test_types::show_module` is safe: the root of a tree that was checked is accepted. Assumes nothing.
+-- `test_types::show_module` is safe: the root of a tree that was checked is accepted.
 use borrow.Author.Needs.{needs}
 use Rattle.test_types.proofs.show_module.Statement.{statement}
 use Rattle.test_types.proofs.show_module.Tie as tie

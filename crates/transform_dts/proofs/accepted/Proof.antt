@@ -1,4 +1,4 @@
--- `accepted` meets its contract: the dry run's answer, or what the run wrote. Assumes nothing.
+-- `accepted` meets its contract: the dry run's answer, or what the run wrote.
 use native.Mathlib.Omega.{arith}
 use borrow.Author.Tests.{not-true, not-false}
 use Rattle.transform_dts.proofs.Runs.{part-length, text-too-long, output-too-long, diagnostics-too-long, done-is}

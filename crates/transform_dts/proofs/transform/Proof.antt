@@ -1,4 +1,4 @@
--- `transform` meets its contract: what the check found, or the answer on an accepted tree. Assumes nothing.
+-- `transform` meets its contract: what the check found, or the answer on an accepted tree.
 use Rattle.transform_dts.proofs.Calls.{call-refused, call-root, call-accepted}
 use borrow.Author.Needs.{needs}
 use Rattle.transform_dts.proofs.transform.Statement.{statement}

@@ -1,4 +1,4 @@
--- `transform_module` meets its contract. Assumes nothing.
+-- `transform_module` meets its contract.
 use Rattle.definition.proofs.Children.{itself}
 use Rattle.transform_dts.proofs.Module.{items-ready, module-made}
 use borrow.Author.Needs.{needs}

@@ -1,4 +1,4 @@
--- `shorthand` meets its contract. Assumes nothing.
+-- `shorthand` meets its contract.
 use mathlib.Core.Path.{sym, ap, _∙_, subst}
 use mathlib.Core.List.{List, []}
 use mathlib.Core.Bool.{true, _||_}

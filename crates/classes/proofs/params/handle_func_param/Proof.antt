@@ -1,4 +1,4 @@
--- `params::handle_func_param` meets its contract. Assumes nothing.
+-- `params::handle_func_param` meets its contract.
 use native.Mathlib.Omega.{arith}
 use mathlib.Core.Path.{refl}
 use Rattle.definition.proofs.Children.{itself, some-left}

@@ -1,4 +1,4 @@
--- `params::handle_func_param_assign` meets its contract. Assumes nothing.
+-- `params::handle_func_param_assign` meets its contract.
 use native.Mathlib.Omega.{arith}
 use Rattle.definition.proofs.Kids.{has}
 use Rattle.definition.specs.Grammar.{mark}

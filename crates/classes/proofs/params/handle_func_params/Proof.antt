@@ -1,4 +1,4 @@
--- `params::handle_func_params` meets its contract. Assumes nothing.
+-- `params::handle_func_params` meets its contract.
 use native.Mathlib.Omega.{arith}
 use Rattle.swc_helpers.proofs.Made.{is-whole}
 use Rattle.parts.proofs.Each.{making-first, making-done, making-out, making-diagnostics}
@@ -12,10 +12,10 @@ use Rattle.classes.proofs.params.handle_func_param.Reads as handle-func
 use Rattle.records.proofs.record_end.Reads as record-end-reads
 
 abbrev Inv-loop : tie.InvT-loop
-Inv-loop tree at n left scope out₀ diagnostics₀ next₀ k₀ param₀ out diagnostics next k param = Handling tree scope left (parameters tree scope left n at (next₀ .n)) out₀ out diagnostics₀ diagnostics next₀ next k param
+Inv-loop tree at n levels scope out₀ diagnostics₀ next₀ k₀ param₀ out diagnostics next k param = Handling tree scope levels (parameters tree scope levels n at (next₀ .n)) out₀ out diagnostics₀ diagnostics next₀ next k param
 
 abbrev μ-loop : tie.MeasureT-loop
-μ-loop tree at n left scope out₀ diagnostics₀ next₀ k₀ param₀ out diagnostics next k param = k
+μ-loop tree at n levels scope out₀ diagnostics₀ next₀ k₀ param₀ out diagnostics next k param = k
 
 loop-holds : tie.Need-loop-holds Inv-loop μ-loop
 loop-holds c = handling-start _ (c .before .before .before .args .scope) _ _ _ _ (c .before .before .before .pre .accepted) (c .before .before .before .pre .low) (omega (arith, c .before .before .before .good)) (omega (arith, c .before .before .before .good))

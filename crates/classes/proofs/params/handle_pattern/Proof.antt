@@ -1,4 +1,4 @@
--- `params::handle_pattern` meets its contract. Assumes nothing.
+-- `params::handle_pattern` meets its contract.
 use native.Mathlib.Omega.{arith}
 use mathlib.Core.Path.{sym, _∙_}
 use Rattle.definition.proofs.Children.{itself}

@@ -1,4 +1,4 @@
--- `params::infer_expr_fallback_any` meets its contract. Assumes nothing.
+-- `params::infer_expr_fallback_any` meets its contract.
 use Rattle.definition.proofs.Children.{itself}
 use Rattle.typing.proofs.Ready.{ready-mutable}
 use Rattle.classes.proofs.Inferred.{infer}

@@ -1,4 +1,4 @@
--- `params::optional_box` meets its contract. Assumes nothing.
+-- `params::optional_box` meets its contract.
 use native.Mathlib.Omega.{arith}
 use mathlib.Core.Path.{refl}
 use mathlib.Core.Logic.{inl}

@@ -1,4 +1,4 @@
--- `params::optional_ident` meets its contract. Assumes nothing.
+-- `params::optional_ident` meets its contract.
 use native.Mathlib.Omega.{arith}
 use Rattle.definition.proofs.Kids.{has}
 use Rattle.definition.specs.Grammar.{mark}

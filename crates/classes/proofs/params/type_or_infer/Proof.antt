@@ -1,4 +1,4 @@
--- `params::type_or_infer` meets its contract. Assumes nothing.
+-- `params::type_or_infer` meets its contract.
 use native.Mathlib.Omega.{arith}
 use mathlib.Core.Path.{sym, _∙_}
 use Rattle.definition.proofs.Children.{itself, some-left}

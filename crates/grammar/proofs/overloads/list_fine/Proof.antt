@@ -1,4 +1,4 @@
--- `grammar::overloads::list_fine` meets its contract: the entries before i are in order. Assumes nothing.
+-- `grammar::overloads::list_fine` meets its contract: the entries before i are in order.
 use mathlib.Core.Path.{sym, _∙_}
 use Prim.Native.Nat.{_-_}
 use native.Mathlib.Omega.{arith}

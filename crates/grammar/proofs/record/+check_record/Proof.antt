@@ -1,5 +1,5 @@
 -- The proof of the cycle of calls {check_record}: the measure is what is left of the levels, and the loop's invariant that the children before the
--- i-th are accepted. Assumes nothing.
+-- i-th are accepted.
 use mathlib.Core.Path.{sym, ap, _∙_}
 use Prim.Native.Nat.{ℕ, _<_, _-_}
 use native.Mathlib.Omega.{arith}
@@ -37,10 +37,10 @@ abbrev calls : ℕ → check-record-lts.Claims
 calls t = (open-record-reads.Asked, open-record-reads.Learnt, check-record-below t, check-record.Post, slot-after-reads.Asked, slot-after-reads.Learnt)
 
 abbrev check-record-Inv-loop : check-record-lts.InvT-loop
-check-record-Inv-loop tree at left k body count slot i₀ p₀ next₀ i p next = Passed left tree at (partsFrom k) count i p (partsFrom next)
+check-record-Inv-loop tree at levels k body count slot i₀ p₀ next₀ i p next = Passed levels tree at (partsFrom k) count i p (partsFrom next)
 
 abbrev check-record-μ-loop : check-record-lts.MeasureT-loop
-check-record-μ-loop tree at left k body count slot i₀ p₀ next₀ i p next = count - i
+check-record-μ-loop tree at levels k body count slot i₀ p₀ next₀ i p next = count - i
 
 check-record-returns : (t : ℕ) → check-record-lts.Need-returns (calls t) (check-record-at t) check-record.Post check-record-Inv-loop check-record-μ-loop
 check-record-returns t c = no-level _ _ _ _ (c .if1 .taken)
@@ -79,7 +79,7 @@ check-record-returns-2 t c =
 check-record-slot-after-requires : (t : ℕ) → check-record-lts.Need-slot-after-requires (calls t) (check-record-at t) check-record.Post check-record-Inv-loop check-record-μ-loop
 check-record-slot-after-requires t c κs =
     let l = c .before .before .before .before .before .loop in
-    let o = fine-open (c .before .before .before .before .before .before .before .before .before .before .before .before .args .left - 1) (c .before .before .before .before .before .before .before .before .before .before .before .before .args .tree .now) (l .p) (partsFrom (l .next)) _ (sym (c .before .before .before .check-record .ensures) ∙ ap checked (c .before .found .given .1)) in
+    let o = fine-open (c .before .before .before .before .before .before .before .before .before .before .before .before .args .levels - 1) (c .before .before .before .before .before .before .before .before .before .before .before .before .args .tree .now) (l .p) (partsFrom (l .next)) _ (sym (c .before .before .before .check-record .ensures) ∙ ap checked (c .before .found .given .1)) in
     (o .room, o .known)
 
 check-record-add-i : (t : ℕ) → check-record-lts.Need-add-i (calls t) (check-record-at t) check-record.Post check-record-Inv-loop check-record-μ-loop

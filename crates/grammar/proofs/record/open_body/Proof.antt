@@ -1,4 +1,4 @@
--- `grammar::record::open_body` meets its contract. Assumes nothing.
+-- `grammar::record::open_body` meets its contract.
 use mathlib.Core.Path.{sym, _∙_}
 use borrow.Author.Tests.{not-true, not-false}
 use borrow.Author.Needs.{needs}

@@ -1,4 +1,4 @@
--- `grammar::record::open_record` meets its contract. Assumes nothing.
+-- `grammar::record::open_record` meets its contract.
 use mathlib.Core.Path.{sym, _∙_}
 use native.Mathlib.Omega.{arith}
 use borrow.Author.Tests.{leb-true, leb-false, not-true, not-false}

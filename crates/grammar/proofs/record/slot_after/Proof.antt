@@ -1,4 +1,4 @@
--- `grammar::record::slot_after` meets its contract. Assumes nothing.
+-- `grammar::record::slot_after` meets its contract.
 use mathlib.Core.Path.{_≡_, ap, _∙_}
 use native.Mathlib.Omega.{arith}
 use borrow.Author.Needs.{needs}

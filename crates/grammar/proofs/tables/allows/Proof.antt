@@ -1,4 +1,4 @@
--- `grammar::tables::allows` meets its contract: what is allowed from the place i on is what is allowed from k on. Assumes nothing.
+-- `grammar::tables::allows` meets its contract: what is allowed from the place i on is what is allowed from k on.
 use mathlib.Core.Path.{_≡_, refl, sym, _∙_}
 use Prim.Native.Nat.{_-_}
 use native.Mathlib.Omega.{arith}

@@ -1,4 +1,4 @@
--- `grammar::tables::form_of` meets its contract: its table is the grammar's column of forms. Assumes nothing.
+-- `grammar::tables::form_of` meets its contract: its table is the grammar's column of forms.
 use borrow.Author.Needs.{needs}
 use Rattle.grammar.proofs.Printed.{formsTable}
 use Rattle.grammar.proofs.Lookups.{form-is, no-form}

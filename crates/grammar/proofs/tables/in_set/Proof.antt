@@ -1,4 +1,4 @@
--- `grammar::tables::in_set` meets its contract: a set is a run of marks and at most one mark more. Assumes nothing.
+-- `grammar::tables::in_set` meets its contract: a set is a run of marks and at most one mark more.
 use mathlib.Core.Path.{ap, _∙_}
 use native.Mathlib.Omega.{arith}
 use lib.Dec.{eqb}

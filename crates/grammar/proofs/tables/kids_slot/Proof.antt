@@ -1,4 +1,4 @@
--- `grammar::tables::kids_slot` meets its contract. Assumes nothing.
+-- `grammar::tables::kids_slot` meets its contract.
 use borrow.Author.Tests.{eq-eqb, ne-eqb}
 use borrow.Author.Needs.{needs}
 use Rattle.grammar.proofs.Places.{property-yes, property-no, undestructured-is}

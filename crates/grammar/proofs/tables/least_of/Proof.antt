@@ -1,4 +1,4 @@
--- `grammar::tables::least_of` meets its contract: its table is what `least` gives of the grammar's slots. Assumes nothing.
+-- `grammar::tables::least_of` meets its contract: its table is what `least` gives of the grammar's slots.
 use mathlib.Core.Path.{_∙_}
 use borrow.Author.Needs.{needs}
 use Rattle.definition.specs.Grammar.{slots, least}

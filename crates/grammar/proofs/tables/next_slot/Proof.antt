@@ -1,4 +1,4 @@
--- `grammar::tables::next_slot` meets its contract: what is left after a record from the place i on is what is left from k on. Assumes nothing.
+-- `grammar::tables::next_slot` meets its contract: what is left after a record from the place i on is what is left from k on.
 use mathlib.Core.Path.{_≡_, refl, sym, _∙_}
 use Prim.Native.Nat.{_-_}
 use lib.ListN.{getD}

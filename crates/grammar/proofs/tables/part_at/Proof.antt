@@ -1,4 +1,4 @@
--- `grammar::tables::part_at` meets its contract: its table is the one that `partsFrom` reads. Assumes nothing.
+-- `grammar::tables::part_at` meets its contract: its table is the one that `partsFrom` reads.
 use mathlib.Core.Path.{sym}
 use native.Mathlib.Omega.{arith}
 use lib.ListN.{List·getD-eq-default}

@@ -1,4 +1,4 @@
--- `grammar::tables::start_of` meets its contract: from the places in its table on stand the grammar's slots. Assumes nothing.
+-- `grammar::tables::start_of` meets its contract: from the places in its table on stand the grammar's slots.
 use mathlib.Core.Path.{ap, _∙_}
 use borrow.Author.Needs.{needs}
 use Rattle.grammar.specs.Slots.{partsFrom}

@@ -1,4 +1,4 @@
--- `grammar::text::has_form` meets its contract, form by form. Assumes nothing.
+-- `grammar::text::has_form` meets its contract, form by form.
 use borrow.Author.Tests.{eq-eqb, ne-eqb}
 use borrow.Author.Needs.{needs}
 use Rattle.definition.specs.Check.{hasForm}

@@ -1,4 +1,4 @@
--- `grammar::text::is_integer` meets its contract: the digits before i are in order. Assumes nothing.
+-- `grammar::text::is_integer` meets its contract: the digits before i are in order.
 use mathlib.Core.Path.{sym}
 use Prim.Native.Nat.{_-_}
 use native.Mathlib.Omega.{arith}

@@ -1,4 +1,4 @@
--- `ns_block`, a member of the cycle, meets its contract. Assumes nothing.
+-- `ns_block`, a member of the cycle, meets its contract.
 use Prim.Native.Nat.{ℕ}
 use borrow.Author.Needs.{needs}
 use mathlib.Core.Path.{refl}
@@ -41,7 +41,7 @@ pub put-front-requires : (t : ℕ) → ns-block-lts.Need-put-front-requires (cal
 put-front-requires t c κs = c .before .before .before .before .before .before .before .before .before .before .before .before .before .before .before .before .pre .1 .0 .accepted
 
 pub returns : (t : ℕ) → ns-block-lts.Need-returns (calls t) (ns-block-at t) ns-block.Post
-returns t c = block-made (c .before .before .before .before .before .before .before .before .before .before .before .before .before .before .before .before .before .before .before .before .args .list .now) (c .before .before .before .before .before .before .before .before .before .before .before .before .before .before .before .before .before .before .before .before .args .tree .now) (c .before .before .before .before .before .before .before .before .before .before .before .before .before .before .before .before .before .before .before .before .args .scope) (c .before .before .before .before .before .before .before .before .before .before .before .before .before .before .before .before .before .before .before .before .args .left) (c .before .before .before .before .before .before .before .before .before .before .before .before .before .before .before .before .before .before .before .before .args .at) (c .before .before .before .before .before .before .before .before .before .before .before .before .before .before .before .before .before .before .before .before .pre .1 .0 .accepted) (c .before .before .before .before .before .before .before .before .before .before .before .before .before .before .before .before .before .before .before .shared-slice-known .given) (c .before .before .before .before .before .before .before .before .before .before .before .before .before .before .before .before .before .before .before .before .pre .1 .1) (c .before .before .before .before .before .before .before .before .before .before .before .before .before .before .before .before .before .before .before .before .args .s) (c .before .before .before .before .before .before .before .before .before .before .before .before .before .before .before .read-head .ensures) (c .before .before .before .before .before .before .before .before .before .before .before .before .before .before .body-at .ensures) (c .before .before .before .before .before .before .before .before .before .before .before .before .before .front-size .ensures .0) (c .before .before .before .before .before .before .before .before .before .before .before .before .advance .ensures) (c .before .before .before .before .before .before .before .before .before .transform-module-items .ensures) (c .before .before .before .put-front .ensures)
+returns t c = block-made (c .before .before .before .before .before .before .before .before .before .before .before .before .before .before .before .before .before .before .before .before .args .list .now) (c .before .before .before .before .before .before .before .before .before .before .before .before .before .before .before .before .before .before .before .before .args .tree .now) (c .before .before .before .before .before .before .before .before .before .before .before .before .before .before .before .before .before .before .before .before .args .scope) (c .before .before .before .before .before .before .before .before .before .before .before .before .before .before .before .before .before .before .before .before .args .levels) (c .before .before .before .before .before .before .before .before .before .before .before .before .before .before .before .before .before .before .before .before .args .at) (c .before .before .before .before .before .before .before .before .before .before .before .before .before .before .before .before .before .before .before .before .pre .1 .0 .accepted) (c .before .before .before .before .before .before .before .before .before .before .before .before .before .before .before .before .before .before .before .shared-slice-known .given) (c .before .before .before .before .before .before .before .before .before .before .before .before .before .before .before .before .before .before .before .before .pre .1 .1) (c .before .before .before .before .before .before .before .before .before .before .before .before .before .before .before .before .before .before .before .before .args .s) (c .before .before .before .before .before .before .before .before .before .before .before .before .before .before .before .read-head .ensures) (c .before .before .before .before .before .before .before .before .before .before .before .before .before .before .body-at .ensures) (c .before .before .before .before .before .before .before .before .before .before .before .before .before .front-size .ensures .0) (c .before .before .before .before .before .before .before .before .before .before .before .before .advance .ensures) (c .before .before .before .before .before .before .before .before .before .transform-module-items .ensures) (c .before .before .before .put-front .ensures)
 
 pub same-length : (t : ℕ) → ns-block-lts.Need-same-length (calls t) (ns-block-at t) ns-block.Post
 same-length t c = returns t c .step .ran .out .same

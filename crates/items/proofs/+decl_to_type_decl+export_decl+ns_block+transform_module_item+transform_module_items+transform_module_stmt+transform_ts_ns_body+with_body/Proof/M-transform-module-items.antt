@@ -1,4 +1,4 @@
--- `transform_module_items`, a member of the cycle, meets its contract. Assumes nothing.
+-- `transform_module_items`, a member of the cycle, meets its contract.
 use Prim.Native.Nat.{ℕ}
 use borrow.Author.Needs.{needs}
 use native.Mathlib.Omega.{arith}
@@ -15,25 +15,25 @@ abbrev pub calls : ℕ → transform-module-items-lts.Claims
 calls t = (next-at-reads.Asked, next-at-reads.Learnt, item-scope-reads.Asked, item-scope-reads.Learnt, transform-module-item-below t, transform-module-item.Post)
 
 abbrev pub Inv-loop : transform-module-items-lts.InvT-loop
-Inv-loop tree at n left scope list top out₀ diagnostics₀ next₀ k₀ item₀ count₀ out diagnostics next k item count = Itemizing list tree scope top left n at out₀ out diagnostics₀ diagnostics next₀ next k item count
+Inv-loop tree at n levels scope list top out₀ diagnostics₀ next₀ k₀ item₀ count₀ out diagnostics next k item count = Itemizing list tree scope top levels n at out₀ out diagnostics₀ diagnostics next₀ next k item count
 
 abbrev pub μ-loop : transform-module-items-lts.MeasureT-loop
-μ-loop tree at n left scope list top out₀ diagnostics₀ next₀ k₀ item₀ count₀ out diagnostics next k item count = k
+μ-loop tree at n levels scope list top out₀ diagnostics₀ next₀ k₀ item₀ count₀ out diagnostics next k item count = k
 
 pub loop-holds : (t : ℕ) → transform-module-items-lts.Need-loop-holds (calls t) (transform-module-items-at t) transform-module-items.Post Inv-loop μ-loop
-loop-holds t c = itemizing-start (c .before .before .before .before .args .list .now) (c .before .before .before .before .args .tree .now) (c .before .before .before .before .args .scope) (c .before .before .before .before .args .top) (c .before .before .before .before .args .left) (c .before .before .before .before .args .n) (c .before .before .before .before .args .at) _ _ _ (c .before .before .before .before .pre .1 .0) (c .before .before .before .before .pre .1 .1) (omega (arith, c .before .before .before .before .good)) (omega (arith, c .before .before .before .before .good))
+loop-holds t c = itemizing-start (c .before .before .before .before .args .list .now) (c .before .before .before .before .args .tree .now) (c .before .before .before .before .args .scope) (c .before .before .before .before .args .top) (c .before .before .before .before .args .levels) (c .before .before .before .before .args .n) (c .before .before .before .before .args .at) _ _ _ (c .before .before .before .before .pre .1 .0) (c .before .before .before .before .pre .1 .1) (omega (arith, c .before .before .before .before .good)) (omega (arith, c .before .before .before .before .good))
 
 pub next-at-requires : (t : ℕ) → transform-module-items-lts.Need-next-at-requires (calls t) (transform-module-items-at t) transform-module-items.Post Inv-loop μ-loop
-next-at-requires t c κs = is-whole _ _ _ (itemizing-first (c .before .before .before .before .before .before .args .list .now) (c .before .before .before .before .before .before .args .tree .now) (c .before .before .before .before .before .before .args .scope) (c .before .before .before .before .before .before .args .top) (c .before .before .before .before .before .before .args .left) (c .before .before .before .before .before .before .args .n) (c .before .before .before .before .before .before .args .at) (c .before .loop .inv) (c .loop-test .taken))
+next-at-requires t c κs = is-whole _ _ _ (itemizing-first (c .before .before .before .before .before .before .args .list .now) (c .before .before .before .before .before .before .args .tree .now) (c .before .before .before .before .before .before .args .scope) (c .before .before .before .before .before .before .args .top) (c .before .before .before .before .before .before .args .levels) (c .before .before .before .before .before .before .args .n) (c .before .before .before .before .before .before .args .at) (c .before .loop .inv) (c .loop-test .taken))
 
 pub item-scope-requires : (t : ℕ) → transform-module-items-lts.Need-item-scope-requires (calls t) (transform-module-items-at t) transform-module-items.Post Inv-loop μ-loop
 item-scope-requires t c κs = search needs
 
 pub transform-module-item-requires : (t : ℕ) → transform-module-items-lts.Need-transform-module-item-requires (calls t) (transform-module-items-at t) transform-module-items.Post Inv-loop μ-loop
-transform-module-item-requires t c κs = (omega (arith, c .before .before .before .before .before .before .before .before .before .before .pre .0), item-ready (c .before .before .before .before .before .before .before .before .before .before .args .scope) (c .before .before .before .before .before .before .before .before .before .before .args .left) (c .before .before .before .before .before .loop .item) (c .before .before .before .next-at .result) (c .before .before .before .before .before .before .before .before .before .before .pre .1 .0) (itemizing-first (c .before .before .before .before .before .before .before .before .before .before .args .list .now) (c .before .before .before .before .before .before .before .before .before .before .args .tree .now) (c .before .before .before .before .before .before .before .before .before .before .args .scope) (c .before .before .before .before .before .before .before .before .before .before .args .top) (c .before .before .before .before .before .before .before .before .before .before .args .left) (c .before .before .before .before .before .before .before .before .before .before .args .n) (c .before .before .before .before .before .before .before .before .before .before .args .at) (c .before .before .before .before .before .loop .inv) (c .before .before .before .before .loop-test .taken)) (c .before .before .before .before .before .loop .inv .low) (c .before .before .before .next-at .ensures) (c .before .before .item-scope .ensures))
+transform-module-item-requires t c κs = (omega (arith, c .before .before .before .before .before .before .before .before .before .before .pre .0), item-ready (c .before .before .before .before .before .before .before .before .before .before .args .scope) (c .before .before .before .before .before .before .before .before .before .before .args .levels) (c .before .before .before .before .before .loop .item) (c .before .before .before .next-at .result) (c .before .before .before .before .before .before .before .before .before .before .pre .1 .0) (itemizing-first (c .before .before .before .before .before .before .before .before .before .before .args .list .now) (c .before .before .before .before .before .before .before .before .before .before .args .tree .now) (c .before .before .before .before .before .before .before .before .before .before .args .scope) (c .before .before .before .before .before .before .before .before .before .before .args .top) (c .before .before .before .before .before .before .before .before .before .before .args .levels) (c .before .before .before .before .before .before .before .before .before .before .args .n) (c .before .before .before .before .before .before .before .before .before .before .args .at) (c .before .before .before .before .before .loop .inv) (c .before .before .before .before .loop-test .taken)) (c .before .before .before .before .before .loop .inv .low) (c .before .before .before .next-at .ensures) (c .before .before .item-scope .ensures))
 
 pub add-count : (t : ℕ) → transform-module-items-lts.Need-add-count (calls t) (transform-module-items-at t) transform-module-items.Post Inv-loop μ-loop
-add-count t c = omega (arith, c .before .before .before .before .before .before .before .before .before .before .before .before .loop .inv .few, itemizing-more (c .before .before .before .before .before .before .before .before .before .before .before .before .before .before .before .before .before .args .list .now) (c .before .before .before .before .before .before .before .before .before .before .before .before .before .before .before .before .before .args .tree .now) (c .before .before .before .before .before .before .before .before .before .before .before .before .before .before .before .before .before .args .scope) (c .before .before .before .before .before .before .before .before .before .before .before .before .before .before .before .before .before .args .top) (c .before .before .before .before .before .before .before .before .before .before .before .before .before .before .before .before .before .args .left) (c .before .before .before .before .before .before .before .before .before .before .before .before .before .before .before .before .before .args .n) (c .before .before .before .before .before .before .before .before .before .before .before .before .before .before .before .before .before .args .at) (c .before .before .before .before .before .before .before .before .before .before .before .before .loop .inv) (c .before .before .before .before .before .before .before .before .before .before .next-at .result) (c .before .before .before .before .before .before .before .before .before .item-scope .ensures) (c .before .before .before .before .before .before .transform-module-item .ensures))
+add-count t c = omega (arith, c .before .before .before .before .before .before .before .before .before .before .before .before .loop .inv .few, itemizing-more (c .before .before .before .before .before .before .before .before .before .before .before .before .before .before .before .before .before .args .list .now) (c .before .before .before .before .before .before .before .before .before .before .before .before .before .before .before .before .before .args .tree .now) (c .before .before .before .before .before .before .before .before .before .before .before .before .before .before .before .before .before .args .scope) (c .before .before .before .before .before .before .before .before .before .before .before .before .before .before .before .before .before .args .top) (c .before .before .before .before .before .before .before .before .before .before .before .before .before .before .before .before .before .args .levels) (c .before .before .before .before .before .before .before .before .before .before .before .before .before .before .before .before .before .args .n) (c .before .before .before .before .before .before .before .before .before .before .before .before .before .before .before .before .before .args .at) (c .before .before .before .before .before .before .before .before .before .before .before .before .loop .inv) (c .before .before .before .before .before .before .before .before .before .before .next-at .result) (c .before .before .before .before .before .before .before .before .before .item-scope .ensures) (c .before .before .before .before .before .before .transform-module-item .ensures))
 
 pub sub-k : (t : ℕ) → transform-module-items-lts.Need-sub-k (calls t) (transform-module-items-at t) transform-module-items.Post Inv-loop μ-loop
 sub-k t c = omega arith
@@ -42,7 +42,7 @@ pub loop-less : (t : ℕ) → transform-module-items-lts.Need-loop-less (calls t
 loop-less t c = omega arith
 
 pub loop-again : (t : ℕ) → transform-module-items-lts.Need-loop-again (calls t) (transform-module-items-at t) transform-module-items.Post Inv-loop μ-loop
-loop-again t c = itemizing-turn (c .before .before .before .before .before .before .before .before .before .before .before .before .before .before .before .before .before .args .list .now) (c .before .before .before .before .before .before .before .before .before .before .before .before .before .before .before .before .before .args .tree .now) (c .before .before .before .before .before .before .before .before .before .before .before .before .before .before .before .before .before .args .scope) (c .before .before .before .before .before .before .before .before .before .before .before .before .before .before .before .before .before .args .top) (c .before .before .before .before .before .before .before .before .before .before .before .before .before .before .before .before .before .args .left) (c .before .before .before .before .before .before .before .before .before .before .before .before .before .before .before .before .before .args .n) (c .before .before .before .before .before .before .before .before .before .before .before .before .before .before .before .before .before .args .at) (c .before .before .before .before .before .before .before .before .before .before .before .before .loop .inv) (c .before .before .before .before .before .before .before .before .before .before .next-at .result) (c .before .before .before .before .before .before .before .before .before .item-scope .ensures) (c .before .before .before .before .before .before .transform-module-item .ensures) (c .before .before .before .before .before .before .before .before .before .before .before .loop-test .taken) (c .before .before .before .before .before .before .before .before .before .before .next-at .ensures)
+loop-again t c = itemizing-turn (c .before .before .before .before .before .before .before .before .before .before .before .before .before .before .before .before .before .args .list .now) (c .before .before .before .before .before .before .before .before .before .before .before .before .before .before .before .before .before .args .tree .now) (c .before .before .before .before .before .before .before .before .before .before .before .before .before .before .before .before .before .args .scope) (c .before .before .before .before .before .before .before .before .before .before .before .before .before .before .before .before .before .args .top) (c .before .before .before .before .before .before .before .before .before .before .before .before .before .before .before .before .before .args .levels) (c .before .before .before .before .before .before .before .before .before .before .before .before .before .before .before .before .before .args .n) (c .before .before .before .before .before .before .before .before .before .before .before .before .before .before .before .before .before .args .at) (c .before .before .before .before .before .before .before .before .before .before .before .before .loop .inv) (c .before .before .before .before .before .before .before .before .before .before .next-at .result) (c .before .before .before .before .before .before .before .before .before .item-scope .ensures) (c .before .before .before .before .before .before .transform-module-item .ensures) (c .before .before .before .before .before .before .before .before .before .before .before .loop-test .taken) (c .before .before .before .before .before .before .before .before .before .before .next-at .ensures)
 
 pub same-length : (t : ℕ) → transform-module-items-lts.Need-same-length (calls t) (transform-module-items-at t) transform-module-items.Post Inv-loop μ-loop
 same-length t c = c .before .loop .inv .gives .step .ran .out .same
@@ -51,4 +51,4 @@ pub same-length-2 : (t : ℕ) → transform-module-items-lts.Need-same-length-2 
 same-length-2 t c = c .before .loop .inv .gives .step .ran .dia .same
 
 pub returns : (t : ℕ) → transform-module-items-lts.Need-returns (calls t) (transform-module-items-at t) transform-module-items.Post Inv-loop μ-loop
-returns t c = itemizing-done (c .before .before .before .before .before .before .args .list .now) (c .before .before .before .before .before .before .args .tree .now) (c .before .before .before .before .before .before .args .scope) (c .before .before .before .before .before .before .args .top) (c .before .before .before .before .before .before .args .left) (c .before .before .before .before .before .before .args .n) (c .before .before .before .before .before .before .args .at) (c .before .loop .inv) (omega arith)
+returns t c = itemizing-done (c .before .before .before .before .before .before .args .list .now) (c .before .before .before .before .before .before .args .tree .now) (c .before .before .before .before .before .before .args .scope) (c .before .before .before .before .before .before .args .top) (c .before .before .before .before .before .before .args .levels) (c .before .before .before .before .before .before .args .n) (c .before .before .before .before .before .before .args .at) (c .before .loop .inv) (omega arith)

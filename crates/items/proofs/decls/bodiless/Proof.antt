@@ -1,4 +1,4 @@
--- `bodiless` meets its contract. Assumes nothing.
+-- `bodiless` meets its contract.
 use mathlib.Core.Path.{refl}
 use Rattle.definition.proofs.Kids.{has}
 use Rattle.definition.specs.Grammar.{mark}

@@ -1,4 +1,4 @@
--- `declared` meets its contract. Assumes nothing.
+-- `declared` meets its contract.
 use mathlib.Core.Path.{refl, _∙_}
 use mathlib.Core.Logic.{inl}
 use Rattle.items.proofs.Declarations.{declared-set, declared-cleared}

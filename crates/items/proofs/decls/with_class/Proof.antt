@@ -1,4 +1,4 @@
--- `with_class` meets its contract. Assumes nothing.
+-- `with_class` meets its contract.
 use mathlib.Core.Path.{refl, _∙_}
 use native.Mathlib.Omega.{arith}
 use Rattle.definition.proofs.Children.{itself, some-left}

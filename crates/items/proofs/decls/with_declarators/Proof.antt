@@ -1,4 +1,4 @@
--- `with_declarators` meets its contract. Assumes nothing.
+-- `with_declarators` meets its contract.
 use native.Mathlib.Omega.{arith}
 use Rattle.definition.proofs.Children.{itself, some-left}
 use Rattle.typing.proofs.Written.{puts-counter}

@@ -1,4 +1,4 @@
--- `with_members` meets its contract. Assumes nothing.
+-- `with_members` meets its contract.
 use native.Mathlib.Omega.{arith}
 use Rattle.definition.proofs.Children.{itself, some-left}
 use Rattle.items.proofs.Declarations.{all-kids, members-written}

@@ -1,4 +1,4 @@
--- `without_body` meets its contract. Assumes nothing.
+-- `without_body` meets its contract.
 use mathlib.Core.Path.{refl}
 use Rattle.definition.proofs.Kids.{has}
 use Rattle.definition.specs.Grammar.{mark}

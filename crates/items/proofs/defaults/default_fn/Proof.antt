@@ -1,4 +1,4 @@
--- `default_fn` meets its contract. Assumes nothing.
+-- `default_fn` meets its contract.
 use mathlib.Core.Path.{refl}
 use Rattle.definition.proofs.Kids.{has}
 use Rattle.definition.specs.Grammar.{mark}

@@ -1,4 +1,4 @@
--- `export_default_decl` meets its contract. Assumes nothing.
+-- `export_default_decl` meets its contract.
 use mathlib.Core.Path.{refl}
 use native.Mathlib.Omega.{arith}
 use Rattle.definition.proofs.Children.{itself}
@@ -29,7 +29,7 @@ is-impl-with-overloads-requires : tie.Need-is-impl-with-overloads-requires
 is-impl-with-overloads-requires c κs = itself _ _ _ (c .before .before .before .before .before .before .before .pre .0 .accepted) .room
 
 returns : tie.Need-returns
-returns c = default-gone (c .before .before .before .before .before .before .before .before .before .args .list .now) (c .before .before .before .before .before .before .before .before .before .args .tree .now) (c .before .before .before .before .before .before .before .before .before .args .scope) (c .before .before .before .before .before .before .before .before .before .args .left) (c .before .before .before .before .before .before .before .before .before .args .at) (xd-kids _ _ _ (c .before .before .before .before .before .before .before .before .before .pre .0 .accepted) (c .before .before .before .before .before .before .before .before .before .pre .1) (c .before .before .before .before .body-at .ensures) refl) (told (c .before .before .before .mark-at .ensures .0) (c .before .before .match .keys2)) (c .before .is-impl-with-overloads .ensures) (c .if1 .taken) _ _ (c .before .before .before .before .before .before .before .before .before .args .s) (omega (arith, c .before .before .before .before .before .before .before .before .before .good)) (omega (arith, c .before .before .before .before .before .before .before .before .before .good))
+returns c = default-gone (c .before .before .before .before .before .before .before .before .before .args .list .now) (c .before .before .before .before .before .before .before .before .before .args .tree .now) (c .before .before .before .before .before .before .before .before .before .args .scope) (c .before .before .before .before .before .before .before .before .before .args .levels) (c .before .before .before .before .before .before .before .before .before .args .at) (xd-kids _ _ _ (c .before .before .before .before .before .before .before .before .before .pre .0 .accepted) (c .before .before .before .before .before .before .before .before .before .pre .1) (c .before .before .before .before .body-at .ensures) refl) (told (c .before .before .before .mark-at .ensures .0) (c .before .before .match .keys2)) (c .before .is-impl-with-overloads .ensures) (c .if1 .taken) _ _ (c .before .before .before .before .before .before .before .before .before .args .s) (omega (arith, c .before .before .before .before .before .before .before .before .before .good)) (omega (arith, c .before .before .before .before .before .before .before .before .before .good))
 
 default-fn-requires : tie.Need-default-fn-requires
 default-fn-requires c κs = ((c .before .before .before .before .before .before .before .before .before .before .pre .0 .accepted, c .before .before .before .before .before .before .before .before .before .before .pre .1), mark-at-body (c .before .before .before .before .before .before .before .before .before .before .args .tree .now) (c .before .before .before .before .before .before .before .before .before .before .args .at) (c .before .before .before .before .before .body-at .ensures) (told (c .before .before .before .before .mark-at .ensures .0) (c .before .before .before .match .keys2)))
@@ -50,13 +50,13 @@ same-length-3 : tie.Need-same-length-3
 same-length-3 c = search needs
 
 returns-3 : tie.Need-returns-3
-returns-3 c = default-bare (c .before .before .before .before .before .before .before .before .before .before .before .before .before .args .list .now) (c .before .before .before .before .before .before .before .before .before .before .before .before .before .args .tree .now) (c .before .before .before .before .before .before .before .before .before .before .before .before .before .args .scope) (c .before .before .before .before .before .before .before .before .before .before .before .before .before .args .left) (c .before .before .before .before .before .before .before .before .before .before .before .before .before .args .at) (xd-kids _ _ _ (c .before .before .before .before .before .before .before .before .before .before .before .before .before .pre .0 .accepted) (c .before .before .before .before .before .before .before .before .before .before .before .before .before .pre .1) (c .before .before .before .before .before .before .before .before .body-at .ensures) refl) (told (c .before .before .before .before .before .before .before .mark-at .ensures .0) (c .before .before .before .before .before .before .match .keys2)) (c .before .before .before .before .before .is-impl-with-overloads .ensures) (c .before .before .before .before .if1 .left) _ (omega (arith, c .before .before .before .before .before .before .before .before .before .before .before .before .before .good)) (c .before .before .default-fn .ensures)
+returns-3 c = default-bare (c .before .before .before .before .before .before .before .before .before .before .before .before .before .args .list .now) (c .before .before .before .before .before .before .before .before .before .before .before .before .before .args .tree .now) (c .before .before .before .before .before .before .before .before .before .before .before .before .before .args .scope) (c .before .before .before .before .before .before .before .before .before .before .before .before .before .args .levels) (c .before .before .before .before .before .before .before .before .before .before .before .before .before .args .at) (xd-kids _ _ _ (c .before .before .before .before .before .before .before .before .before .before .before .before .before .pre .0 .accepted) (c .before .before .before .before .before .before .before .before .before .before .before .before .before .pre .1) (c .before .before .before .before .before .before .before .before .body-at .ensures) refl) (told (c .before .before .before .before .before .before .before .mark-at .ensures .0) (c .before .before .before .before .before .before .match .keys2)) (c .before .before .before .before .before .is-impl-with-overloads .ensures) (c .before .before .before .before .if1 .left) _ (omega (arith, c .before .before .before .before .before .before .before .before .before .before .before .before .before .good)) (c .before .before .default-fn .ensures)
 
 same-length-4 : tie.Need-same-length-4
 same-length-4 c = search needs
 
 returns-4 : tie.Need-returns-4
-returns-4 c = default-other (c .before .before .before .before .before .before .before .before .before .before .before .args .list .now) (c .before .before .before .before .before .before .before .before .before .before .before .args .tree .now) (c .before .before .before .before .before .before .before .before .before .before .before .args .scope) (c .before .before .before .before .before .before .before .before .before .before .before .args .left) (c .before .before .before .before .before .before .before .before .before .before .before .args .at) (xd-kids _ _ _ (c .before .before .before .before .before .before .before .before .before .before .before .pre .0 .accepted) (c .before .before .before .before .before .before .before .before .before .before .before .pre .1) (c .before .before .before .before .before .before .body-at .ensures) refl) (told-not (c .before .before .before .before .before .mark-at .ensures .0) (c .before .before .before .before .match .rest .0 .1)) (told-not (c .before .before .before .before .before .mark-at .ensures .0) (c .before .before .before .before .match .rest .1)) _ (omega (arith, c .before .before .before .before .before .before .before .before .before .before .before .good)) (c .before .before .keep .ensures)
+returns-4 c = default-other (c .before .before .before .before .before .before .before .before .before .before .before .args .list .now) (c .before .before .before .before .before .before .before .before .before .before .before .args .tree .now) (c .before .before .before .before .before .before .before .before .before .before .before .args .scope) (c .before .before .before .before .before .before .before .before .before .before .before .args .levels) (c .before .before .before .before .before .before .before .before .before .before .before .args .at) (xd-kids _ _ _ (c .before .before .before .before .before .before .before .before .before .before .before .pre .0 .accepted) (c .before .before .before .before .before .before .before .before .before .before .before .pre .1) (c .before .before .before .before .before .before .body-at .ensures) refl) (told-not (c .before .before .before .before .before .mark-at .ensures .0) (c .before .before .before .before .match .rest .0 .1)) (told-not (c .before .before .before .before .before .mark-at .ensures .0) (c .before .before .before .before .match .rest .1)) _ (omega (arith, c .before .before .before .before .before .before .before .before .before .before .before .good)) (c .before .before .keep .ensures)
 
 pub export-default-decl-spec : {M : Type 1} → statement M
 export-default-decl-spec =

@@ -1,4 +1,4 @@
--- `export_default_expr` meets its contract. Assumes nothing.
+-- `export_default_expr` meets its contract.
 use mathlib.Core.Path.{refl}
 use native.Mathlib.Omega.{arith}
 use Rattle.definition.proofs.Children.{itself, some-left}

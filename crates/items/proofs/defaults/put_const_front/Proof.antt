@@ -1,4 +1,4 @@
--- `put_const_front` meets its contract. Assumes nothing.
+-- `put_const_front` meets its contract.
 use native.Mathlib.Omega.{arith}
 use Rattle.swc_helpers.proofs.Made.{put-put}
 use borrow.Author.Needs.{needs}

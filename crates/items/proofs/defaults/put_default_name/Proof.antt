@@ -1,4 +1,4 @@
--- `put_default_name` meets its contract. Assumes nothing.
+-- `put_default_name` meets its contract.
 use native.Mathlib.Omega.{arith}
 use Rattle.definition.proofs.Kids.{has}
 use Rattle.definition.specs.Grammar.{mark}

@@ -1,4 +1,4 @@
--- The cycle of `valid_enum_init_expr`: each member meets its contract, and the remaining depth falls. Assumes nothing.
+-- The cycle of `valid_enum_init_expr`: each member meets its contract, and the remaining depth falls.
 use mathlib.Core.Path.{sym}
 use native.Mathlib.Omega.{arith}
 use Rattle.definition.proofs.Children.{itself, some-left}
@@ -195,10 +195,10 @@ valid-enum-init-expr-returns-9 : (t : ℕ) → valid-enum-init-expr-lts.Need-ret
 valid-enum-init-expr-returns-9 t c = never _ _ _ (c .before .before .before .pre .1) (told-not (c .before .mark-at .ensures .0) (c .match .rest .0 .0 .0 .0 .0 .1)) (λ q. c .match .rest .0 .0 .0 .0 .1 (told-either (sym (c .before .mark-at .ensures .0)) q)) (told-not (c .before .mark-at .ensures .0) (c .match .rest .0 .0 .0 .1)) (λ q. c .match .rest .0 .0 .1 (told-any (sym (c .before .mark-at .ensures .0)) q)) (told-not (c .before .mark-at .ensures .0) (c .match .rest .0 .1)) (λ q. c .match .rest .1 (told-either (sym (c .before .mark-at .ensures .0)) q))
 
 abbrev valid-exprs-Inv-loop : valid-exprs-lts.InvT-loop
-valid-exprs-Inv-loop tree at left n₀ child₀ n child = Validating left tree at n child
+valid-exprs-Inv-loop tree at levels n₀ child₀ n child = Validating levels tree at n child
 
 abbrev valid-exprs-μ-loop : valid-exprs-lts.MeasureT-loop
-valid-exprs-μ-loop tree at left n₀ child₀ n child = n
+valid-exprs-μ-loop tree at levels n₀ child₀ n child = n
 
 -- src/enums.rt:83:9
 valid-exprs-count-at-requires : (t : ℕ) → valid-exprs-lts.Need-count-at-requires (valid-exprs-calls t) (valid-exprs-at t) valid-exprs.Post valid-exprs-Inv-loop valid-exprs-μ-loop

@@ -1,4 +1,4 @@
--- `enum_init` meets its contract. Assumes nothing.
+-- `enum_init` meets its contract.
 use Rattle.definition.proofs.Children.{itself}
 use Rattle.typing.proofs.Written.{puts-as}
 use Rattle.parts.proofs.Kept.{absent-put}

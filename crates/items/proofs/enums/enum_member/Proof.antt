@@ -1,4 +1,4 @@
--- `enum_member` meets its contract. Assumes nothing.
+-- `enum_member` meets its contract.
 use mathlib.Core.Path.{refl}
 use Rattle.definition.proofs.Kids.{has}
 use Rattle.definition.specs.Grammar.{mark}

@@ -1,4 +1,4 @@
--- `enum_members` meets its contract. Assumes nothing.
+-- `enum_members` meets its contract.
 use native.Mathlib.Omega.{arith}
 use Rattle.swc_helpers.proofs.Made.{is-whole}
 use Rattle.items.proofs.Inits.{Members, members-start, members-first, members-turn, members-done}
@@ -10,10 +10,10 @@ use Rattle.items.proofs.enums.enum_member.Reads as enum-member-reads
 use Rattle.records.proofs.record_end.Reads as record-end-reads
 
 abbrev Inv-loop : tie.InvT-loop
-Inv-loop tree at n left out₀ next₀ k₀ child₀ out next k child = Members left tree at n out₀ out next₀ next k child
+Inv-loop tree at n levels out₀ next₀ k₀ child₀ out next k child = Members levels tree at n out₀ out next₀ next k child
 
 abbrev μ-loop : tie.MeasureT-loop
-μ-loop tree at n left out₀ next₀ k₀ child₀ out next k child = k
+μ-loop tree at n levels out₀ next₀ k₀ child₀ out next k child = k
 
 loop-holds : tie.Need-loop-holds Inv-loop μ-loop
 loop-holds c = members-start _ _ _ _ (c .before .before .pre) _ _ (omega (arith, c .before .before .good))

@@ -1,4 +1,4 @@
--- `valid_enum_ts_type` meets its contract: the literal's mark, read of the part of the tree that it fills, is the one that it has in the tree. Assumes nothing.
+-- `valid_enum_ts_type` meets its contract: the literal's mark, read of the part of the tree that it fills, is the one that it has in the tree.
 use mathlib.Core.Path.{refl, ap, _∙_}
 use mathlib.Core.List.{List}
 use Prim.Native.Nat.{ℕ}

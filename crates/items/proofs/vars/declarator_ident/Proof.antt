@@ -1,4 +1,4 @@
--- `declarator_ident` meets its contract. Assumes nothing.
+-- `declarator_ident` meets its contract.
 use mathlib.Core.Path.{refl, _∙_}
 use Rattle.definition.proofs.Kids.{has}
 use Rattle.definition.specs.Grammar.{mark}

@@ -1,4 +1,4 @@
--- `declarator_pattern` meets its contract. Assumes nothing.
+-- `declarator_pattern` meets its contract.
 use mathlib.Core.Path.{refl}
 use native.Mathlib.Omega.{arith}
 use Rattle.definition.proofs.Children.{itself, some-left}

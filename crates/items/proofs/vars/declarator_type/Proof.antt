@@ -1,4 +1,4 @@
--- `declarator_type` meets its contract. Assumes nothing.
+-- `declarator_type` meets its contract.
 use native.Mathlib.Omega.{arith}
 use Rattle.definition.proofs.Children.{itself}
 use Rattle.items.proofs.Inits.{told, told-not}

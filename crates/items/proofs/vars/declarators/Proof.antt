@@ -1,4 +1,4 @@
--- `declarators` meets its contract. Assumes nothing.
+-- `declarators` meets its contract.
 use native.Mathlib.Omega.{arith}
 use Rattle.swc_helpers.proofs.Made.{is-whole}
 use Rattle.items.proofs.Declarators.{Declaring, declaring-start, declaring-first, declaring-turn, declaring-done, declaring-out, declaring-diagnostics, one-ready}
@@ -10,10 +10,10 @@ use Rattle.items.proofs.vars.declarator.Reads as declarator-reads
 use Rattle.records.proofs.record_end.Reads as record-end-reads
 
 abbrev Inv-loop : tie.InvT-loop
-Inv-loop tree at n left scope out₀ diagnostics₀ next₀ k₀ child₀ out diagnostics next k child = Declaring tree scope left n at out₀ out diagnostics₀ diagnostics next₀ next k child
+Inv-loop tree at n levels scope out₀ diagnostics₀ next₀ k₀ child₀ out diagnostics next k child = Declaring tree scope levels n at out₀ out diagnostics₀ diagnostics next₀ next k child
 
 abbrev μ-loop : tie.MeasureT-loop
-μ-loop tree at n left scope out₀ diagnostics₀ next₀ k₀ child₀ out diagnostics next k child = k
+μ-loop tree at n levels scope out₀ diagnostics₀ next₀ k₀ child₀ out diagnostics next k child = k
 
 loop-holds : tie.Need-loop-holds Inv-loop μ-loop
 loop-holds c = declaring-start _ (c .before .before .before .args .scope) _ _ _ _ (c .before .before .before .pre) (omega (arith, c .before .before .before .good)) (omega (arith, c .before .before .before .good))

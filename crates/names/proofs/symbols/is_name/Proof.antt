@@ -1,4 +1,4 @@
--- `names::symbols::is_name` meets its contract: up to the place i the text and the name, of one length, are equal. Assumes nothing.
+-- `names::symbols::is_name` meets its contract: up to the place i the text and the name, of one length, are equal.
 use mathlib.Core.Path.{_≡_, refl, sym, _∙_}
 use mathlib.Core.List.{[]}
 use Prim.Native.Nat.{_-_, _≤_}

@@ -1,4 +1,4 @@
--- `names::symbols::is_well_known` meets its contract: none of the names before k is the symbol. Assumes nothing.
+-- `names::symbols::is_well_known` meets its contract: none of the names before k is the symbol.
 use mathlib.Core.Path.{_≡_, refl, sym, _∙_}
 use Prim.Native.Nat.{_-_, _≤_}
 use native.Mathlib.Omega.{arith}

@@ -1,4 +1,4 @@
--- `names::symbols::name_byte` meets its contract: the constant is the definition's table. Assumes nothing.
+-- `names::symbols::name_byte` meets its contract: the constant is the definition's table.
 use Rattle.names.proofs.Table.{padded, byte-is, byte-past, byte-none}
 use borrow.Author.Needs.{needs}
 use Rattle.names.proofs.symbols.name_byte.Statement.{statement}

@@ -1,4 +1,4 @@
--- `names::symbols::name_length` meets its contract: the constant is the definition's table. Assumes nothing.
+-- `names::symbols::name_length` meets its contract: the constant is the definition's table.
 use Rattle.names.proofs.Table.{lengths, length-is, names-long}
 use Rattle.definition.specs.Names.{wellKnownSymbolNames}
 use lib.ListN.{length, List·getD-eq-default}

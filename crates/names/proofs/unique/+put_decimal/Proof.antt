@@ -1,4 +1,4 @@
--- `names::unique::put_decimal` meets its contract: the last digit stands behind the others. The measure is the number. Assumes nothing.
+-- `names::unique::put_decimal` meets its contract: the last digit stands behind the others. The measure is the number.
 use Prim.Native.Nat.{ℕ, _<_, _%_}
 use native.Mathlib.Omega.{arith}
 use borrow.Author.Needs.{needs}

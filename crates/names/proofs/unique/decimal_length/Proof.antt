@@ -1,4 +1,4 @@
--- `names::unique::decimal_length` meets its contract: each turn counts one digit. Assumes nothing.
+-- `names::unique::decimal_length` meets its contract: each turn counts one digit.
 use native.Mathlib.Omega.{arith}
 use Rattle.names.proofs.Decimals.{at-most-twenty, Counted, count-start, count-turn, count-done}
 use Rattle.names.proofs.unique.decimal_length.Statement.{statement}

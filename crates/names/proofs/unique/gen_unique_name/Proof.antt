@@ -1,6 +1,5 @@
 -- `names::unique::gen_unique_name` meets its contract: a walk of its MIR, by hand. The counter's borrow is opened, the raised number is stored in it, and it is closed at that; then `put_unique_name` is called on the number, and on the output at its own lifetime.
 -- All that the proof knows of `put_unique_name` is that it meets its contract.
--- Assumes nothing.
 use mathlib.Core.Path.{_≡_, refl}
 use Prim.Native.Nat.{ℕ, _<_, _^_, _+_}
 use mathlib.Core.List.{[], _∷_, List}

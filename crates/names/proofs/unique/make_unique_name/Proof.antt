@@ -1,6 +1,5 @@
 -- `names::unique::make_unique_name` meets its contract: a walk of its MIR, by hand. The counter stands in a local, which is lent to `gen_unique_name` for a lifetime that is made for the call, and taken back at its last value; the output goes there at its own lifetime.
 -- All that the proof knows of `gen_unique_name` is that it meets its contract.
--- Assumes nothing.
 use mathlib.Core.Path.{_≡_, refl, ap}
 use Prim.Native.Nat.{ℕ, _<_, _^_, _+_}
 use mathlib.Core.List.{[], _∷_, List}

@@ -1,4 +1,4 @@
--- `names::unique::put_unique_name` meets its contract. Assumes nothing.
+-- `names::unique::put_unique_name` meets its contract.
 use native.Mathlib.Omega.{arith}
 use Rattle.definition.specs.Names.{genUniqueName}
 use Rattle.records.proofs.Puts.{put-put}

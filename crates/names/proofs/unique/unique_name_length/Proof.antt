@@ -1,4 +1,4 @@
--- `names::unique::unique_name_length` meets its contract. Assumes nothing.
+-- `names::unique::unique_name_length` meets its contract.
 use native.Mathlib.Omega.{arith}
 use Rattle.names.proofs.Decimals.{length-unique}
 use borrow.Author.Needs.{needs}

@@ -1,4 +1,4 @@
--- `flags::with_flag` meets its contract. Assumes nothing.
+-- `flags::with_flag` meets its contract.
 use mathlib.Core.Path.{sym, _∙_}
 use native.Mathlib.Omega.{arith}
 use Rattle.records.proofs.SetFlags.{is-set, is-clear, flag-above}

@@ -1,4 +1,4 @@
--- `made::put_ident` meets its contract. Assumes nothing.
+-- `made::put_ident` meets its contract.
 use mathlib.Core.Path.{refl}
 use native.Mathlib.Omega.{arith}
 use Rattle.records.proofs.Puts.{ident-put}

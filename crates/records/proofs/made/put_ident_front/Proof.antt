@@ -1,4 +1,4 @@
--- `made::put_ident_front` meets its contract. Assumes nothing.
+-- `made::put_ident_front` meets its contract.
 use native.Mathlib.Omega.{arith}
 use Rattle.records.proofs.Puts.{put-put}
 use borrow.Author.Needs.{needs}

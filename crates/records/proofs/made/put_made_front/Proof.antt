@@ -1,4 +1,4 @@
--- `made::put_made_front` meets its contract. Assumes nothing.
+-- `made::put_made_front` meets its contract.
 use Rattle.definition.specs.Tree.{headBytes}
 use Rattle.records.specs.Fields.{fieldBytes}
 use borrow.Author.Needs.{needs}

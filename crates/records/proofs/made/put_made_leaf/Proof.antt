@@ -1,4 +1,4 @@
--- `made::put_made_leaf` meets its contract. Assumes nothing.
+-- `made::put_made_leaf` meets its contract.
 use native.Mathlib.Omega.{arith}
 use Rattle.definition.specs.Tree.{headBytes}
 use Rattle.records.specs.Fields.{fieldBytes}

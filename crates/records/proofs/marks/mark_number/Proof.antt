@@ -1,5 +1,4 @@
 -- `records::marks::mark_number` meets its contract: in each arm the mark is a known one, whose place computes; in the last it is none of them.
--- Assumes nothing.
 use mathlib.Core.Path.{sym}
 use Rattle.definition.specs.Grammar.{grammar, known, place}
 use Rattle.records.proofs.Known.{place-is, place-none}

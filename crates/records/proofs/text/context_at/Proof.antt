@@ -1,4 +1,4 @@
--- `records::text::context_at` meets its contract: an Id's text has the four bytes of its context. Assumes nothing.
+-- `records::text::context_at` meets its contract: an Id's text has the four bytes of its context.
 use mathlib.Core.Path.{ap, _∙_}
 use mathlib.Core.List.{List}
 use Prim.Native.Nat.{ℕ, _+_}

@@ -1,4 +1,4 @@
--- `records::text::same_text` meets its contract: up to the place i the two texts, of one length, are equal. Assumes nothing.
+-- `records::text::same_text` meets its contract: up to the place i the two texts, of one length, are equal.
 use mathlib.Core.Path.{_≡_, refl, sym, _∙_}
 use Prim.Native.Nat.{_-_, _≤_}
 use native.Mathlib.Omega.{arith}

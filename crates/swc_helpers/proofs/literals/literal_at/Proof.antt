@@ -1,4 +1,4 @@
--- `literals::literal_at` meets its contract. Assumes nothing.
+-- `literals::literal_at` meets its contract.
 use mathlib.Core.Path.{_∙_, ap}
 use borrow.Author.Needs.{needs}
 use Rattle.definition.specs.Grammar.{mark}
@@ -14,7 +14,7 @@ read-head-requires : tie.Need-read-head-requires
 read-head-requires c κs = itself _ _ _ (c .before .pre) .room
 
 number-at-requires : tie.Need-number-at-requires
-number-at-requires c κs = let a = c .before .before .before .args in (c .before .before .before .pre, marked (a .left) (a .tree .now) (a .at) (c .before .read-head .result) (c .before .read-head .ensures) (mark "Nu") (c .match .keys4))
+number-at-requires c κs = let a = c .before .before .before .args in (c .before .before .before .pre, marked (a .levels) (a .tree .now) (a .at) (c .before .read-head .result) (c .before .read-head .ensures) (mark "Nu") (c .match .keys4))
 
 has-flag-requires : tie.Need-has-flag-requires
 has-flag-requires c κs = search needs

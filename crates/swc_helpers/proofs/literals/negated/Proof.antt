@@ -1,4 +1,4 @@
--- `literals::negated` meets its contract. Assumes nothing.
+-- `literals::negated` meets its contract.
 use borrow.Author.Needs.{needs}
 use Rattle.swc_helpers.proofs.Sign.{negation-is-no-nan, turned-is}
 use Rattle.swc_helpers.proofs.literals.negated.Statement.{statement}

@@ -1,4 +1,4 @@
--- `literals::negated_bigint` meets its contract. Assumes nothing.
+-- `literals::negated_bigint` meets its contract.
 use native.Mathlib.Omega.{arith}
 use mathlib.Core.Path.{_∙_, ap}
 use mathlib.Core.List.{List}

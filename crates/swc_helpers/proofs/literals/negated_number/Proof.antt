@@ -1,4 +1,4 @@
--- `literals::negated_number` meets its contract. Assumes nothing.
+-- `literals::negated_number` meets its contract.
 use native.Mathlib.Omega.{arith}
 use mathlib.Core.Path.{_∙_, ap, sym}
 use lib.Ieee.{binary64, ofBits}

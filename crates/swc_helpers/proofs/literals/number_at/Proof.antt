@@ -1,4 +1,4 @@
--- `literals::number_at` meets its contract. Assumes nothing.
+-- `literals::number_at` meets its contract.
 use mathlib.Core.Path.{_∙_, ap}
 use lib.Ieee.{binary64, ofBits}
 use Rattle.swc_helpers.proofs.Texts.{number-fits, number-is}

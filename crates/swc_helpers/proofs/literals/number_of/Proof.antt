@@ -1,4 +1,4 @@
--- `literals::number_of` meets its contract. Assumes nothing.
+-- `literals::number_of` meets its contract.
 use borrow.Author.Needs.{needs}
 use Rattle.swc_helpers.proofs.Sign.{nan-read, no-nan}
 use Rattle.swc_helpers.proofs.literals.number_of.Statement.{statement}

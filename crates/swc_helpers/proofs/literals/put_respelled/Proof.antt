@@ -1,4 +1,4 @@
--- `literals::put_respelled` meets its contract. Assumes nothing.
+-- `literals::put_respelled` meets its contract.
 use native.Mathlib.Omega.{arith}
 use Rattle.swc_helpers.proofs.Made.{put-put, put-as}
 use Rattle.swc_helpers.proofs.Texts.{bare-head}

@@ -1,4 +1,4 @@
--- `literals::turned_sign` meets its contract. Assumes nothing.
+-- `literals::turned_sign` meets its contract.
 use borrow.Author.Tests.{eq-eqb, ne-eqb}
 use Rattle.swc_helpers.proofs.literals.turned_sign.Statement.{statement}
 use Rattle.swc_helpers.proofs.literals.turned_sign.Tie as tie

@@ -1,4 +1,4 @@
--- `transform_twice` meets its contract. Assumes nothing.
+-- `transform_twice` meets its contract.
 use Rattle.records.proofs.Whole.{slice-bytes}
 use Rattle.transform_dts.proofs.Calls.{wrote-inside, wrote-length}
 use Rattle.transform_dts.proofs.SecondCall.{again-all, once-all}

@@ -1,4 +1,4 @@
--- `key_value`, a member of the cycle, meets its contract. Assumes nothing.
+-- `key_value`, a member of the cycle, meets its contract.
 use Prim.Native.Nat.{ℕ, _-_}
 use borrow.Author.Needs.{needs}
 use mathlib.Core.Path.{ap, _∙_}
@@ -48,14 +48,14 @@ pub sub-expr-to-ts-type : (t : ℕ) → key-value-lts.Need-sub-expr-to-ts-type (
 sub-expr-to-ts-type t c = omega (arith, some-left _ _ _ (c .before .before .before .before .before .before .before .before .before .before .pre .1 .0 .accepted))
 
 pub expr-to-ts-type-requires : (t : ℕ) → key-value-lts.Need-expr-to-ts-type-requires (calls t) (key-value-at t) key-value.Post
-expr-to-ts-type-requires t c κs = (omega (arith, c .before .before .before .before .before .before .before .before .before .before .before .before .pre .0, some-left _ _ _ (c .before .before .before .before .before .before .before .before .before .before .before .before .pre .1 .0 .accepted)), ready-on (ready-second (c .before .before .before .before .before .before .before .before .before .before .before .before .pre .1 .0) (placed (kv-key _ _ _ (c .before .before .before .before .before .before .before .before .before .before .before .before .pre .1 .0 .accepted) (c .before .before .before .before .before .before .before .before .before .before .before .before .pre .1 .1)) (c .before .before .before .before .before .before .before .before .body-at .ensures)) (c .before .before .before .before .before .before .before .before .body-at .ensures) (placed (kv-value _ _ _ (c .before .before .before .before .before .before .before .before .before .before .before .before .pre .1 .0 .accepted) (c .before .before .before .before .before .before .before .before .before .before .before .before .pre .1 .1)) (c .before .before .before .before .before .before .before .record-end .ensures ∙ ap (endAt (c .before .before .before .before .before .before .before .before .before .before .before .before .args .left - 1) (c .before .before .before .before .before .before .before .before .before .before .before .before .args .tree .now)) (c .before .before .before .before .before .before .before .before .body-at .ensures))) (c .before .before .before .before .before .before .before .record-end .ensures)) (puts-counter (c .before .before .before .before .put-keyed .ensures)))
+expr-to-ts-type-requires t c κs = (omega (arith, c .before .before .before .before .before .before .before .before .before .before .before .before .pre .0, some-left _ _ _ (c .before .before .before .before .before .before .before .before .before .before .before .before .pre .1 .0 .accepted)), ready-on (ready-second (c .before .before .before .before .before .before .before .before .before .before .before .before .pre .1 .0) (placed (kv-key _ _ _ (c .before .before .before .before .before .before .before .before .before .before .before .before .pre .1 .0 .accepted) (c .before .before .before .before .before .before .before .before .before .before .before .before .pre .1 .1)) (c .before .before .before .before .before .before .before .before .body-at .ensures)) (c .before .before .before .before .before .before .before .before .body-at .ensures) (placed (kv-value _ _ _ (c .before .before .before .before .before .before .before .before .before .before .before .before .pre .1 .0 .accepted) (c .before .before .before .before .before .before .before .before .before .before .before .before .pre .1 .1)) (c .before .before .before .before .before .before .before .record-end .ensures ∙ ap (endAt (c .before .before .before .before .before .before .before .before .before .before .before .before .args .levels - 1) (c .before .before .before .before .before .before .before .before .before .before .before .before .args .tree .now)) (c .before .before .before .before .before .before .before .before .body-at .ensures))) (c .before .before .before .before .before .before .before .record-end .ensures)) (puts-counter (c .before .before .before .before .put-keyed .ensures)))
 
 pub or-any-requires : (t : ℕ) → key-value-lts.Need-or-any-requires (calls t) (key-value-at t) key-value.Post
-or-any-requires t c κs = itself _ _ _ (placed (kv-value _ _ _ (c .before .before .before .before .before .before .before .before .before .before .before .before .before .before .before .before .before .before .before .pre .1 .0 .accepted) (c .before .before .before .before .before .before .before .before .before .before .before .before .before .before .before .before .before .before .before .pre .1 .1)) (c .before .before .before .before .before .before .before .before .before .before .before .before .before .before .record-end .ensures ∙ ap (endAt (c .before .before .before .before .before .before .before .before .before .before .before .before .before .before .before .before .before .before .before .args .left - 1) (c .before .before .before .before .before .before .before .before .before .before .before .before .before .before .before .before .before .before .before .args .tree .now)) (c .before .before .before .before .before .before .before .before .before .before .before .before .before .before .before .body-at .ensures)) .accepted) .room
+or-any-requires t c κs = itself _ _ _ (placed (kv-value _ _ _ (c .before .before .before .before .before .before .before .before .before .before .before .before .before .before .before .before .before .before .before .pre .1 .0 .accepted) (c .before .before .before .before .before .before .before .before .before .before .before .before .before .before .before .before .before .before .before .pre .1 .1)) (c .before .before .before .before .before .before .before .before .before .before .before .before .before .before .record-end .ensures ∙ ap (endAt (c .before .before .before .before .before .before .before .before .before .before .before .before .before .before .before .before .before .before .before .args .levels - 1) (c .before .before .before .before .before .before .before .before .before .before .before .before .before .before .before .before .before .before .before .args .tree .now)) (c .before .before .before .before .before .before .before .before .before .before .before .before .before .before .before .body-at .ensures)) .accepted) .room
 
 pub returns : (t : ℕ) → key-value-lts.Need-returns (calls t) (key-value-at t) key-value.Post
 unfolding typeOf
-returns t c = gives-value (c .before .before .before .before .before .before .before .before .before .before .before .before .before .before .before .before .before .before .before .before .before .before .before .before .args .s) _ (c .before .before .before .before .before .before .before .before .before .before .before .before .before .before .before .before .before .before .before .before .before .before .before .before .args .mode .as_readonly || c .before .before .before .before .before .before .before .before .before .before .before .before .before .before .before .before .before .before .before .before .before .before .before .before .args .mode .frozen) _ (omega (arith, c .before .before .before .before .before .before .before .before .before .before .before .before .before .before .before .before .before .before .before .before .before .before .before .before .good)) (rw (c .before .before .before .before .before .before .before .before .before .before .before .before .before .before .before .before .before .before .is-readonly .ensures) at (c .before .before .before .before .before .before .before .before .before .before .before .before .before .before .before .before .put-keyed .ensures)) (c .before .before .before .before .before .before .before .before .before .before .before .expr-to-ts-type .ensures) (c .before .before .before .before .or-any .ensures) (rw (puts-counter (c .before .before .before .before .before .before .before .before .before .before .before .before .before .before .before .before .put-keyed .ensures)) (member-key-value (c .before .before .before .before .before .before .before .before .before .before .before .before .before .before .before .before .before .before .before .before .before .before .before .before .args .tree .now) (c .before .before .before .before .before .before .before .before .before .before .before .before .before .before .before .before .before .before .before .before .before .before .before .before .args .mode) (c .before .before .before .before .before .before .before .before .before .before .before .before .before .before .before .before .before .before .before .before .before .before .before .before .args .left) (c .before .before .before .before .before .before .before .before .before .before .before .before .before .before .before .before .before .before .before .before .before .before .before .before .args .at) (c .before .before .before .before .before .before .before .before .before .before .before .before .before .before .before .before .before .before .before .before .before .before .before .before .args .s .n) (c .before .before .before .before .before .before .before .before .before .before .before .before .before .before .before .before .before .before .before .before .before .before .before .before .pre .1 .0 .accepted) (c .before .before .before .before .before .before .before .before .before .before .before .before .before .before .before .before .before .before .before .before .before .before .before .before .pre .1 .1) (placed (kv-key _ _ _ (c .before .before .before .before .before .before .before .before .before .before .before .before .before .before .before .before .before .before .before .before .before .before .before .before .pre .1 .0 .accepted) (c .before .before .before .before .before .before .before .before .before .before .before .before .before .before .before .before .before .before .before .before .before .before .before .before .pre .1 .1)) (c .before .before .before .before .before .before .before .before .before .before .before .before .before .before .before .before .before .before .before .before .body-at .ensures)) (placed (kv-value _ _ _ (c .before .before .before .before .before .before .before .before .before .before .before .before .before .before .before .before .before .before .before .before .before .before .before .before .pre .1 .0 .accepted) (c .before .before .before .before .before .before .before .before .before .before .before .before .before .before .before .before .before .before .before .before .before .before .before .before .pre .1 .1)) (c .before .before .before .before .before .before .before .before .before .before .before .before .before .before .before .before .before .before .before .record-end .ensures ∙ ap (endAt (c .before .before .before .before .before .before .before .before .before .before .before .before .before .before .before .before .before .before .before .before .before .before .before .before .args .left - 1) (c .before .before .before .before .before .before .before .before .before .before .before .before .before .before .before .before .before .before .before .before .before .before .before .before .args .tree .now)) (c .before .before .before .before .before .before .before .before .before .before .before .before .before .before .before .before .before .before .before .before .body-at .ensures)))))
+returns t c = gives-value (c .before .before .before .before .before .before .before .before .before .before .before .before .before .before .before .before .before .before .before .before .before .before .before .before .args .s) _ (c .before .before .before .before .before .before .before .before .before .before .before .before .before .before .before .before .before .before .before .before .before .before .before .before .args .mode .as_readonly || c .before .before .before .before .before .before .before .before .before .before .before .before .before .before .before .before .before .before .before .before .before .before .before .before .args .mode .frozen) _ (omega (arith, c .before .before .before .before .before .before .before .before .before .before .before .before .before .before .before .before .before .before .before .before .before .before .before .before .good)) (rw (c .before .before .before .before .before .before .before .before .before .before .before .before .before .before .before .before .before .before .is-readonly .ensures) at (c .before .before .before .before .before .before .before .before .before .before .before .before .before .before .before .before .put-keyed .ensures)) (c .before .before .before .before .before .before .before .before .before .before .before .expr-to-ts-type .ensures) (c .before .before .before .before .or-any .ensures) (rw (puts-counter (c .before .before .before .before .before .before .before .before .before .before .before .before .before .before .before .before .put-keyed .ensures)) (member-key-value (c .before .before .before .before .before .before .before .before .before .before .before .before .before .before .before .before .before .before .before .before .before .before .before .before .args .tree .now) (c .before .before .before .before .before .before .before .before .before .before .before .before .before .before .before .before .before .before .before .before .before .before .before .before .args .mode) (c .before .before .before .before .before .before .before .before .before .before .before .before .before .before .before .before .before .before .before .before .before .before .before .before .args .levels) (c .before .before .before .before .before .before .before .before .before .before .before .before .before .before .before .before .before .before .before .before .before .before .before .before .args .at) (c .before .before .before .before .before .before .before .before .before .before .before .before .before .before .before .before .before .before .before .before .before .before .before .before .args .s .n) (c .before .before .before .before .before .before .before .before .before .before .before .before .before .before .before .before .before .before .before .before .before .before .before .before .pre .1 .0 .accepted) (c .before .before .before .before .before .before .before .before .before .before .before .before .before .before .before .before .before .before .before .before .before .before .before .before .pre .1 .1) (placed (kv-key _ _ _ (c .before .before .before .before .before .before .before .before .before .before .before .before .before .before .before .before .before .before .before .before .before .before .before .before .pre .1 .0 .accepted) (c .before .before .before .before .before .before .before .before .before .before .before .before .before .before .before .before .before .before .before .before .before .before .before .before .pre .1 .1)) (c .before .before .before .before .before .before .before .before .before .before .before .before .before .before .before .before .before .before .before .before .body-at .ensures)) (placed (kv-value _ _ _ (c .before .before .before .before .before .before .before .before .before .before .before .before .before .before .before .before .before .before .before .before .before .before .before .before .pre .1 .0 .accepted) (c .before .before .before .before .before .before .before .before .before .before .before .before .before .before .before .before .before .before .before .before .before .before .before .before .pre .1 .1)) (c .before .before .before .before .before .before .before .before .before .before .before .before .before .before .before .before .before .before .before .record-end .ensures ∙ ap (endAt (c .before .before .before .before .before .before .before .before .before .before .before .before .before .before .before .before .before .before .before .before .before .before .before .before .args .levels - 1) (c .before .before .before .before .before .before .before .before .before .before .before .before .before .before .before .before .before .before .before .before .before .before .before .before .args .tree .now)) (c .before .before .before .before .before .before .before .before .before .before .before .before .before .before .before .before .before .before .before .before .body-at .ensures)))))
 
 pub same-length : (t : ℕ) → key-value-lts.Need-same-length (calls t) (key-value-at t) key-value.Post
 same-length t c = returns t c .step .ran .out .same

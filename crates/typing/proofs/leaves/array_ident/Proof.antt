@@ -1,4 +1,4 @@
--- `leaves::array_ident` meets its contract. Assumes nothing.
+-- `leaves::array_ident` meets its contract.
 use mathlib.Core.Path.{refl}
 use Rattle.typing.proofs.Maybe.{maybe-some, maybe-none}
 use Rattle.typing.proofs.Arms.{array-test}
@@ -20,10 +20,10 @@ same-length : tie.Need-same-length
 same-length c = search needs
 
 returns : tie.Need-returns
-returns c = maybe-some (c .before .before .ts-type-query .ensures) (rw (array-test (c .before .before .before .before .before .before .before .before .args .left) (c .before .before .before .before .before .before .before .before .args .tree .now) (c .before .before .before .before .before .before .before .before .args .at) (c .before .before .before .before .before .asked .ensures) (c .before .before .before .before .if1 .taken)) refl)
+returns c = maybe-some (c .before .before .ts-type-query .ensures) (rw (array-test (c .before .before .before .before .before .before .before .before .args .levels) (c .before .before .before .before .before .before .before .before .args .tree .now) (c .before .before .before .before .before .before .before .before .args .at) (c .before .before .before .before .before .asked .ensures) (c .before .before .before .before .if1 .taken)) refl)
 
 returns-2 : tie.Need-returns-2
-returns-2 c = maybe-none _ _ (rw (array-test (c .before .before .before .before .args .left) (c .before .before .before .before .args .tree .now) (c .before .before .before .before .args .at) (c .before .asked .ensures) (c .if1 .left)) refl)
+returns-2 c = maybe-none _ _ (rw (array-test (c .before .before .before .before .args .levels) (c .before .before .before .before .args .tree .now) (c .before .before .before .before .args .at) (c .before .asked .ensures) (c .if1 .left)) refl)
 
 pub array-ident-spec : {M : Type 1} → statement M
 array-ident-spec =

@@ -1,4 +1,4 @@
--- `leaves::ident_to_ts_type` meets its contract. Assumes nothing.
+-- `leaves::ident_to_ts_type` meets its contract.
 use Rattle.definition.proofs.Children.{itself}
 use Rattle.definition.proofs.Kids.{id-text}
 use Rattle.swc_helpers.proofs.Answers.{as-type}
@@ -24,7 +24,7 @@ same-length : tie.Need-same-length
 same-length c = search needs
 
 returns : tie.Need-returns
-returns c = as-type (c .before .before .global-type .ensures) (ident-global _ _ (c .before .before .before .before .before .before .before .before .before .args .left) (c .before .before .before .before .before .before .before .before .before .args .tree .now) (c .before .before .before .before .before .before .before .before .before .args .at) _ (c .before .before .before .before .before .before .context-at .ensures) (c .before .before .before .before .if1 .taken))
+returns c = as-type (c .before .before .global-type .ensures) (ident-global _ _ (c .before .before .before .before .before .before .before .before .before .args .levels) (c .before .before .before .before .before .before .before .before .before .args .tree .now) (c .before .before .before .before .before .before .before .before .before .args .at) _ (c .before .before .before .before .before .before .context-at .ensures) (c .before .before .before .before .if1 .taken))
 
 asked-requires : tie.Need-asked-requires
 asked-requires c κs = (c .before .before .before .before .before .pre .0 .0, c .before .before .before .before .before .pre .1)
@@ -36,10 +36,10 @@ same-length-2 : tie.Need-same-length-2
 same-length-2 c = search needs
 
 returns-2 : tie.Need-returns-2
-returns-2 c = maybe-some (c .before .before .ts-type-query .ensures) (ident-safe _ _ (c .before .before .before .before .before .before .before .before .before .before .before .args .left) (c .before .before .before .before .before .before .before .before .before .before .before .args .tree .now) (c .before .before .before .before .before .before .before .before .before .before .before .args .at) _ (c .before .before .before .before .before .before .before .before .context-at .ensures) (c .before .before .before .before .before .before .if1 .left) (safe-test (c .before .before .before .before .before .before .before .before .before .before .before .args .left) (c .before .before .before .before .before .before .before .before .before .before .before .args .tree .now) (c .before .before .before .before .before .before .before .before .before .before .before .args .at) (c .before .before .before .before .before .asked .ensures) (c .before .before .before .before .if2 .taken)))
+returns-2 c = maybe-some (c .before .before .ts-type-query .ensures) (ident-safe _ _ (c .before .before .before .before .before .before .before .before .before .before .before .args .levels) (c .before .before .before .before .before .before .before .before .before .before .before .args .tree .now) (c .before .before .before .before .before .before .before .before .before .before .before .args .at) _ (c .before .before .before .before .before .before .before .before .context-at .ensures) (c .before .before .before .before .before .before .if1 .left) (safe-test (c .before .before .before .before .before .before .before .before .before .before .before .args .levels) (c .before .before .before .before .before .before .before .before .before .before .before .args .tree .now) (c .before .before .before .before .before .before .before .before .before .before .before .args .at) (c .before .before .before .before .before .asked .ensures) (c .before .before .before .before .if2 .taken)))
 
 returns-3 : tie.Need-returns-3
-returns-3 c = maybe-none _ _ (ident-unsafe _ _ (c .before .before .before .before .before .before .before .args .left) (c .before .before .before .before .before .before .before .args .tree .now) (c .before .before .before .before .before .before .before .args .at) _ (c .before .before .before .before .context-at .ensures) (c .before .before .if1 .left) (safe-test (c .before .before .before .before .before .before .before .args .left) (c .before .before .before .before .before .before .before .args .tree .now) (c .before .before .before .before .before .before .before .args .at) (c .before .asked .ensures) (c .if2 .left)))
+returns-3 c = maybe-none _ _ (ident-unsafe _ _ (c .before .before .before .before .before .before .before .args .levels) (c .before .before .before .before .before .before .before .args .tree .now) (c .before .before .before .before .before .before .before .args .at) _ (c .before .before .before .before .context-at .ensures) (c .before .before .if1 .left) (safe-test (c .before .before .before .before .before .before .before .args .levels) (c .before .before .before .before .before .before .before .args .tree .now) (c .before .before .before .before .before .before .before .args .at) (c .before .asked .ensures) (c .if2 .left)))
 
 pub ident-to-ts-type-spec : {M : Type 1} → statement M
 ident-to-ts-type-spec =

@@ -1,4 +1,4 @@
--- `leaves::new_type` meets its contract. Assumes nothing.
+-- `leaves::new_type` meets its contract.
 use mathlib.Core.Path.{sym, ap, _∙_}
 use Prim.Native.Nat.{_-_}
 use native.Mathlib.Omega.{arith}
@@ -30,7 +30,7 @@ mark-at-requires : tie.Need-mark-at-requires
 mark-at-requires c κs = itself _ _ _ (placed (ne-callee _ _ _ (c .before .before .before .pre .0 .0) (c .before .before .before .pre .0 .1)) (c .body-at .ensures) .accepted) .room
 
 returns : tie.Need-returns
-returns c = maybe-none _ _ (new-callee (idsOf (c .before .before .before .before .before .args .tree .now)) (kidsOf (treeAt (c .before .before .before .before .before .args .left) (c .before .before .before .before .before .args .tree .now) (c .before .before .before .before .before .args .at))) (not-kid (placed (ne-callee _ _ _ (c .before .before .before .before .before .pre .0 .0) (c .before .before .before .before .before .pre .0 .1)) (c .before .before .body-at .ensures)) (c .before .mark-at .ensures .0) (c .if1 .taken)))
+returns c = maybe-none _ _ (new-callee (idsOf (c .before .before .before .before .before .args .tree .now)) (kidsOf (treeAt (c .before .before .before .before .before .args .levels) (c .before .before .before .before .before .args .tree .now) (c .before .before .before .before .before .args .at))) (not-kid (placed (ne-callee _ _ _ (c .before .before .before .before .before .pre .0 .0) (c .before .before .before .before .before .pre .0 .1)) (c .before .before .body-at .ensures)) (c .before .mark-at .ensures .0) (c .if1 .taken)))
 
 sub-record-end : tie.Need-sub-record-end
 sub-record-end c = omega (arith, some-left _ _ _ (c .before .before .before .before .before .pre .0 .0))
@@ -39,10 +39,10 @@ record-end-requires : tie.Need-record-end-requires
 record-end-requires c κs = is-whole _ _ _ (placed (ne-callee _ _ _ (c .before .before .before .before .before .pre .0 .0) (c .before .before .before .before .before .pre .0 .1)) (c .before .before .body-at .ensures) .accepted)
 
 mark-at-requires-2 : tie.Need-mark-at-requires-2
-mark-at-requires-2 c κs = itself _ _ _ (placed (ne-types _ _ _ (c .before .before .before .before .before .before .pre .0 .0) (c .before .before .before .before .before .before .pre .0 .1)) (c .record-end .ensures ∙ ap (endAt (c .before .before .before .before .before .before .args .left - 1) (c .before .before .before .before .before .before .args .tree .now)) (c .before .before .before .body-at .ensures)) .accepted) .room
+mark-at-requires-2 c κs = itself _ _ _ (placed (ne-types _ _ _ (c .before .before .before .before .before .before .pre .0 .0) (c .before .before .before .before .before .before .pre .0 .1)) (c .record-end .ensures ∙ ap (endAt (c .before .before .before .before .before .before .args .levels - 1) (c .before .before .before .before .before .before .args .tree .now)) (c .before .before .before .body-at .ensures)) .accepted) .room
 
 returns-2 : tie.Need-returns-2
-returns-2 c = maybe-none _ _ (new-generic (idsOf (c .before .before .before .before .before .before .before .before .args .tree .now)) (kidsOf (treeAt (c .before .before .before .before .before .before .before .before .args .left) (c .before .before .before .before .before .before .before .before .args .tree .now) (c .before .before .before .before .before .before .before .before .args .at))) (is-kid (placed (ne-callee _ _ _ (c .before .before .before .before .before .before .before .before .pre .0 .0) (c .before .before .before .before .before .before .before .before .pre .0 .1)) (c .before .before .before .before .before .body-at .ensures)) (c .before .before .before .before .mark-at .ensures .0) (c .before .before .before .if1 .left)) (not-kid (placed (ne-types _ _ _ (c .before .before .before .before .before .before .before .before .pre .0 .0) (c .before .before .before .before .before .before .before .before .pre .0 .1)) (c .before .before .record-end .ensures ∙ ap (endAt (c .before .before .before .before .before .before .before .before .args .left - 1) (c .before .before .before .before .before .before .before .before .args .tree .now)) (c .before .before .before .before .before .body-at .ensures))) (c .before .mark-at2 .ensures .0) (c .if2 .taken)))
+returns-2 c = maybe-none _ _ (new-generic (idsOf (c .before .before .before .before .before .before .before .before .args .tree .now)) (kidsOf (treeAt (c .before .before .before .before .before .before .before .before .args .levels) (c .before .before .before .before .before .before .before .before .args .tree .now) (c .before .before .before .before .before .before .before .before .args .at))) (is-kid (placed (ne-callee _ _ _ (c .before .before .before .before .before .before .before .before .pre .0 .0) (c .before .before .before .before .before .before .before .before .pre .0 .1)) (c .before .before .before .before .before .body-at .ensures)) (c .before .before .before .before .mark-at .ensures .0) (c .before .before .before .if1 .left)) (not-kid (placed (ne-types _ _ _ (c .before .before .before .before .before .before .before .before .pre .0 .0) (c .before .before .before .before .before .before .before .before .pre .0 .1)) (c .before .before .record-end .ensures ∙ ap (endAt (c .before .before .before .before .before .before .before .before .args .levels - 1) (c .before .before .before .before .before .before .before .before .args .tree .now)) (c .before .before .before .before .before .body-at .ensures))) (c .before .mark-at2 .ensures .0) (c .if2 .taken)))
 
 sub-asked : tie.Need-sub-asked
 sub-asked c = omega (arith, some-left _ _ _ (c .before .before .before .before .before .before .before .before .pre .0 .0))
@@ -62,11 +62,11 @@ same-length c = search needs
 returns-3 : tie.Need-returns-3
 returns-3 c = let k = placed (ne-callee _ _ _ (c .before .before .before .before .before .before .before .before .before .before .before .before .before .before .pre .0 .0) (c .before .before .before .before .before .before .before .before .before .before .before .before .before .before .pre .0 .1)) (c .before .before .before .before .before .before .before .before .before .before .before .body-at .ensures) in
     maybe-some (put-as (c .before .before .reference-to .ensures) (ap (λ (r : Rec). encode (referenceTo dummySp r)) (sym (k .tree))))
-    (new-class (idsOf (c .before .before .before .before .before .before .before .before .before .before .before .before .before .before .args .tree .now)) (kidsOf (treeAt (c .before .before .before .before .before .before .before .before .before .before .before .before .before .before .args .left) (c .before .before .before .before .before .before .before .before .before .before .before .before .before .before .args .tree .now) (c .before .before .before .before .before .before .before .before .before .before .before .before .before .before .args .at))) (is-kid k (c .before .before .before .before .before .before .before .before .before .before .mark-at .ensures .0) (c .before .before .before .before .before .before .before .before .before .if1 .left)) (is-kid (placed (ne-types _ _ _ (c .before .before .before .before .before .before .before .before .before .before .before .before .before .before .pre .0 .0) (c .before .before .before .before .before .before .before .before .before .before .before .before .before .before .pre .0 .1)) (c .before .before .before .before .before .before .before .before .record-end .ensures ∙ ap (endAt (c .before .before .before .before .before .before .before .before .before .before .before .before .before .before .args .left - 1) (c .before .before .before .before .before .before .before .before .before .before .before .before .before .before .args .tree .now)) (c .before .before .before .before .before .before .before .before .before .before .before .body-at .ensures))) (c .before .before .before .before .before .before .before .mark-at2 .ensures .0) (c .before .before .before .before .before .before .if2 .left)) (rw (k .tree) (class-test (c .before .before .before .before .before .before .before .before .before .before .before .before .before .before .args .left - 1) (c .before .before .before .before .before .before .before .before .before .before .before .before .before .before .args .tree .now) (c .before .before .before .before .before .before .before .before .before .before .before .body-at .result) (c .before .before .before .before .before .asked .ensures) (c .before .before .before .before .if3 .taken))))
+    (new-class (idsOf (c .before .before .before .before .before .before .before .before .before .before .before .before .before .before .args .tree .now)) (kidsOf (treeAt (c .before .before .before .before .before .before .before .before .before .before .before .before .before .before .args .levels) (c .before .before .before .before .before .before .before .before .before .before .before .before .before .before .args .tree .now) (c .before .before .before .before .before .before .before .before .before .before .before .before .before .before .args .at))) (is-kid k (c .before .before .before .before .before .before .before .before .before .before .mark-at .ensures .0) (c .before .before .before .before .before .before .before .before .before .if1 .left)) (is-kid (placed (ne-types _ _ _ (c .before .before .before .before .before .before .before .before .before .before .before .before .before .before .pre .0 .0) (c .before .before .before .before .before .before .before .before .before .before .before .before .before .before .pre .0 .1)) (c .before .before .before .before .before .before .before .before .record-end .ensures ∙ ap (endAt (c .before .before .before .before .before .before .before .before .before .before .before .before .before .before .args .levels - 1) (c .before .before .before .before .before .before .before .before .before .before .before .before .before .before .args .tree .now)) (c .before .before .before .before .before .before .before .before .before .before .before .body-at .ensures))) (c .before .before .before .before .before .before .before .mark-at2 .ensures .0) (c .before .before .before .before .before .before .if2 .left)) (rw (k .tree) (class-test (c .before .before .before .before .before .before .before .before .before .before .before .before .before .before .args .levels - 1) (c .before .before .before .before .before .before .before .before .before .before .before .before .before .before .args .tree .now) (c .before .before .before .before .before .before .before .before .before .before .before .body-at .result) (c .before .before .before .before .before .asked .ensures) (c .before .before .before .before .if3 .taken))))
 
 returns-4 : tie.Need-returns-4
 returns-4 c = let k = placed (ne-callee _ _ _ (c .before .before .before .before .before .before .before .before .before .before .pre .0 .0) (c .before .before .before .before .before .before .before .before .before .before .pre .0 .1)) (c .before .before .before .before .before .before .before .body-at .ensures) in
-    maybe-none _ _ (new-other (idsOf (c .before .before .before .before .before .before .before .before .before .before .args .tree .now)) (kidsOf (treeAt (c .before .before .before .before .before .before .before .before .before .before .args .left) (c .before .before .before .before .before .before .before .before .before .before .args .tree .now) (c .before .before .before .before .before .before .before .before .before .before .args .at))) (is-kid k (c .before .before .before .before .before .before .mark-at .ensures .0) (c .before .before .before .before .before .if1 .left)) (is-kid (placed (ne-types _ _ _ (c .before .before .before .before .before .before .before .before .before .before .pre .0 .0) (c .before .before .before .before .before .before .before .before .before .before .pre .0 .1)) (c .before .before .before .before .record-end .ensures ∙ ap (endAt (c .before .before .before .before .before .before .before .before .before .before .args .left - 1) (c .before .before .before .before .before .before .before .before .before .before .args .tree .now)) (c .before .before .before .before .before .before .before .body-at .ensures))) (c .before .before .before .mark-at2 .ensures .0) (c .before .before .if2 .left)) (rw (k .tree) (class-test (c .before .before .before .before .before .before .before .before .before .before .args .left - 1) (c .before .before .before .before .before .before .before .before .before .before .args .tree .now) (c .before .before .before .before .before .before .before .body-at .result) (c .before .asked .ensures) (c .if3 .left))))
+    maybe-none _ _ (new-other (idsOf (c .before .before .before .before .before .before .before .before .before .before .args .tree .now)) (kidsOf (treeAt (c .before .before .before .before .before .before .before .before .before .before .args .levels) (c .before .before .before .before .before .before .before .before .before .before .args .tree .now) (c .before .before .before .before .before .before .before .before .before .before .args .at))) (is-kid k (c .before .before .before .before .before .before .mark-at .ensures .0) (c .before .before .before .before .before .if1 .left)) (is-kid (placed (ne-types _ _ _ (c .before .before .before .before .before .before .before .before .before .before .pre .0 .0) (c .before .before .before .before .before .before .before .before .before .before .pre .0 .1)) (c .before .before .before .before .record-end .ensures ∙ ap (endAt (c .before .before .before .before .before .before .before .before .before .before .args .levels - 1) (c .before .before .before .before .before .before .before .before .before .before .args .tree .now)) (c .before .before .before .before .before .before .before .body-at .ensures))) (c .before .before .before .mark-at2 .ensures .0) (c .before .before .if2 .left)) (rw (k .tree) (class-test (c .before .before .before .before .before .before .before .before .before .before .args .levels - 1) (c .before .before .before .before .before .before .before .before .before .before .args .tree .now) (c .before .before .before .before .before .before .before .body-at .result) (c .before .asked .ensures) (c .if3 .left))))
 
 pub new-type-spec : {M : Type 1} → statement M
 new-type-spec =

@@ -1,4 +1,4 @@
--- `readonly::has_readonly` meets its contract, and the levels fall. Assumes nothing.
+-- `readonly::has_readonly` meets its contract, and the levels fall.
 use mathlib.Core.Path.{sym, _∙_}
 use native.Mathlib.Omega.{arith}
 use Rattle.definition.proofs.Children.{itself, some-left}

@@ -1,4 +1,4 @@
--- `readonly::readonly_or_same` meets its contract. Assumes nothing.
+-- `readonly::readonly_or_same` meets its contract.
 use Rattle.swc_helpers.proofs.Made.{is-whole, copied}
 use Rattle.typing.proofs.Maybe.{this-one, other-one}
 use borrow.Author.Needs.{needs}

@@ -1,4 +1,4 @@
--- `readonly::type_has_readonly` meets its contract. Assumes nothing.
+-- `readonly::type_has_readonly` meets its contract.
 use mathlib.Core.Path.{sym, _∙_}
 use Rattle.definition.proofs.Children.{itself}
 use Rattle.typing.proofs.ReadonlyOf.{has-lit, has-known, has-other}
