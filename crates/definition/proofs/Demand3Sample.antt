@@ -5,7 +5,7 @@ use mathlib.Core.Bool.{Bool, true, false, cond, _&&_}
 use Prim.Native.Nat.{ℕ}
 use native.Mathlib.Omega.{arith}
 use lib.Dec.{eqb}
-use lib.ListN.{replicate}
+use lib.ListN.{length, replicate}
 use borrow.Author.Tests.{eqb-true, eq-eqb, leb-true}
 use Rattle.definition.specs.Tree.{Rec, Recs, rec, nil, cons, Bytes, le4, headBytes, encode, headAt, readAll, endOfAll, endAt, treeAt}
 use Rattle.definition.specs.Grammar.{mark, marks, member, grammar, known, forms, slots, place, allowed, after, least, isProperty}
@@ -73,8 +73,8 @@ sample =
     (one (rec (fresh "Nb" 0 []) (one (rec (fresh "Xe" 0 []) (one (rec (fresh "Id" 0 (le4 1 ++ text "a")) nil))))))))
     (one (rec (fresh "Xe" 0 []) (one (rec (fresh "Ar" 0 []) nil)))))
 
--- two calls with 256 bytes for the output and none for diagnostics
-pub conditions-met : Bytes (encode sample) × Supposed (encode sample) [] 1 (replicate 256 7) [] (replicate 256 9) []
+-- two calls with 300 bytes for the output and none for diagnostics
+pub conditions-met : Bytes (encode sample) × Supposed (encode sample) [] 1 (replicate 300 7) [] (replicate 300 9) []
 unfolding
     headBytes encode headAt readAll endOfAll endAt treeAt
     marks member grammar known forms slots place allowed after least isProperty
@@ -85,10 +85,10 @@ unfolding
 conditions-met = (
   written-out (encode sample) refl,
   record {
-    accepted = (126, refl);
-    accepted′ = (251, refl);
-    room = record { texts = refl; bytes = leb-true _ 256 refl; diagnostics = leb-true _ 0 refl };
-    room′ = record { texts = refl; bytes = leb-true _ 256 refl; diagnostics = leb-true _ 0 refl };
+    accepted = (length (encode sample), refl);
+    accepted′ = (length (output (encode sample) [] 1), refl);
+    room = record { texts = refl; bytes = leb-true _ 300 refl; diagnostics = leb-true _ 0 refl };
+    room′ = record { texts = refl; bytes = leb-true _ 300 refl; diagnostics = leb-true _ 0 refl };
     exports = exports-ids (treeAt deepest (output (encode sample) [] 1) 0) refl;
     namespaces = spaces-export-ids (treeAt deepest (encode sample) 0) refl;
   },

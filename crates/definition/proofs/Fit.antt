@@ -11,7 +11,7 @@ use native.Mathlib.Omega.{arith}
 use lib.Dec.{eqb, ltb}
 use lib.ListN.{length, length-drop}
 use borrow.Author.Tests.{ltb-true}
-use Rattle.definition.specs.Tree.{Head, Rec, Recs, rec, nil, cons, count, le4, Bytes}
+use Rattle.definition.specs.Tree.{flagsEnd, Head, Rec, Recs, rec, nil, cons, count, le4, Bytes}
 use Rattle.definition.specs.Grammar.{mark}
 use Rattle.definition.specs.Record.{text, headOf, kidsOf, isNo, symbolOf, dummySp, fresh, ranged, absent, ident, identAt, withFlags, flag1, flagged, kid, setKid, one, join, given, gone, Diag, Out, pure, ifM, onValue, wrap, each, flat, atKid, second}
 use Rattle.definition.specs.Helpers.{tsKeywordType, anyTypeAnn}
@@ -55,7 +55,7 @@ Room n w = n + w + 10 < 65536
 -- the fields of a record over n children
 pub record Sound (x : ℕ) (h : Head) (n : ℕ) : Type 0 where
   pub mark : h .mark < 65536
-  pub flags : h .flags < 256
+  pub flags : h .flags < flagsEnd
   pub start : h .start < 4294967296
   pub end : h .end < 4294967296
   pub text : length (h .text) < 65536 + x
@@ -108,7 +108,7 @@ abbrev pub plain : String → Bool
 plain s = ltb (mark s) 65536
 
 module _ (x : ℕ) where
-  pub fresh-sound : (s : String) → plain s ≡ true → (f : ℕ) → f < 256 → (t : List ℕ) → length t < 65536 + x → Bytes t → (n : ℕ) → n < 65536 →
+  pub fresh-sound : (s : String) → plain s ≡ true → (f : ℕ) → f < flagsEnd → (t : List ℕ) → length t < 65536 + x → Bytes t → (n : ℕ) → n < 65536 →
       Sound x (fresh s f t) n
   fresh-sound s e f fl t tl tb n nl = record {
     mark = ltb-true (mark s) 65536 e;
@@ -144,7 +144,7 @@ module _ (x : ℕ) where
     count = l;
   }
 
-  pub reflag : (h : Head) (f n : ℕ) → f < 256 → Sound x h n → Sound x (withFlags h f) n
+  pub reflag : (h : Head) (f n : ℕ) → f < flagsEnd → Sound x h n → Sound x (withFlags h f) n
   reflag h f n l g = record {
     mark = g .mark;
     flags = l;
@@ -155,7 +155,7 @@ module _ (x : ℕ) where
     count = g .count;
   }
 
-  pub flag1-fits : (b : Bool) (f : ℕ) → f < 256 → flag1 b f < 256
+  pub flag1-fits : (b : Bool) (f : ℕ) → f < flagsEnd → flag1 b f < flagsEnd
   flag1-fits true f l = omega arith
   flag1-fits false f l = omega arith
 
@@ -184,7 +184,7 @@ module _ (x : ℕ) where
   pub over-one : (s : String) → plain s ≡ true → (r : Rec) → Fit x r → Fit x (rec (fresh s 0 []) (one r))
   over-one s e r g = (fresh-sound s e 0 (omega arith) [] (omega arith) bytes-none 1 (omega arith), (g, tt))
 
-  pub over-two : (s : String) → plain s ≡ true → (f : ℕ) → f < 256 → (a b : Rec) → Fit x a → Fit x b → Fit x (rec (fresh s f []) (cons a (one b)))
+  pub over-two : (s : String) → plain s ≡ true → (f : ℕ) → f < flagsEnd → (a b : Rec) → Fit x a → Fit x b → Fit x (rec (fresh s f []) (cons a (one b)))
   over-two s e f l a b g k = (fresh-sound s e f l [] (omega arith) bytes-none 2 (omega arith), (g, (k, tt)))
 
   -- an Id with the range of a record: its name is a text, the symbol of an Id, or made

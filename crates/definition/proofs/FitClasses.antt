@@ -5,7 +5,7 @@ use mathlib.Core.Bool.{Bool, true, false, not, _&&_, _||_}
 use mathlib.Core.Option.{Option, none, some}
 use Prim.Native.Nat.{ℕ, zero, suc, _≤_, _<_}
 use native.Mathlib.Omega.{arith}
-use Rattle.definition.specs.Tree.{Head, Rec, Recs, rec, nil, cons, count}
+use Rattle.definition.specs.Tree.{flagsEnd, Head, Rec, Recs, rec, nil, cons, count}
 use Rattle.definition.specs.Record.{headOf, kidsOf, markOf, is, isNo, dummySp, withFlags, flagged, has1, kid, setKid, one, ends, gone, diag, listed, Out, Typing, pure, wrap, each, atKid}
 use Rattle.definition.specs.Helpers.{anyTypeAnn}
 use Rattle.definition.specs.Names.{isWellKnownSymbolExpr, KeyExpr, xLit, xTpl, xThrough, xIdent, xMember, xOther, keyExprKind, computed, propNameBy, propNameFromExpr, propNameFromFirst, propNameFromOnly, validPropName}
@@ -200,7 +200,7 @@ module _ (x : ℕ) (ty : Typing) (fit : TypesFit x ty) where
       let value : Rec = kid 2 ks in
       let s : names value ≤ allNames ks = kid-names 2 ks in
       let v : Fit x value = kid-fits x 2 ks (g .1) in
-      let f : h .flags < 256 = g .0 .flags in
+      let f : h .flags < flagsEnd = g .0 .flags in
       onValue-makes (λ (ks : Recs). one (rec (withFlags h (propFlags (h .flags))) (setKid 0 key (setKid 2 (gone value) ks))))
       (λ ks m. remade (withFlags h (propFlags (h .flags))) _ (setKid 0 key (setKid 2 (gone value) ks)) (reflag x h (propFlags (h .flags)) _ (omega arith) (g .0))
       (setKid-fits x 0 key (setKid 2 (gone value) ks) _ k (setKid-fits x 2 (gone value) ks _ (gone-fits x value v) m)))

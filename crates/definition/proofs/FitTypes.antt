@@ -9,7 +9,7 @@ use native.Mathlib.Omega.{arith}
 use lib.Dec.{eqb}
 use lib.ListN.{length}
 use borrow.Author.Tests.{eqb-true}
-use Rattle.definition.specs.Tree.{Head, Rec, Recs, rec, nil, cons, count, le4, Bytes}
+use Rattle.definition.specs.Tree.{flagsEnd, Head, Rec, Recs, rec, nil, cons, count, le4, Bytes}
 use Rattle.definition.specs.Grammar.{mark}
 use Rattle.definition.specs.Record.{text, headOf, kidsOf, markOf, textOf, is, isNo, symbolOf, dummySp, fresh, ranged, absent, ident, identAt, flagged, kid, one, given, Diag, diag, Out}
 use Rattle.definition.specs.Helpers.{tsKeywordType, anyTypeAnn, referenceTo, tsLitType, regexType, tsTupleElement, noExprs, firstCooked, tplToTsType, Lit, lStr, lBool, lNull, lNum, lBigInt, lRegex, lJsxText, maybeLitToTsType}
@@ -210,7 +210,7 @@ module _ (x : ℕ) where
   key-fits kNum r e g q = g
   key-fits kComputed r e g q = kid-fits x 0 (kidsOf r) (kids-fit x r g)
 
-  flag-fits : (r : Bool) (k : Key) → cond r 1 0 + keyFlag k < 256
+  flag-fits : (r : Bool) (k : Key) → cond r 1 0 + keyFlag k < flagsEnd
   flag-fits true kIdent = omega arith
   flag-fits true kStr = omega arith
   flag-fits true kNum = omega arith
@@ -220,7 +220,7 @@ module _ (x : ℕ) where
   flag-fits false kNum = omega arith
   flag-fits false kComputed = omega arith
 
-  signature-fits : (key : Rec) (r : Bool) (f : ℕ) (t : Rec) → cond r 1 0 + f < 256 → Fit x key → Fit x t → Few x 1 (one (propertySignature key r f t))
+  signature-fits : (key : Rec) (r : Bool) (f : ℕ) (t : Rec) → cond r 1 0 + f < flagsEnd → Fit x key → Fit x t → Few x 1 (one (propertySignature key r f t))
   signature-fits key r f t l g h = ((over-two x "Ps" refl (cond r 1 0 + f) l key t g h, tt), omega arith)
 
   pub keyValue-makes : (ks : Recs) (r : Bool) (n w : ℕ) (o : Out (Option Rec)) → FitAll x ks → (markOf (kid 0 ks) ≡ mark "Ki" → length (textOf (kid 0 ks)) ≤ 65531 + x) →

@@ -65,7 +65,10 @@ le2 n = n % 256 ∷ n / 256 % 256 ∷ []
 abbrev pub le4 : ℕ → List ℕ
 le4 n = n % 256 ∷ n / 256 % 256 ∷ n / 65536 % 256 ∷ n / 16777216 % 256 ∷ []
 
--- "flags (1 byte)"
+-- "flags (1 byte)": they are below this number
+abbrev pub flagsEnd : ℕ
+flagsEnd = 256
+
 abbrev pub flagBytes : ℕ → List ℕ
 flagBytes n = n % 256 ∷ []
 
@@ -147,7 +150,7 @@ Bytes s = (i : ℕ) → getD s i 0 < 256
 -- the fields of a record fit their widths
 pub record FitsHead (h : Head) (n : ℕ) : Type 0 where
   pub mark : h .mark < 65536
-  pub flags : h .flags < 256
+  pub flags : h .flags < flagsEnd
   pub start : h .start < 4294967296
   pub end : h .end < 4294967296
   pub text : length (h .text) < 65536

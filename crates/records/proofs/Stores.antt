@@ -8,7 +8,7 @@ use native.Mathlib.Omega.{arith}
 use lib.ListN.{length, getD, set, take, drop, length-set, take-append-drop}
 use lib.Seq.{sets, sets-eq, length-sets, set-out, getD-set-same, getD-set-other, take-suc, length-take-le, drop-drop, ext-getD}
 use Rattle.definition.specs.Tree
-use Rattle.definition.specs.Tree.{flagsPlace, startPlace, endPlace, lengthPlace, countPlace, headSize, flagBytes, le2, le4, headBytes, headAt, lengthAt, countAt, bodyAt}
+use Rattle.definition.specs.Tree.{flagsEnd, flagsPlace, startPlace, endPlace, lengthPlace, countPlace, headSize, flagBytes, le2, le4, headBytes, headAt, lengthAt, countAt, bodyAt}
 use Rattle.definition.specs.Record.{diagBytes}
 use Rattle.definition.proofs.Places.{part-length}
 use Rattle.records.specs.Fields.{fieldsAt, fieldsOf, fieldBytes, diagSize, diagOf}
@@ -47,7 +47,7 @@ sets-out a p (x ∷ E) h = sets-out (set a p x) (suc p) E (simp length-set (omeg
 byte-mod : (b : ℕ) → b < 256 → b ≡ b % 256
 byte-mod b h = omega arith
 
-pub head-sets : (o : List ℕ) {o1 o2 o3 o4 o5 o6 : List ℕ} (p : ℕ) (h : Head) → h .flags < 256
+pub head-sets : (o : List ℕ) {o1 o2 o3 o4 o5 o6 : List ℕ} (p : ℕ) (h : Head) → h .flags < flagsEnd
     → o1 ≡ sets o p (le2 (h .mark)) → o2 ≡ set o1 (p + flagsPlace) (h .flags) → o3 ≡ sets o2 (p + startPlace) (le4 (h .start)) → o4 ≡ sets o3 (p + endPlace) (le4 (h .end))
     → o5 ≡ sets o4 (p + lengthPlace) (le2 (h .text)) → o6 ≡ sets o5 (p + countPlace) (le2 (h .count)) → o6 ≡ sets o p (fieldBytes h)
 unfolding fieldBytes
