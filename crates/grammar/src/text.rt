@@ -2,6 +2,7 @@
 ghost use mathlib.Core.Path.{_≡_};
 ghost use Rattle.definition.specs.Check.{isInteger, hasForm};
 ghost use Rattle.grammar.specs.Slots.{formAt};
+use records::flags::Flags;
 
 // The numbers of the forms in the tables; every other number stands for "empty text". "given text is any bytes":
 const ANYTHING: u8 = 1;
@@ -48,7 +49,7 @@ fn is_integer(t: &[u8]) -> bool
 }
 
 // Whether the text t has the form that the tables number `form`, in a record with those flags.
-pub fn has_form(form: u8, flags: u8, t: &[u8]) -> bool
+pub fn has_form(form: u8, flags: Flags, t: &[u8]) -> bool
     ensures { λ r. ⌜ r ≡ hasForm (formAt form) flags (now (t .entry)) ⌝ }
 {
     match form {

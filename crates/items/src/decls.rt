@@ -19,6 +19,7 @@ use parts::put_gone;
 use prescan::Scope;
 use records::body_at;
 use records::flags::DECLARE;
+use records::flags::Flags;
 use records::flags::with_flag;
 use records::flags::without_flag;
 use records::read_head;
@@ -26,7 +27,7 @@ use records::record_end;
 use typing::State;
 
 // "get declare at module level and lose it inside Nb": the flags of a declaration.
-pub fn declared(flags: u8, top: bool) -> u8
+pub fn declared(flags: Flags, top: bool) -> Flags
     ensures { λ r. ⌜ r ≡ flag1 top flags ⌝ }
 {
     if top {
@@ -40,7 +41,7 @@ pub fn with_class(
     tree: &[u8],
     at: usize,
     levels: usize,
-    flags: u8,
+    flags: Flags,
     scope: Scope,
     list: &[u8],
     out: &mut [u8],
@@ -78,7 +79,7 @@ pub fn with_function(
     tree: &[u8],
     at: usize,
     levels: usize,
-    flags: u8,
+    flags: Flags,
     scope: Scope,
     out: &mut [u8],
     diagnostics: &mut [u8],
@@ -114,7 +115,7 @@ pub fn with_declarators(
     tree: &[u8],
     at: usize,
     levels: usize,
-    flags: u8,
+    flags: Flags,
     scope: Scope,
     out: &mut [u8],
     diagnostics: &mut [u8],
@@ -146,7 +147,7 @@ pub fn with_members(
     tree: &[u8],
     at: usize,
     levels: usize,
-    flags: u8,
+    flags: Flags,
     out: &mut [u8],
     s: State,
 ) -> State

@@ -29,6 +29,7 @@ use prescan::Scope;
 use reader::next_at;
 use records::DEEPEST;
 use records::body_at;
+use records::flags::Flags;
 use records::mark_at;
 use records::marks::CD;
 use records::marks::D1;
@@ -283,7 +284,7 @@ fn with_body(
     tree: &[u8],
     at: usize,
     levels: usize,
-    flags: u8,
+    flags: Flags,
     scope: Scope,
     list: &[u8],
     out: &mut [u8],

@@ -8,6 +8,7 @@ ghost use Rattle.definition.specs.Record.{diagBytes};
 ghost use Rattle.records.specs.Fields.{fieldsAt, fieldBytes, rangeAt, diagOf};
 ghost use Rattle.records.specs.Whole.{Whole, partAt};
 ghost use Rattle.records.specs.Wrote.{sat, Put};
+use crate::flags::Flags;
 
 pub mod flags;
 pub mod made;
@@ -64,7 +65,7 @@ pub const DUMMY_SP: Range = Range { start: 0, end: 0 };
 // A record's head by value: mark, flags, start and end, text length, child count.
 pub struct Head {
     pub mark: u16,
-    pub flags: u8,
+    pub flags: Flags,
     pub start: u32,
     pub end: u32,
     pub text: usize,

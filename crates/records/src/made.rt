@@ -11,6 +11,7 @@ use crate::CONTEXT_SIZE;
 use crate::DUMMY_SP;
 use crate::Head;
 use crate::Range;
+use crate::flags::Flags;
 use crate::marks::ID;
 use crate::marks::NO;
 use crate::put_head;
@@ -19,7 +20,7 @@ use crate::put_text;
 // The head of a record that is made, with a text of a length and children of a number.
 pub fn put_made(
     mark: u16,
-    flags: u8,
+    flags: Flags,
     range: Range,
     text: usize,
     count: usize,
@@ -45,7 +46,7 @@ pub fn put_made(
 // The same of a record without text, in front of its children.
 pub fn put_made_front(
     mark: u16,
-    flags: u8,
+    flags: Flags,
     range: Range,
     count: usize,
     out: &mut [u8],
