@@ -1,5 +1,5 @@
 -- `is_overloaded` meets its contract.
-use Rattle.items.proofs.Items.{goes-not, goes-if}
+use Rattle.items.proofs.ItemKinds.{goes-not, goes-if}
 use borrow.Author.Needs.{needs}
 use Rattle.items.proofs.is_overloaded.Statement.{statement}
 use Rattle.items.proofs.is_overloaded.Tie as tie

@@ -1,5 +1,5 @@
 -- `item_scope` meets its contract.
-use Rattle.items.proofs.Items.{scope-own, scope-same}
+use Rattle.items.proofs.ItemKinds.{scope-own, scope-same}
 use borrow.Author.Needs.{needs}
 use Rattle.items.proofs.item_scope.Statement.{statement}
 use Rattle.items.proofs.item_scope.Tie as tie

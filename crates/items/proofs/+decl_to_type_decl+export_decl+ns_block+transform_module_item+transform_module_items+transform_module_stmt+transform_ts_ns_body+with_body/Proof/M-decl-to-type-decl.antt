@@ -7,7 +7,8 @@ use native.Mathlib.Omega.{arith}
 use Rattle.definition.specs.Tree.{treeAt}
 use Rattle.definition.proofs.Children.{itself}
 use Rattle.items.proofs.Inits.{told, told-not}
-use Rattle.items.proofs.Items.{mark-of, flags-made, did-made, did-kept, did-marked, members-silent, decl-class, decl-fn, decl-var, decl-enum, decl-module, decl-using, decl-type}
+use Rattle.items.proofs.ItemKinds.{mark-of}
+use Rattle.items.proofs.Statements.{flags-made, did-made, did-kept, did-marked, members-silent, decl-class, decl-fn, decl-var, decl-enum, decl-module, decl-using, decl-type}
 use Rattle.items.proofs.decl_to_type_decl.Reads as decl-to-type-decl
 use Rattle.items.proofs.with_body.Reads as with-body
 use Rattle.items.proofs.decls.declared.Reads as declared-reads

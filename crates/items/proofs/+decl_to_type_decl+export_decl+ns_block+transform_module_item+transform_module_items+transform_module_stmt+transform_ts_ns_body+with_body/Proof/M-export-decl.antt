@@ -12,7 +12,8 @@ use Rattle.typing.proofs.Written.{puts-counter}
 use Rattle.parts.proofs.Kept.{count-as}
 use Rattle.parts.proofs.Ready.{ready-kid}
 use Rattle.items.proofs.Begun.{others-one}
-use Rattle.items.proofs.Items.{ed-kids, export-gone, export-some, export-none}
+use Rattle.items.proofs.ItemKinds.{ed-kids}
+use Rattle.items.proofs.Statements.{export-gone, export-some, export-none}
 use Rattle.items.proofs.export_decl.Reads as export-decl
 use Rattle.items.proofs.decl_to_type_decl.Reads as decl-to-type-decl
 use Rattle.typing.proofs.back.Reads as back-reads

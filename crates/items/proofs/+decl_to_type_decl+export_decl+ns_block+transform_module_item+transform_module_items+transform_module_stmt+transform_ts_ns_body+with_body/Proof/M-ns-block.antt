@@ -5,7 +5,8 @@ use mathlib.Core.Path.{refl}
 use native.Mathlib.Omega.{arith}
 use Rattle.definition.proofs.Children.{itself, some-left}
 use Rattle.items.proofs.Declarators.{kids-ready}
-use Rattle.items.proofs.Items.{count-small, block-made}
+use Rattle.items.proofs.ItemKinds.{count-small}
+use Rattle.items.proofs.Namespaces.{block-made}
 use Rattle.items.proofs.ns_block.Reads as ns-block
 use Rattle.items.proofs.transform_module_items.Reads as transform-module-items
 use Rattle.records.proofs.advance.Reads as advance-reads

@@ -6,7 +6,8 @@ use Rattle.definition.proofs.Children.{itself}
 use Rattle.typing.proofs.Props.{gives-none}
 use Rattle.items.proofs.Inits.{told, told-not}
 use Rattle.typing.proofs.Whole.{gives-as}
-use Rattle.items.proofs.Items.{mark-of, told-in, told-out, Kept, kept-gives, item-kept, item-dropped, item-export, item-default, item-expr, item-decl}
+use Rattle.items.proofs.ItemKinds.{mark-of, told-in, told-out, Kept, kept-gives}
+use Rattle.items.proofs.Statements.{item-kept, item-dropped, item-export, item-default, item-expr, item-decl}
 use Rattle.items.proofs.transform_module_item.Reads as transform-module-item
 use Rattle.items.proofs.export_decl.Reads as export-decl
 use Rattle.items.proofs.transform_module_stmt.Reads as transform-module-stmt

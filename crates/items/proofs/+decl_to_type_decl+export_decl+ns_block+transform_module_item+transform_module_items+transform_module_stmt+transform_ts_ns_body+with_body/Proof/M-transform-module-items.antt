@@ -3,7 +3,8 @@ use Prim.Native.Nat.{ℕ}
 use borrow.Author.Needs.{needs}
 use native.Mathlib.Omega.{arith}
 use Rattle.swc_helpers.proofs.Made.{is-whole}
-use Rattle.items.proofs.Items.{item-ready, Itemizing, itemizing-start, itemizing-first, itemizing-more, itemizing-turn, itemizing-done}
+use Rattle.items.proofs.ItemKinds.{item-ready}
+use Rattle.items.proofs.Items.{Itemizing, itemizing-start, itemizing-first, itemizing-more, itemizing-turn, itemizing-done}
 use Rattle.items.proofs.transform_module_items.Reads as transform-module-items
 use Rattle.items.proofs.transform_module_item.Reads as transform-module-item
 use Rattle.items.proofs.item_scope.Reads as item-scope-reads

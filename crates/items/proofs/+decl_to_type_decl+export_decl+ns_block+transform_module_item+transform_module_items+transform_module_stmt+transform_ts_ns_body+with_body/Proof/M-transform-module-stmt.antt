@@ -5,7 +5,8 @@ use native.Mathlib.Omega.{arith}
 use Rattle.definition.specs.Tree.{treeAt}
 use Rattle.definition.proofs.Children.{itself}
 use Rattle.typing.proofs.Props.{gives-none}
-use Rattle.items.proofs.Items.{mark-of, told-in, told-out, Made, is-made, not-made, kept-gives, stmt-told, stmt-gone, stmt-kept, stmt-made, stmt-some, stmt-none}
+use Rattle.items.proofs.ItemKinds.{mark-of, told-in, told-out, kept-gives}
+use Rattle.items.proofs.Statements.{Made, is-made, not-made, stmt-told, stmt-gone, stmt-kept, stmt-made, stmt-some, stmt-none}
 use Rattle.items.proofs.transform_module_stmt.Reads as transform-module-stmt
 use Rattle.items.proofs.decl_to_type_decl.Reads as decl-to-type-decl
 use Rattle.items.proofs.is_overloaded.Reads as is-overloaded-reads

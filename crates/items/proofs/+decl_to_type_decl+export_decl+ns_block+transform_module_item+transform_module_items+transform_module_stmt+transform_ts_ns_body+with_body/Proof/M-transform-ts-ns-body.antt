@@ -8,7 +8,8 @@ use Rattle.swc_helpers.proofs.Made.{is-whole}
 use Rattle.parts.proofs.Makes.{makes-as, makes-keeps}
 use Rattle.parts.proofs.Ready.{ready-kid}
 use Rattle.items.proofs.Inits.{told, told-not}
-use Rattle.items.proofs.Items.{mark-of, nd-kids, nested-is, body-other}
+use Rattle.items.proofs.ItemKinds.{mark-of, nd-kids}
+use Rattle.items.proofs.Namespaces.{nested-is, body-other}
 use Rattle.items.proofs.transform_ts_ns_body.Reads as transform-ts-ns-body
 use Rattle.items.proofs.ns_block.Reads as ns-block
 use Rattle.records.proofs.body_at.Reads as body-at-reads

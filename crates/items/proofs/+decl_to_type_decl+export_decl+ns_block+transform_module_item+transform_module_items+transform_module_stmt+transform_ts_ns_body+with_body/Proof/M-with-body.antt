@@ -10,7 +10,8 @@ use Rattle.typing.proofs.Written.{puts-counter}
 use Rattle.parts.proofs.Kept.{count-as}
 use Rattle.parts.proofs.Ready.{ready-kid}
 use Rattle.items.proofs.Begun.{others-two}
-use Rattle.items.proofs.Items.{ns-kids, body-made}
+use Rattle.items.proofs.ItemKinds.{ns-kids}
+use Rattle.items.proofs.Namespaces.{body-made}
 use Rattle.items.proofs.with_body.Reads as with-body
 use Rattle.items.proofs.transform_ts_ns_body.Reads as transform-ts-ns-body
 use Rattle.records.proofs.body_at.Reads as body-at-reads

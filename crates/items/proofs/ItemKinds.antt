@@ -1,0 +1,205 @@
+-- The scope of an item, the children of declarations, and which kind of item a mark is.
+use mathlib.Core.Path.{_≡_, refl, sym, ap, _∙_, subst}
+use mathlib.Core.List.{List}
+use mathlib.Core.Bool.{Bool, true, false, cond, _&&_}
+use mathlib.Core.Logic.{_⊎_, inl, inr, ⊎-elim}
+use Prim.Native.Nat.{ℕ, _-_, _≤_, _<_}
+use mir.Syntax.{w8}
+use mir.Val
+use lib.Dec.{eqb}
+use lib.ListN.{getD}
+use borrow.Author.Tests.{eq-eqb, ne-eqb, eqb-true}
+use Rattle.definition.specs.Tree.{Rec, Recs, count, markAt, bodyAt, headAt, endAt, treeAt}
+use Rattle.definition.specs.Grammar.{mark, known}
+use Rattle.definition.specs.Check.{deepest}
+use Rattle.definition.specs.Children.{AcceptedAt}
+use Rattle.definition.specs.Record.{markOf, is, one, listed, Out, pure}
+use Rattle.definition.specs.Items.{iKept, iDropped, iExport, iDefault, iDefaultExpr, iDecl, itemKind, Decl, dClass, dFn, dVar, dEnum, dModule, dUsing, dType, declKind, bBlock, bNested, bOther, bodyKind}
+use Rattle.definition.proofs.Children.{others}
+use Rattle.definition.proofs.Kids.{mark-is, has}
+use Rattle.definition.proofs.Places.{count-small as head-count-small}
+use Rattle.records.specs.declared.Head.{Head as Fields}
+use Rattle.records.specs.Fields.{fieldsAt}
+use Rattle.records.specs.Wrote.{top as highest}
+use Rattle.records.proofs.Whole.{slice-bytes}
+use Rattle.prescan.specs.declared.Scope.{Scope}
+use Rattle.prescan.specs.Scope.{Skips}
+use Rattle.typing.specs.declared.State.{State}
+use Rattle.typing.specs.declared.Counted.{Counted}
+use Rattle.typing.specs.Did.{Ready}
+use Rattle.typing.specs.Below.{Gives}
+use Rattle.parts.specs.Makes.{Keeps}
+use Rattle.typing.proofs.Whole.{gives-as}
+use Rattle.parts.proofs.Kids.{One, Two, kids-one, kids-two}
+use Rattle.parts.proofs.Makes.{makes-keeps, gives-one}
+use Rattle.classes.specs.Typings.{ReadyAll}
+use Rattle.items.specs.Steps.{itemOf, scopeAt}
+
+-- ---- the scope of an item
+
+module _ (scope : Scope) (levels at end : ℕ) where
+  pub scope-own : levels ≡ deepest - 1 → record { unresolved = scope .unresolved; item = at; end = end } ≡ scopeAt scope levels at end
+  scope-own e = rw (eq-eqb levels (deepest - 1) e)
+
+  pub scope-same : (levels ≡ deepest - 1 → ⊥) → scope ≡ scopeAt scope levels at end
+  scope-same e = rw (ne-eqb levels (deepest - 1) e)
+
+  scope-context : scopeAt scope levels at end .unresolved ≡ scope .unresolved
+  scope-context = go (eqb levels (deepest - 1))
+    where
+      go : (b : Bool) → cond b (record { unresolved = scope .unresolved; item = at; end = end }) scope .unresolved ≡ scope .unresolved
+      go true = refl
+      go false = refl
+
+  scope-skips : (tree : List ℕ) → Skips tree scope → end ≡ endAt levels tree at → Skips tree (scopeAt scope levels at end)
+  scope-skips tree s e = go (eqb levels (deepest - 1)) refl
+    where
+      go : (b : Bool) → eqb levels (deepest - 1) ≡ b → Skips tree (cond b (record { unresolved = scope .unresolved; item = at; end = end }) scope)
+      go true q = e ∙ ap (λ (k : ℕ). endAt k tree at) (eqb-true levels (deepest - 1) q)
+      go false q = s
+
+  -- what an item is asked in its scope, and what it gives there
+  pub item-ready : {tree : List ℕ} {n c m : ℕ} → ReadyAll levels tree n c m scope → AcceptedAt levels tree at → {k : ℕ} → k ≤ at → end ≡ endAt levels tree at → {here : Scope} → here ≡ scopeAt scope levels at end → Ready levels tree at k here
+  item-ready {tree} r a h e f = rw f (record { accepted = a; root = r .root; low = h; skips = scope-skips tree (r .skips) e })
+
+  pub item-same : (list tree : List ℕ) (top : Bool) (r : Rec) (n : ℕ) {here : Scope} → here ≡ scopeAt scope levels at end → itemOf list tree here top r n ≡ itemOf list tree scope top r n
+  item-same list tree top r n e =
+      ap (λ (here : Scope). itemOf list tree here top r n) e
+      ∙ ap (λ (ctx : ℕ). itemOf list tree (record { unresolved = ctx; item = scope .item; end = scope .end }) top r n) scope-context
+
+-- ---- the children
+
+module _ (levels : ℕ) (s : List ℕ) (at : ℕ) (a : AcceptedAt levels s at) where
+  pub ed-kids : markAt s at ≡ mark "Ed" → {p0 p1 : ℕ} → p0 ≡ bodyAt s at → p1 ≡ endAt (levels - 1) s p0 → One levels s at p0 p1
+  ed-kids m e f = kids-one levels s at a (has (mark "Ed") levels s at a m) e f
+
+  pub ns-kids : markAt s at ≡ mark "Ns" → {p0 p1 p2 : ℕ} → p0 ≡ bodyAt s at → p1 ≡ endAt (levels - 1) s p0 → p2 ≡ endAt (levels - 1) s p1 → Two levels s at p0 p1 p2
+  ns-kids m e f g = kids-two levels s at a (has (mark "Ns") levels s at a m) e f g
+
+  pub nd-kids : markAt s at ≡ mark "Nd" → {p0 p1 p2 : ℕ} → p0 ≡ bodyAt s at → p1 ≡ endAt (levels - 1) s p0 → p2 ≡ endAt (levels - 1) s p1 → Two levels s at p0 p1 p2
+  nd-kids m e f g = kids-two levels s at a (has (mark "Nd") levels s at a m) e f g
+
+-- a count fits
+pub count-small : (s : List ℕ) (at : ℕ) → ((i : ℕ) → mir.Val.Fits w8 (getD s i 0)) → {h : Fields} → h ≡ fieldsAt s at → h .count < 65536
+count-small s at known e = rw e (head-count-small s at (slice-bytes s known))
+
+-- what a test tells of the mark at an offset, said of the record
+pub mark-of : (levels : ℕ) (tree : List ℕ) (at : ℕ) {m : ℕ} → m ≡ markAt tree at → m ≡ markOf (treeAt levels tree at)
+mark-of levels tree at e = e ∙ sym (mark-is levels tree at)
+
+pub told-in : (P : ℕ → Type 0) {m x : ℕ} → m ≡ x → P m → P x
+told-in P e p = subst P e p
+
+pub told-out : (P : ℕ → Type 0) {m x : ℕ} → m ≡ x → (P m → ⊥) → P x → ⊥
+told-out P e f p = f (subst P (sym e) p)
+
+-- ---- whether an Fd goes
+
+module _ (list tree : List ℕ) (at decl : ℕ) {m : ℕ} (e : m ≡ markAt tree decl) where
+  pub goes-not : (m ≡ mark "Fd" → ⊥) → false ≡ (eqb (markAt tree decl) (mark "Fd") && listed list (headAt tree at))
+  goes-not q = rw (ne-eqb (markAt tree decl) (mark "Fd") (λ z. q (e ∙ z)))
+
+  pub goes-if : m ≡ mark "Fd" → {b : Bool} → b ≡ listed list (headAt tree at) → b ≡ (eqb (markAt tree decl) (mark "Fd") && listed list (headAt tree at))
+  goes-if q f = f ∙ ap (λ (x : Bool). x && listed list (headAt tree at)) (sym (eq-eqb (markAt tree decl) (mark "Fd") (sym e ∙ q)))
+
+-- ---- kinds by their marks
+
+module _ (m : ℕ) where
+  pub kind-kept : (m ≡ mark "Im") ⊎ (m ≡ mark "Op") → itemKind m ≡ iKept
+  unfolding itemKind
+  kind-kept = ⊎-elim (λ e. rw e) (λ e. rw e)
+
+  pub kind-dropped : m ≡ mark "St" → itemKind m ≡ iDropped
+  unfolding itemKind
+  kind-dropped e = rw e
+
+  pub kind-export : m ≡ mark "Ed" → itemKind m ≡ iExport
+  unfolding itemKind
+  kind-export e = rw e
+
+  pub kind-default : m ≡ mark "Xd" → itemKind m ≡ iDefault
+  unfolding itemKind
+  kind-default e = rw e
+
+  pub kind-expr : m ≡ mark "Xe" → itemKind m ≡ iDefaultExpr
+  unfolding itemKind
+  kind-expr e = rw e
+
+  pub kind-decl : ((m ≡ mark "Im") ⊎ (m ≡ mark "Op") → ⊥) → (m ≡ mark "St" → ⊥) → (m ≡ mark "Ed" → ⊥) → (m ≡ mark "Xd" → ⊥) → (m ≡ mark "Xe" → ⊥) → itemKind m ≡ iDecl
+  unfolding itemKind
+  kind-decl a b c d e = rw (ne-eqb _ _ (λ q. a (inl q)), ne-eqb _ _ (λ q. a (inr q)), ne-eqb _ _ b, ne-eqb _ _ c, ne-eqb _ _ d, ne-eqb _ _ e)
+
+  pub kind-class : m ≡ mark "Cd" → declKind m ≡ dClass
+  unfolding declKind
+  kind-class e = rw e
+
+  pub kind-fn : m ≡ mark "Fd" → declKind m ≡ dFn
+  unfolding declKind
+  kind-fn e = rw e
+
+  pub kind-var : m ≡ mark "Vd" → declKind m ≡ dVar
+  unfolding declKind
+  kind-var e = rw e
+
+  pub kind-enum : m ≡ mark "En" → declKind m ≡ dEnum
+  unfolding declKind
+  kind-enum e = rw e
+
+  pub kind-module : m ≡ mark "Ns" → declKind m ≡ dModule
+  unfolding declKind
+  kind-module e = rw e
+
+  pub kind-using : m ≡ mark "Us" → declKind m ≡ dUsing
+  unfolding declKind
+  kind-using e = rw e
+
+  pub kind-type : (m ≡ mark "Cd" → ⊥) → (m ≡ mark "Fd" → ⊥) → (m ≡ mark "Vd" → ⊥) → (m ≡ mark "En" → ⊥) → (m ≡ mark "Ns" → ⊥) → (m ≡ mark "Us" → ⊥) → declKind m ≡ dType
+  unfolding declKind
+  kind-type a b c d e f = rw (ne-eqb _ _ a, ne-eqb _ _ b, ne-eqb _ _ c, ne-eqb _ _ d, ne-eqb _ _ e, ne-eqb _ _ f)
+
+  pub kind-block : m ≡ mark "Nb" → bodyKind m ≡ bBlock
+  unfolding bodyKind
+  kind-block e = rw e
+
+  pub kind-nested : m ≡ mark "Nd" → bodyKind m ≡ bNested
+  unfolding bodyKind
+  kind-nested e = rw e
+
+  pub kind-other : (m ≡ mark "Nb" → ⊥) → (m ≡ mark "Nd" → ⊥) → bodyKind m ≡ bOther
+  unfolding bodyKind
+  kind-other a b = rw (ne-eqb _ _ a, ne-eqb _ _ b)
+
+-- whether a declaration is a function
+abbrev pub isFn : Decl → Bool
+isFn dClass = false
+isFn dFn = true
+isFn dVar = false
+isFn dEnum = false
+isFn dModule = false
+isFn dUsing = false
+isFn dType = false
+
+pub is-fn : (m : ℕ) → eqb m (mark "Fd") ≡ isFn (declKind m)
+unfolding declKind
+is-fn m = go (eqb m (mark "Cd")) refl
+  where
+    others : (b c d e f : Bool) → b ≡ isFn (cond b dFn (cond c dVar (cond d dEnum (cond e dModule (cond f dUsing dType)))))
+    others true c d e f = refl
+    others false true d e f = refl
+    others false false true e f = refl
+    others false false false true f = refl
+    others false false false false true = refl
+    others false false false false false = refl
+
+    go : (a : Bool) → eqb m (mark "Cd") ≡ a
+        → eqb m (mark "Fd")
+        ≡ isFn (cond a dClass (cond (eqb m (mark "Fd")) dFn (cond (eqb m (mark "Vd")) dVar (cond (eqb m (mark "En")) dEnum (cond (eqb m (mark "Ns")) dModule (cond (eqb m (mark "Us")) dUsing dType))))))
+    go true q = ap (λ (k : ℕ). eqb k (mark "Fd")) (eqb-true m (mark "Cd") q)
+    go false q = others (eqb m (mark "Fd")) (eqb m (mark "Vd")) (eqb m (mark "En")) (eqb m (mark "Ns")) (eqb m (mark "Us"))
+
+-- an item that is kept
+abbrev pub Kept : ℕ → Type 0
+Kept m = (m ≡ mark "Im") ⊎ (m ≡ mark "Op")
+
+pub kept-gives : {o o' : List ℕ} (g : List ℕ) {s : State} {r : Counted} {t : Rec} {y : Out Recs} → (r .count ≡ 1) × Keeps o o' s (r .s) t → s .d ≤ highest → pure (one t) (s .n) ≡ y → Gives o o' g g s r y
+kept-gives g w d e = gives-as (record { many = w .0; step = gives-one (makes-keeps g (w .1) d) .step }) e

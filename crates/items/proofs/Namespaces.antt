@@ -1,0 +1,110 @@
+-- The body of a namespace.
+use mathlib.Core.Path.{_≡_, refl, sym, ap, _∙_, subst}
+use mathlib.Core.List.{List}
+use mathlib.Core.Bool.{true, false}
+use Prim.Native.Nat.{ℕ, _+_, _-_, _≤_}
+use mir.Syntax.{w8}
+use mir.Val
+use lib.ListN.{length, getD}
+use Rattle.definition.specs.Tree.{Head, Rec, Recs, rec, headSize, markAt, lengthAt, countAt, bodyAt, headAt, treeAt}
+use Rattle.definition.specs.Grammar.{mark, known}
+use Rattle.definition.specs.Children.{AcceptedAt}
+use Rattle.definition.specs.Record.{headOf, kidsOf, markOf, is, withFlags, Out, pure, wrap, atKid}
+use Rattle.definition.specs.Items.{Body, bBlock, bNested, bOther, bodyKind, bodyBy, nsParts, transformTsNsBody, nestedSecond}
+use Rattle.definition.proofs.Children.{tree-is}
+use Rattle.definition.proofs.Kids.{head-is, mark-is, text-length}
+use Rattle.records.specs.declared.Head.{Head as Fields}
+use Rattle.records.specs.Fields.{fieldsAt}
+use Rattle.records.specs.Wrote.{top as highest, sat}
+use Rattle.prescan.specs.declared.Scope.{Scope}
+use Rattle.typing.specs.declared.State.{State}
+use Rattle.typing.specs.declared.Counted.{Counted}
+use Rattle.typing.specs.Did.{Puts, movedTo}
+use Rattle.typing.specs.Below.{Gives}
+use Rattle.typing.proofs.Loops.{rest}
+use Rattle.parts.specs.Makes.{frontBytes, Keeps, KeepsAll, Makes, MakesAll}
+use Rattle.parts.proofs.Kept.{head-short, front-flags}
+use Rattle.parts.proofs.Kids.{Two}
+use Rattle.parts.proofs.Makes.{makes-as, makes-front-last}
+use Rattle.classes.specs.Typings.{typingOf}
+use Rattle.items.specs.Steps.{recordsAt, withBody, itemsOf, bodyOf}
+use Rattle.items.proofs.Begun.{makes-second}
+use Rattle.items.proofs.Exports.{whole}
+use Rattle.items.proofs.ItemKinds.{kind-block, kind-nested, kind-other}
+
+-- ---- the body of a namespace
+
+body-rec : (list tree : List ℕ) (scope : Scope) (r : Rec) (n : ℕ)
+    → bodyBy list (scope .unresolved) (typingOf tree scope) (bodyKind (markOf r)) (headOf r) (kidsOf r) (λ n. itemsOf list tree scope false (kidsOf r) n) (λ n. nestedSecond list (scope .unresolved) (typingOf tree scope) (kidsOf r) n) n
+    ≡ bodyOf list tree scope r n
+unfolding transformTsNsBody
+body-rec list tree scope (rec h ks) n = refl
+
+module _ (list tree : List ℕ) (scope : Scope) (r : Rec) (n : ℕ) where
+  body-by : (k : Body) → bodyKind (markOf r) ≡ k
+      → bodyBy list (scope .unresolved) (typingOf tree scope) k (headOf r) (kidsOf r) (λ n. itemsOf list tree scope false (kidsOf r) n) (λ n. nestedSecond list (scope .unresolved) (typingOf tree scope) (kidsOf r) n) n
+      ≡ bodyOf list tree scope r n
+  body-by k e =
+      ap (λ (k : Body). bodyBy list (scope .unresolved) (typingOf tree scope) k (headOf r) (kidsOf r) (λ n. itemsOf list tree scope false (kidsOf r) n) (λ n. nestedSecond list (scope .unresolved) (typingOf tree scope) (kidsOf r) n) n)
+      (sym e) ∙ body-rec list tree scope r n
+
+  body-block : markOf r ≡ mark "Nb" → wrap (headOf r) (itemsOf list tree scope false (kidsOf r) n) ≡ bodyOf list tree scope r n
+  unfolding bodyBy
+  body-block m = body-by bBlock (kind-block (markOf r) m)
+
+  body-nested : markOf r ≡ mark "Nd" → nestedSecond list (scope .unresolved) (typingOf tree scope) (kidsOf r) n ≡ bodyOf list tree scope r n
+  unfolding bodyBy
+  body-nested m = body-by bNested (kind-nested (markOf r) m)
+
+  pub body-other : (markOf r ≡ mark "Nb" → ⊥) → (markOf r ≡ mark "Nd" → ⊥) → pure r n ≡ bodyOf list tree scope r n
+  unfolding bodyBy
+  body-other a b = ap (λ (r : Rec). pure r n) (sym (whole r)) ∙ body-by bOther (kind-other (markOf r) a b)
+
+module _ (list tree : List ℕ) (scope : Scope) (levels at : ℕ) {p0 p1 p2 : ℕ} (u : Two levels tree at p0 p1 p2) (n : ℕ) where
+  -- "Nd is replaced by its innermost Nb"
+  pub nested-is : markAt tree at ≡ mark "Nd" → bodyOf list tree scope (treeAt (levels - 1) tree p1) n ≡ bodyOf list tree scope (treeAt levels tree at) n
+  unfolding nestedSecond
+  nested-is m =
+      ap (λ (r : Rec). nestedSecond list (scope .unresolved) (typingOf tree scope) (kidsOf r) n) (sym (u .is))
+      ∙ body-nested list tree scope (treeAt levels tree at) n (mark-is levels tree at ∙ m)
+
+  -- the children of an Ns
+  parts-are : atKid 1 (bodyOf list tree scope) (kidsOf (treeAt levels tree at)) n ≡ nsParts list (scope .unresolved) (typingOf tree scope) (kidsOf (treeAt levels tree at)) n
+  unfolding nsParts
+  parts-are =
+      ap (λ (r : Rec). atKid 1 (bodyOf list tree scope) (kidsOf r) n) (u .is) ∙ ap (λ (r : Rec). nsParts list (scope .unresolved) (typingOf tree scope) (kidsOf r) n) (sym (u .is))
+
+pub body-made : (list tree : List ℕ) (scope : Scope) (levels at flags : ℕ) → AcceptedAt levels tree at → ((i : ℕ) → mir.Val.Fits w8 (getD tree i 0)) → {p0 p1 p2 : ℕ} → Two levels tree at p0 p1 p2
+    → {o o1 o2 o3 o4 g g' : List ℕ} {s s1 s2 s3 s4 : State} {h : Fields} → h ≡ fieldsAt tree at → s .d ≤ highest
+    → Puts o o1 s s1 (frontBytes (withFlags (headAt tree at) flags) (h .count)) true → Keeps o1 o2 s1 s2 (treeAt (levels - 1) tree p0)
+    → Makes o2 o3 g g' s2 s3 (bodyOf list tree scope (treeAt (levels - 1) tree p1) (s2 .n)) → KeepsAll o3 o4 s3 s4 (rest levels tree (h .count - 2) p2)
+    → Makes o o4 g g' s s4 (withBody list tree scope flags (treeAt levels tree at) (s .n))
+body-made list tree scope levels at flags a known u {s = s} e d v b c z =
+    makes-as
+    (makes-second levels tree at (withFlags (headAt tree at) flags) (head-short levels tree at a known) d (front-flags tree at e (λ _. flags) v) e (bodyOf list tree scope) u b c z)
+    (ap (wrap (withFlags (headAt tree at) flags)) (parts-are list tree scope levels at u (s .n))
+    ∙ ap (λ (h : Head). wrap (withFlags h flags) (nsParts list (scope .unresolved) (typingOf tree scope) (kidsOf (treeAt levels tree at)) (s .n))) (sym (head-is levels tree at)))
+
+text-size : (levels : ℕ) (tree : List ℕ) (at : ℕ) → AcceptedAt levels tree at → length (headAt tree at .text) ≡ lengthAt tree at
+unfolding headAt
+text-size levels tree at a = text-length levels tree at a
+
+front-same : (tree : List ℕ) (at k : ℕ) {o o' : List ℕ} {s s' : State} {h : Fields} → h ≡ fieldsAt tree at → Puts o o' s s' (frontBytes (withFlags (headAt tree at) (h .flags)) k) true → Puts o o' s s' (frontBytes (headAt tree at) k) true
+unfolding headAt
+front-same tree at k e w = rw e at w
+
+-- an Nb: its front follows its items
+pub block-made : (list tree : List ℕ) (scope : Scope) (levels at : ℕ) → AcceptedAt levels tree at → ((i : ℕ) → mir.Val.Fits w8 (getD tree i 0)) → markAt tree at ≡ mark "Nb"
+    → {o o1 o2 g g' : List ℕ} (s : State) {s2 : State} {made : Counted} {h : Fields} {b size q : ℕ} → h ≡ fieldsAt tree at → b ≡ bodyAt tree at → size ≡ headSize + lengthAt tree at → q ≡ sat (s .p) size
+    → Gives o o1 g g' (movedTo s q) made (itemsOf list tree scope false (recordsAt (levels - 1) tree (h .count) b) (s .n)) → Puts o1 o2 s s2 (frontBytes (withFlags (headAt tree at) (h .flags)) (made .count)) true
+    → Makes o o2 g g' s (made .s) (bodyOf list tree scope (treeAt levels tree at) (s .n))
+block-made list tree scope levels at a known m {o} {o1} {o2} {g} {g'} s {s2} {made} {h} {b} {size} {q} e f z y w v =
+    let H : Head = headAt tree at in
+    let k : size ≡ headSize + length (H .text) = z ∙ ap (λ (n : ℕ). headSize + n) (sym (text-size levels tree at a)) in
+    let items : Out Recs = itemsOf list tree scope false (rest levels tree (countAt tree at) (bodyAt tree at)) (s .n) in
+    let w1 : Gives o o1 g g' (movedTo s q) made items = rw (e, f) at w in
+    let w2 : MakesAll o o1 g g' (movedTo s (sat (s .p) (headSize + length (H .text)))) (made .s) items =
+    subst (λ (q : ℕ). MakesAll o o1 g g' (movedTo s q) (made .s) items) (y ∙ ap (sat (s .p)) k) (record { step = w1 .step }) in
+    let v' : Puts o1 o2 s s2 (frontBytes H (made .count)) true = front-same tree at (made .count) e v in
+    makes-as (makes-front-last s H {y = items} w2 v' (w1 .many) (head-short levels tree at a known))
+    (ap (λ (r : Rec). wrap (headOf r) (itemsOf list tree scope false (kidsOf r) (s .n))) (sym (tree-is levels tree at a)) ∙ body-block list tree scope (treeAt levels tree at) (s .n) (mark-is levels tree at ∙ m))
