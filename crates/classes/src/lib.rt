@@ -65,7 +65,7 @@ fn put_prop_name(
         Key::Computed(expr, levels) => {
             let range = records::range_at(tree, expr);
             let mut front = s;
-            front.p = put_made_front(KC, 0, range, 1, out, s.p);
+            front.written = put_made_front(KC, 0, range, 1, out, s.written);
             Typed::Some(keep(tree, expr, levels, out, front))
         }
         Key::Nothing => Typed::None(s),
@@ -101,10 +101,10 @@ pub fn handle_function(
     diagnostics: &mut [u8],
     s: State,
 ) -> State
-    requires { ⌜ Ready levels (now tree) at (s .n) scope × (markAt (now tree) at ≡ mark "Fu") ⌝ }
+    requires { ⌜ Ready levels (now tree) at (s .counter) scope × (markAt (now tree) at ≡ mark "Fu") ⌝ }
     ensures { λ r. ⌜
         Makes (now (out .entry)) (now (out .exit)) (now (diagnostics .entry)) (now (diagnostics .exit)) s r
-        (handleFunction (typingOf (now (tree .entry)) scope) setter (treeAt levels (now (tree .entry)) at) (s .n))
+        (handleFunction (typingOf (now (tree .entry)) scope) setter (treeAt levels (now (tree .entry)) at) (s .counter))
         ⌝ }
 {
     let head = read_head(tree, at);
@@ -138,10 +138,10 @@ fn constructor(
     diagnostics: &mut [u8],
     s: State,
 ) -> Counted
-    requires { ⌜ Ready levels (now tree) at (s .n) scope × (markAt (now tree) at ≡ mark "Co") ⌝ }
+    requires { ⌜ Ready levels (now tree) at (s .counter) scope × (markAt (now tree) at ≡ mark "Co") ⌝ }
     ensures { λ r. ⌜
         Gives (now (out .entry)) (now (out .exit)) (now (diagnostics .entry)) (now (diagnostics .exit)) s r
-        (constructor (typingOf (now (tree .entry)) scope) (treeAt levels (now (tree .entry)) at) (s .n))
+        (constructor (typingOf (now (tree .entry)) scope) (treeAt levels (now (tree .entry)) at) (s .counter))
         ⌝ }
 {
     let head = read_head(tree, at);
@@ -172,11 +172,11 @@ fn method(
     diagnostics: &mut [u8],
     s: State,
 ) -> Counted
-    requires { ⌜ Ready levels (now tree) at (s .n) scope × (markAt (now tree) at ≡ mark "Me") ⌝ }
+    requires { ⌜ Ready levels (now tree) at (s .counter) scope × (markAt (now tree) at ≡ mark "Me") ⌝ }
     ensures { λ r. ⌜
         Gives (now (out .entry)) (now (out .exit)) (now (diagnostics .entry)) (now (diagnostics .exit)) s r
         (method (typingOf (now (tree .entry)) scope) (treeAt levels (now (tree .entry)) at)
-        (validPropName (scope .unresolved) (kid 0 (kidsOf (treeAt levels (now (tree .entry)) at)))) (s .n))
+        (validPropName (scope .unresolved) (kid 0 (kidsOf (treeAt levels (now (tree .entry)) at)))) (s .counter))
         ⌝ }
 {
     let head = read_head(tree, at);
@@ -215,10 +215,10 @@ fn prop_type(
     s: State,
 ) -> State
     requires { ⌜ AcceptedAt levels (now tree) at ⌝ }
-    requires { ⌜ Ready levels (now tree) value (s .n) scope ⌝ }
+    requires { ⌜ Ready levels (now tree) value (s .counter) scope ⌝ }
     ensures { λ r. ⌜
         Makes (now (out .entry)) (now (out .exit)) (now (diagnostics .entry)) (now (diagnostics .exit)) s r
-        (propType (typingOf (now (tree .entry)) scope) (treeAt levels (now (tree .entry)) value) (treeAt levels (now (tree .entry)) at) (s .n))
+        (propType (typingOf (now (tree .entry)) scope) (treeAt levels (now (tree .entry)) value) (treeAt levels (now (tree .entry)) at) (s .counter))
         ⌝ }
 {
     if mark_at(tree, value) == NO {
@@ -244,11 +244,11 @@ fn class_prop(
     diagnostics: &mut [u8],
     s: State,
 ) -> Counted
-    requires { ⌜ Ready levels (now tree) at (s .n) scope × (markAt (now tree) at ≡ mark "Cp") ⌝ }
+    requires { ⌜ Ready levels (now tree) at (s .counter) scope × (markAt (now tree) at ≡ mark "Cp") ⌝ }
     ensures { λ r. ⌜
         Gives (now (out .entry)) (now (out .exit)) (now (diagnostics .entry)) (now (diagnostics .exit)) s r
         (classProp (typingOf (now (tree .entry)) scope) (treeAt levels (now (tree .entry)) at)
-        (validPropName (scope .unresolved) (kid 0 (kidsOf (treeAt levels (now (tree .entry)) at)))) (s .n))
+        (validPropName (scope .unresolved) (kid 0 (kidsOf (treeAt levels (now (tree .entry)) at)))) (s .counter))
         ⌝ }
 {
     let head = read_head(tree, at);
@@ -289,10 +289,10 @@ fn class_member(
     diagnostics: &mut [u8],
     s: State,
 ) -> Counted
-    requires { ⌜ Ready levels (now tree) at (s .n) scope ⌝ }
+    requires { ⌜ Ready levels (now tree) at (s .counter) scope ⌝ }
     ensures { λ r. ⌜
         Gives (now (out .entry)) (now (out .exit)) (now (diagnostics .entry)) (now (diagnostics .exit)) s r
-        (member (now (list .entry)) (scope .unresolved) (typingOf (now (tree .entry)) scope) (treeAt levels (now (tree .entry)) at) (s .n))
+        (member (now (list .entry)) (scope .unresolved) (typingOf (now (tree .entry)) scope) (treeAt levels (now (tree .entry)) at) (s .counter))
         ⌝ }
 {
     match mark_at(tree, at) {
@@ -328,10 +328,10 @@ pub fn class_body_to_type(
     diagnostics: &mut [u8],
     s: State,
 ) -> State
-    requires { ⌜ Ready levels (now tree) at (s .n) scope × (markAt (now tree) at ≡ mark "Cl") ⌝ }
+    requires { ⌜ Ready levels (now tree) at (s .counter) scope × (markAt (now tree) at ≡ mark "Cl") ⌝ }
     ensures { λ r. ⌜
         Makes (now (out .entry)) (now (out .exit)) (now (diagnostics .entry)) (now (diagnostics .exit)) s r
-        (class (now (list .entry)) (scope .unresolved) (typingOf (now (tree .entry)) scope) (treeAt levels (now (tree .entry)) at) (s .n))
+        (class (now (list .entry)) (scope .unresolved) (typingOf (now (tree .entry)) scope) (treeAt levels (now (tree .entry)) at) (s .counter))
         ⌝ }
 {
     let head = read_head(tree, at);
@@ -339,7 +339,7 @@ pub fn class_body_to_type(
     let mut n = head.count - 1;
     let mut child = record_end(tree, type_params, levels - 1);
     let mut start = s;
-    start.p = records::advance(s.p, front_size(tree, at));
+    start.written = records::advance(s.written, front_size(tree, at));
     let mut next = keep(tree, type_params, levels - 1, out, start);
     let mut count = 1;
     while 0 < n {

@@ -44,10 +44,10 @@ fn infer_expr_fallback_any(
     diagnostics: &mut [u8],
     s: State,
 ) -> State
-    requires { ⌜ Ready levels (now tree) at (s .n) scope ⌝ }
+    requires { ⌜ Ready levels (now tree) at (s .counter) scope ⌝ }
     ensures { λ r. ⌜
         Makes (now (out .entry)) (now (out .exit)) (now (diagnostics .entry)) (now (diagnostics .exit)) s r
-        (inferExprFallbackAny (typingOf (now (tree .entry)) scope) (treeAt levels (now (tree .entry)) at) (s .n))
+        (inferExprFallbackAny (typingOf (now (tree .entry)) scope) (treeAt levels (now (tree .entry)) at) (s .counter))
         ⌝ }
 {
     let mode = typing::mutable(scope);
@@ -67,7 +67,7 @@ fn handle_func_param_ident(
     requires { ⌜ AcceptedAt levels (now tree) at × (markAt (now tree) at ≡ mark "Bd") ⌝ }
     ensures { λ r. ⌜
         Makes (now (out .entry)) (now (out .exit)) (now (diagnostics .entry)) (now (diagnostics .exit)) s r
-        (handleFuncParamIdent (treeAt levels (now (tree .entry)) at) (s .n))
+        (handleFuncParamIdent (treeAt levels (now (tree .entry)) at) (s .counter))
         ⌝ }
 {
     let head = read_head(tree, at);
@@ -96,11 +96,11 @@ fn type_or_infer(
     s: State,
 ) -> State
     requires { ⌜ AcceptedAt (levels - 1) (now tree) ty ⌝ }
-    requires { ⌜ Ready levels (now tree) right (s .n) scope ⌝ }
+    requires { ⌜ Ready levels (now tree) right (s .counter) scope ⌝ }
     ensures { λ r. ⌜
         Makes (now (out .entry)) (now (out .exit)) (now (diagnostics .entry)) (now (diagnostics .exit)) s r
         (typeOr (inferExprFallbackAny (typingOf (now (tree .entry)) scope) (treeAt levels (now (tree .entry)) right))
-        (treeAt (levels - 1) (now (tree .entry)) ty) (s .n))
+        (treeAt (levels - 1) (now (tree .entry)) ty) (s .counter))
         ⌝ }
 {
     if mark_at(tree, ty) != NO {
@@ -121,11 +121,11 @@ fn optional_ident(
     s: State,
 ) -> State
     requires { ⌜ AcceptedAt levels (now tree) at × (markAt (now tree) at ≡ mark "Bd") ⌝ }
-    requires { ⌜ Ready levels (now tree) right (s .n) scope ⌝ }
+    requires { ⌜ Ready levels (now tree) right (s .counter) scope ⌝ }
     ensures { λ r. ⌜
         Makes (now (out .entry)) (now (out .exit)) (now (diagnostics .entry)) (now (diagnostics .exit)) s r
         (handleFuncParamAssign (typingOf (now (tree .entry)) scope) pIdent (treeAt levels (now (tree .entry)) at)
-        (treeAt levels (now (tree .entry)) right) (treeAt levels (now (tree .entry)) at) (s .n))
+        (treeAt levels (now (tree .entry)) right) (treeAt levels (now (tree .entry)) at) (s .counter))
         ⌝ }
 {
     let head = read_head(tree, at);
@@ -160,11 +160,11 @@ fn optional_box(
 ) -> State
     requires { ⌜ AcceptedAt levels (now tree) at ⌝ }
     requires { ⌜ (markAt (now tree) at ≡ mark "Pb") ⊎ (markAt (now tree) at ≡ mark "Po") ⌝ }
-    requires { ⌜ Ready levels (now tree) right (s .n) scope ⌝ }
+    requires { ⌜ Ready levels (now tree) right (s .counter) scope ⌝ }
     ensures { λ r. ⌜
         Makes (now (out .entry)) (now (out .exit)) (now (diagnostics .entry)) (now (diagnostics .exit)) s r
         (handleFuncParamAssign (typingOf (now (tree .entry)) scope) pBox (treeAt levels (now (tree .entry)) at)
-        (treeAt levels (now (tree .entry)) right) (treeAt levels (now (tree .entry)) at) (s .n))
+        (treeAt levels (now (tree .entry)) right) (treeAt levels (now (tree .entry)) at) (s .counter))
         ⌝ }
 {
     let head = read_head(tree, at);
@@ -195,10 +195,10 @@ fn handle_func_param_assign(
     diagnostics: &mut [u8],
     s: State,
 ) -> State
-    requires { ⌜ Ready levels (now tree) at (s .n) scope × (markAt (now tree) at ≡ mark "Ag") ⌝ }
+    requires { ⌜ Ready levels (now tree) at (s .counter) scope × (markAt (now tree) at ≡ mark "Ag") ⌝ }
     ensures { λ r. ⌜
         Makes (now (out .entry)) (now (out .exit)) (now (diagnostics .entry)) (now (diagnostics .exit)) s r
-        (handlePatternBy (typingOf (now (tree .entry)) scope) pAssign (treeAt levels (now (tree .entry)) at) (s .n))
+        (handlePatternBy (typingOf (now (tree .entry)) scope) pAssign (treeAt levels (now (tree .entry)) at) (s .counter))
         ⌝ }
 {
     let pattern = body_at(tree, at);
@@ -220,10 +220,10 @@ fn handle_pattern(
     diagnostics: &mut [u8],
     s: State,
 ) -> State
-    requires { ⌜ Ready levels (now tree) at (s .n) scope ⌝ }
+    requires { ⌜ Ready levels (now tree) at (s .counter) scope ⌝ }
     ensures { λ r. ⌜
         Makes (now (out .entry)) (now (out .exit)) (now (diagnostics .entry)) (now (diagnostics .exit)) s r
-        (handlePattern (typingOf (now (tree .entry)) scope) (treeAt levels (now (tree .entry)) at) (s .n))
+        (handlePattern (typingOf (now (tree .entry)) scope) (treeAt levels (now (tree .entry)) at) (s .counter))
         ⌝ }
 {
     match mark_at(tree, at) {
@@ -243,10 +243,10 @@ fn handle_func_param(
     diagnostics: &mut [u8],
     s: State,
 ) -> State
-    requires { ⌜ Ready levels (now tree) at (s .n) scope ⌝ }
+    requires { ⌜ Ready levels (now tree) at (s .counter) scope ⌝ }
     ensures { λ r. ⌜
         Makes (now (out .entry)) (now (out .exit)) (now (diagnostics .entry)) (now (diagnostics .exit)) s r
-        (handleFuncParam (typingOf (now (tree .entry)) scope) (treeAt levels (now (tree .entry)) at) (s .n))
+        (handleFuncParam (typingOf (now (tree .entry)) scope) (treeAt levels (now (tree .entry)) at) (s .counter))
         ⌝ }
 {
     match mark_at(tree, at) {
@@ -273,11 +273,11 @@ pub fn handle_func_params(
     diagnostics: &mut [u8],
     s: State,
 ) -> State
-    requires { ⌜ ReadyAll levels (now tree) n at (s .n) scope ⌝ }
+    requires { ⌜ ReadyAll levels (now tree) n at (s .counter) scope ⌝ }
     ensures { λ r. ⌜
         MakesAll (now (out .entry)) (now (out .exit)) (now (diagnostics .entry)) (now (diagnostics .exit)) s r
         (each (λ i. handleFuncParam (typingOf (now (tree .entry)) scope)) 0
-        (readAll (treeAt levels (now (tree .entry))) (endAt levels (now (tree .entry))) n at) (s .n))
+        (readAll (treeAt levels (now (tree .entry))) (endAt levels (now (tree .entry))) n at) (s .counter))
         ⌝ }
 {
     let mut next = s;
@@ -302,11 +302,11 @@ pub fn handle_ts_param_props(
     diagnostics: &mut [u8],
     s: State,
 ) -> State
-    requires { ⌜ ReadyAll levels (now tree) n at (s .n) scope ⌝ }
+    requires { ⌜ ReadyAll levels (now tree) n at (s .counter) scope ⌝ }
     ensures { λ r. ⌜
         MakesAll (now (out .entry)) (now (out .exit)) (now (diagnostics .entry)) (now (diagnostics .exit)) s r
         (each (λ i. handleFuncParam (typingOf (now (tree .entry)) scope)) 0
-        (readAll (treeAt levels (now (tree .entry))) (endAt levels (now (tree .entry))) n at) (s .n))
+        (readAll (treeAt levels (now (tree .entry))) (endAt levels (now (tree .entry))) n at) (s .counter))
         ⌝ }
 {
     handle_func_params(tree, at, n, levels, scope, out, diagnostics, s)

@@ -55,7 +55,7 @@ begun-done {h = h} {ks = ks} w e t =
     (ap (λ (b : Bool). b && allTextsFit ks) (sym (lt-ltb (length (h .text)) 65536 t)))
 
 pub puts-length : {o o' : List ℕ} {x x' : State} {E : List ℕ} {f : Bool} → Puts o o' x x' E f → length o' ≡ length o
-puts-length {o} {x = x} {E = E} w = ap length (w .put .bytes) ∙ length-sets o (x .p) E
+puts-length {o} {x = x} {E = E} w = ap length (w .put .bytes) ∙ length-sets o (x .written) E
 
 -- ---- the children behind the first ones, by the count that the code has read
 
@@ -95,35 +95,35 @@ module _ (levels : ℕ) (s : List ℕ) (at : ℕ) {h : Fields} (e : h ≡ fields
 
 module _ {levels : ℕ} {s : List ℕ} {at : ℕ} (a : AcceptedAt levels s at) (known : (i : ℕ) → mir.Val.Fits w8 (getD s i 0)) {o o1 : List ℕ} {x x1 : State} (l : length o < 2 ^ 64) {h : Fields} (e : h ≡ fieldsAt s at)
     (v : Puts o o1 x x1 (frontBytes (withFlags (headAt s at) (h .flags)) (h .count)) true) where
-  pub first-step : (f : Rec → ℕ → Out Rec) → {p0 p1 : ℕ} → One levels s at p0 p1 → {o2 o3 : List ℕ} {x2 x3 : State} → Keeps o1 o2 x1 x2 (f (treeAt (levels - 1) s p0) (x1 .n) .0)
-      → KeepsAll o2 o3 x2 x3 (rest levels s (h .count - 1) p1) → Keeps o o3 x x3 (wrap (headOf (treeAt levels s at)) (atKid 0 f (kidsOf (treeAt levels s at)) (x .n)) .0)
+  pub first-step : (f : Rec → ℕ → Out Rec) → {p0 p1 : ℕ} → One levels s at p0 p1 → {o2 o3 : List ℕ} {x2 x3 : State} → Keeps o1 o2 x1 x2 (f (treeAt (levels - 1) s p0) (x1 .counter) .0)
+      → KeepsAll o2 o3 x2 x3 (rest levels s (h .count - 1) p1) → Keeps o o3 x x3 (wrap (headOf (treeAt levels s at)) (atKid 0 f (kidsOf (treeAt levels s at)) (x .counter)) .0)
   first-step f {p0} {p1} u b z =
-      puts-as (keeps-first levels s at e l (headAt s at) (front-as s at e v) (head-short levels s at a known) (f (treeAt (levels - 1) s p0) (x1 .n) .0) u b z)
+      puts-as (keeps-first levels s at e l (headAt s at) (front-as s at e v) (head-short levels s at a known) (f (treeAt (levels - 1) s p0) (x1 .counter) .0) u b z)
       (ap (λ (n : ℕ). rec (headAt s at) (cons (f (treeAt (levels - 1) s p0) n .0) (rest levels s (countAt s at - 1) p1))) (puts-counter v)
-      ∙ ap (λ (r : Rec). wrap (headOf r) (atKid 0 f (kidsOf r) (x .n)) .0) (sym (u .is)))
+      ∙ ap (λ (r : Rec). wrap (headOf r) (atKid 0 f (kidsOf r) (x .counter)) .0) (sym (u .is)))
 
   pub second-step : (f : Rec → ℕ → Out Rec) → {p0 p1 p2 : ℕ} → Two levels s at p0 p1 p2 → {o2 o3 o4 : List ℕ} {x2 x3 x4 : State} → Keeps o1 o2 x1 x2 (treeAt (levels - 1) s p0)
-      → Keeps o2 o3 x2 x3 (f (treeAt (levels - 1) s p1) (x2 .n) .0) → KeepsAll o3 o4 x3 x4 (rest levels s (h .count - 2) p2) → Keeps o o4 x x4 (second f (treeAt levels s at) (x .n) .0)
+      → Keeps o2 o3 x2 x3 (f (treeAt (levels - 1) s p1) (x2 .counter) .0) → KeepsAll o3 o4 x3 x4 (rest levels s (h .count - 2) p2) → Keeps o o4 x x4 (second f (treeAt levels s at) (x .counter) .0)
   unfolding second
   second-step f {p0} {p1} {p2} u {x2 = x2} b c z =
-      puts-as (keeps-second levels s at e l (headAt s at) (front-as s at e v) (head-short levels s at a known) (f (treeAt (levels - 1) s p1) (x2 .n) .0) u b c z)
+      puts-as (keeps-second levels s at e l (headAt s at) (front-as s at e v) (head-short levels s at a known) (f (treeAt (levels - 1) s p1) (x2 .counter) .0) u b c z)
       (ap (λ (n : ℕ). rec (headAt s at) (cons (treeAt (levels - 1) s p0) (cons (f (treeAt (levels - 1) s p1) n .0) (rest levels s (countAt s at - 2) p2)))) (puts-counter b ∙ puts-counter v)
-      ∙ ap (λ (r : Rec). second f r (x .n) .0) (sym (u .is)))
+      ∙ ap (λ (r : Rec). second f r (x .counter) .0) (sym (u .is)))
 
 -- ---- the same where the step may give diagnostics and raise the counter
 
-module _ (levels : ℕ) (s : List ℕ) (at : ℕ) (H : Head) (short : length (H .text) < 65536) {o o1 : List ℕ} {x x1 : State} (d : x .d ≤ top) (v : Puts o o1 x x1 (frontBytes H (countAt s at)) true) {h : Fields} (e : h ≡ fieldsAt s at)
+module _ (levels : ℕ) (s : List ℕ) (at : ℕ) (H : Head) (short : length (H .text) < 65536) {o o1 : List ℕ} {x x1 : State} (d : x .reported ≤ top) (v : Puts o o1 x x1 (frontBytes H (countAt s at)) true) {h : Fields} (e : h ≡ fieldsAt s at)
     (f : Rec → ℕ → Out Rec) where
-  pub makes-first : {p0 p1 : ℕ} → One levels s at p0 p1 → {o2 o3 g g' : List ℕ} {x2 x3 : State} → Makes o1 o2 g g' x1 x2 (f (treeAt (levels - 1) s p0) (x1 .n)) → KeepsAll o2 o3 x2 x3 (rest levels s (h .count - 1) p1)
-      → Makes o o3 g g' x x3 (wrap H (atKid 0 f (kidsOf (treeAt levels s at)) (x .n)))
+  pub makes-first : {p0 p1 : ℕ} → One levels s at p0 p1 → {o2 o3 g g' : List ℕ} {x2 x3 : State} → Makes o1 o2 g g' x1 x2 (f (treeAt (levels - 1) s p0) (x1 .counter)) → KeepsAll o2 o3 x2 x3 (rest levels s (h .count - 1) p1)
+      → Makes o o3 g g' x x3 (wrap H (atKid 0 f (kidsOf (treeAt levels s at)) (x .counter)))
   makes-first {p0} {p1} u b z =
-      makes-as (framed-first levels s at H short d v u (f (treeAt (levels - 1) s p0)) b (kept-as s at e (levels - 1) 1 p1 z)) (ap (λ (r : Rec). wrap H (atKid 0 f (kidsOf r) (x .n))) (sym (u .is)))
+      makes-as (framed-first levels s at H short d v u (f (treeAt (levels - 1) s p0)) b (kept-as s at e (levels - 1) 1 p1 z)) (ap (λ (r : Rec). wrap H (atKid 0 f (kidsOf r) (x .counter))) (sym (u .is)))
 
   pub makes-second : {p0 p1 p2 : ℕ} → Two levels s at p0 p1 p2 → {o2 o3 o4 g g' : List ℕ} {x2 x3 x4 : State} → Keeps o1 o2 x1 x2 (treeAt (levels - 1) s p0)
-      → Makes o2 o3 g g' x2 x3 (f (treeAt (levels - 1) s p1) (x2 .n)) → KeepsAll o3 o4 x3 x4 (rest levels s (h .count - 2) p2) → Makes o o4 g g' x x4 (wrap H (atKid 1 f (kidsOf (treeAt levels s at)) (x .n)))
+      → Makes o2 o3 g g' x2 x3 (f (treeAt (levels - 1) s p1) (x2 .counter)) → KeepsAll o3 o4 x3 x4 (rest levels s (h .count - 2) p2) → Makes o o4 g g' x x4 (wrap H (atKid 1 f (kidsOf (treeAt levels s at)) (x .counter)))
   makes-second {p0} {p1} {p2} u b c z =
       makes-as (framed-second levels s at H short d v u (treeAt (levels - 1) s p0) (f (treeAt (levels - 1) s p1)) b c (kept-as s at e (levels - 1) 2 p2 z))
-      (ap (λ (r : Rec). wrap H (atKid 1 f (kidsOf r) (x .n))) (sym (u .is)))
+      (ap (λ (r : Rec). wrap H (atKid 1 f (kidsOf r) (x .counter))) (sym (u .is)))
 
 -- ---- steps that leave no diagnostic, and the counter as it is
 

@@ -58,24 +58,24 @@ module _ (levels : ℕ) (s : List ℕ) (at : ℕ) (a : AcceptedAt levels s at) w
   each-is f flags n = ap (λ (r : Rec). wrap (withFlags (headOf r) flags) (each f 0 (kidsOf r) n)) (sym (tree-is levels s at a))
 
   pub members-written : ((i : ℕ) → mir.Val.Fits w8 (getD s i 0)) → (flags : ℕ) {o o1 o2 : List ℕ} {x x1 x2 : State} {h : Fields} {b : ℕ} → length o < 2 ^ 64 → h ≡ fieldsAt s at → b ≡ bodyAt s at
-      → Puts o o1 x x1 (frontBytes (withFlags (headAt s at) flags) (h .count)) true → KeepsAll o1 o2 x1 x2 (each (λ i. enumMember) 0 (recordsAt (levels - 1) s (h .count) b) (x1 .n) .0)
-      → Keeps o o2 x x2 (withMembers flags (treeAt levels s at) (x .n) .0)
+      → Puts o o1 x x1 (frontBytes (withFlags (headAt s at) flags) (h .count)) true → KeepsAll o1 o2 x1 x2 (each (λ i. enumMember) 0 (recordsAt (levels - 1) s (h .count) b) (x1 .counter) .0)
+      → Keeps o o2 x x2 (withMembers flags (treeAt levels s at) (x .counter) .0)
   members-written known flags {x = x} {x1 = x1} l e f v w =
       let H : Head = withFlags (headAt s at) flags in
       puts-as
-      (begun-done (begun-all l (begun H (countAt s at) (front-flags s at e (λ _. flags) v)) (each (λ i. enumMember) 0 childrenOf (x1 .n) .0) (rw (e, f) at w)) (each-many (λ i. enumMember) (x1 .n)) (head-short levels s at a known))
-      (ap (λ (n : ℕ). rec H (each (λ i. enumMember) 0 childrenOf n .0)) (puts-counter v) ∙ ap (λ (o : Out Rec). o .0) (each-is (λ i. enumMember) flags (x .n)))
+      (begun-done (begun-all l (begun H (countAt s at) (front-flags s at e (λ _. flags) v)) (each (λ i. enumMember) 0 childrenOf (x1 .counter) .0) (rw (e, f) at w)) (each-many (λ i. enumMember) (x1 .counter)) (head-short levels s at a known))
+      (ap (λ (n : ℕ). rec H (each (λ i. enumMember) 0 childrenOf n .0)) (puts-counter v) ∙ ap (λ (o : Out Rec). o .0) (each-is (λ i. enumMember) flags (x .counter)))
 
-  pub declarators-made : ((i : ℕ) → mir.Val.Fits w8 (getD s i 0)) → (scope : Scope) (flags : ℕ) {o o1 o2 g g' : List ℕ} {x x1 x2 : State} {h : Fields} {b : ℕ} → x .d ≤ top → h ≡ fieldsAt s at → b ≡ bodyAt s at
+  pub declarators-made : ((i : ℕ) → mir.Val.Fits w8 (getD s i 0)) → (scope : Scope) (flags : ℕ) {o o1 o2 g g' : List ℕ} {x x1 x2 : State} {h : Fields} {b : ℕ} → x .reported ≤ top → h ≡ fieldsAt s at → b ≡ bodyAt s at
       → Puts o o1 x x1 (frontBytes (withFlags (headAt s at) flags) (h .count)) true
-      → MakesAll o1 o2 g g' x1 x2 (each (λ i. declarator (typingOf s scope)) 0 (recordsAt (levels - 1) s (h .count) b) (x1 .n))
-      → Makes o o2 g g' x x2 (withDeclarators s scope flags (treeAt levels s at) (x .n))
+      → MakesAll o1 o2 g g' x1 x2 (each (λ i. declarator (typingOf s scope)) 0 (recordsAt (levels - 1) s (h .count) b) (x1 .counter))
+      → Makes o o2 g g' x x2 (withDeclarators s scope flags (treeAt levels s at) (x .counter))
   declarators-made known scope flags {o} {o1} {o2} {g} {g'} {x} {x1} {x2} d e f v w =
       let H : Head = withFlags (headAt s at) flags in
-      let y : Out Recs = each (λ i. declarator (typingOf s scope)) 0 childrenOf (x1 .n) in
+      let y : Out Recs = each (λ i. declarator (typingOf s scope)) 0 childrenOf (x1 .counter) in
       let w' : MakesAll o1 o2 g g' x1 x2 y = rw (e, f) at w in
-      makes-as (makes-front H {y = y} (front-flags s at e (λ _. flags) v) (each-many (λ i. declarator (typingOf s scope)) (x1 .n)) w' (head-short levels s at a known) d)
-      (ap (λ (n : ℕ). wrap H (each (λ i. declarator (typingOf s scope)) 0 childrenOf n)) (puts-counter v) ∙ each-is (λ i. declarator (typingOf s scope)) flags (x .n))
+      makes-as (makes-front H {y = y} (front-flags s at e (λ _. flags) v) (each-many (λ i. declarator (typingOf s scope)) (x1 .counter)) w' (head-short levels s at a known) d)
+      (ap (λ (n : ℕ). wrap H (each (λ i. declarator (typingOf s scope)) 0 childrenOf n)) (puts-counter v) ∙ each-is (λ i. declarator (typingOf s scope)) flags (x .counter))
 
   -- ---- a function without its body
 
@@ -99,9 +99,9 @@ module _ (levels : ℕ) (s : List ℕ) (at : ℕ) (a : AcceptedAt levels s at) w
 
   pub body-written : ((i : ℕ) → mir.Val.Fits w8 (getD s i 0)) → {o o1 o2 o3 o4 o5 : List ℕ} {x x1 x2 x3 x4 x5 : State} {h : Fields} {p0 p1 p2 p3 : ℕ} → Three levels s at p0 p1 p2 p3 → length o < 2 ^ 64 → h ≡ fieldsAt s at
       → Puts o o1 x x1 (frontBytes (withFlags (headAt s at) (h .flags)) (h .count)) true → Keeps o1 o2 x1 x2 (treeAt (levels - 1) s p0) → Keeps o2 o3 x2 x3 (treeAt (levels - 1) s p1)
-      → Keeps o3 o4 x3 x4 (gone (treeAt (levels - 1) s p2)) → KeepsAll o4 o5 x4 x5 (rest levels s (h .count - 3) p3) → Keeps o o5 x x5 (withoutBody (treeAt levels s at) (x .n) .0)
+      → Keeps o3 o4 x3 x4 (gone (treeAt (levels - 1) s p2)) → KeepsAll o4 o5 x4 x5 (rest levels s (h .count - 3) p3) → Keeps o o5 x x5 (withoutBody (treeAt levels s at) (x .counter) .0)
   body-written known {x = x} {p2 = p2} u l e v b c d z =
-      puts-as (keeps-third levels s at e l (headAt s at) (front-as s at e v) (head-short levels s at a known) (gone (treeAt (levels - 1) s p2)) u b c d z) (body-gone u (x .n))
+      puts-as (keeps-third levels s at e l (headAt s at) (front-as s at e v) (head-short levels s at a known) (gone (treeAt (levels - 1) s p2)) u b c d z) (body-gone u (x .counter))
 
   -- ---- a class, and a function
 
@@ -127,9 +127,9 @@ module _ (levels : ℕ) (s : List ℕ) (at : ℕ) (a : AcceptedAt levels s at) w
 
   -- a step on the second child, with other flags
   pub flagged-second : ((i : ℕ) → mir.Val.Fits w8 (getD s i 0)) → (f : Rec → ℕ → Out Rec) (flags : ℕ) {p0 p1 p2 : ℕ} → Two levels s at p0 p1 p2
-      → {o o1 o2 o3 o4 g g' : List ℕ} {x x1 x2 x3 x4 : State} {h : Fields} → x .d ≤ top → h ≡ fieldsAt s at
-      → Puts o o1 x x1 (frontBytes (withFlags (headAt s at) flags) (h .count)) true → Keeps o1 o2 x1 x2 (treeAt (levels - 1) s p0) → Makes o2 o3 g g' x2 x3 (f (treeAt (levels - 1) s p1) (x2 .n))
-      → KeepsAll o3 o4 x3 x4 (rest levels s (h .count - 2) p2) → Makes o o4 g g' x x4 (wrap (withFlags (headOf (treeAt levels s at)) flags) (atKid 1 f (kidsOf (treeAt levels s at)) (x .n)))
+      → {o o1 o2 o3 o4 g g' : List ℕ} {x x1 x2 x3 x4 : State} {h : Fields} → x .reported ≤ top → h ≡ fieldsAt s at
+      → Puts o o1 x x1 (frontBytes (withFlags (headAt s at) flags) (h .count)) true → Keeps o1 o2 x1 x2 (treeAt (levels - 1) s p0) → Makes o2 o3 g g' x2 x3 (f (treeAt (levels - 1) s p1) (x2 .counter))
+      → KeepsAll o3 o4 x3 x4 (rest levels s (h .count - 2) p2) → Makes o o4 g g' x x4 (wrap (withFlags (headOf (treeAt levels s at)) flags) (atKid 1 f (kidsOf (treeAt levels s at)) (x .counter)))
   flagged-second known f flags u {x = x} d e v b c z =
       makes-as (makes-second levels s at (withFlags (headAt s at) flags) (head-short levels s at a known) d (front-flags s at e (λ _. flags) v) e f u b c z)
-      (ap (λ (h : Head). wrap (withFlags h flags) (atKid 1 f (kidsOf (treeAt levels s at)) (x .n))) (sym (head-is levels s at)))
+      (ap (λ (h : Head). wrap (withFlags h flags) (atKid 1 f (kidsOf (treeAt levels s at)) (x .counter))) (sym (head-is levels s at)))

@@ -49,7 +49,7 @@ use Rattle.items.proofs.Begun.{keeps-first, makes-first, each-silent}
 
 -- ---- records as the only ones
 
-pub gives-kept : {o o' : List ℕ} (g : List ℕ) {s s' : State} {t : Rec} → Keeps o o' s s' t → s .d ≤ top → Gives o o' g g s (record { s = s'; count = 1 }) (pure (one t) (s .n))
+pub gives-kept : {o o' : List ℕ} (g : List ℕ) {s s' : State} {t : Rec} → Keeps o o' s s' t → s .reported ≤ top → Gives o o' g g s (record { s = s'; count = 1 }) (pure (one t) (s .counter))
 gives-kept g w d = gives-one (makes-keeps g w d)
 
 -- ---- the children
@@ -80,7 +80,7 @@ unique-fits counter h = name-fits (fresh "Id" 0 []) (genUniqueName counter) (ome
 
 pub name-written : (levels : ℕ) (s : List ℕ) (at : ℕ) → AcceptedAt levels s at → ((i : ℕ) → mir.Val.Fits w8 (getD s i 0)) → {p1 : ℕ} → One levels s at (bodyAt s at) p1 → (counter : ℕ) → counter < 2 ^ 64
     → {o o1 o2 o3 : List ℕ} {x x1 x3 : State} {h : Fields} {q : ℕ} → length o < 2 ^ 64 → h ≡ fieldsAt s at
-    → Puts o o1 x x1 (frontBytes (withFlags (headAt s at) (h .flags)) (h .count)) true → Put o1 o2 (x1 .p) (encode (ident dummySp (genUniqueName counter))) q
+    → Puts o o1 x x1 (frontBytes (withFlags (headAt s at) (h .flags)) (h .count)) true → Put o1 o2 (x1 .written) (encode (ident dummySp (genUniqueName counter))) q
     → KeepsAll o2 o3 (movedTo x1 q) x3 (rest levels s (h .count - 1) p1) → Keeps o o3 x x3 (rec (headAt s at) (setKid 0 (ident dummySp (genUniqueName counter)) (kidsOf (treeAt levels s at))))
 name-written levels s at a known u counter small {x1 = x1} l e v w z =
     puts-as
@@ -128,19 +128,19 @@ pub whole : (r : Rec) → rec (headOf r) (kidsOf r) ≡ r
 whole (rec h ks) = refl
 
 -- only the position, the end of the diagnostics and whether the texts fit count at the start of a step
-step-from : {o o' g g' : List ℕ} (s : State) {n : ℕ} {s' : State} {E : List ℕ} {ds : List Diag} {m : ℕ} {f : Bool} → Step o o' g g' (record { p = s .p; d = s .d; n = n; fits = s .fits }) s' E ds m f
+step-from : {o o' g g' : List ℕ} (s : State) {n : ℕ} {s' : State} {E : List ℕ} {ds : List Diag} {m : ℕ} {f : Bool} → Step o o' g g' (record { written = s .written; reported = s .reported; counter = n; fits = s .fits }) s' E ds m f
     → Step o o' g g' s s' E ds m f
 step-from s w = record { ran = w .ran; counter = w .counter; fits = w .fits }
 
 module _ (tree : List ℕ) (scope : Scope) (levels at : ℕ) {p0 p1 : ℕ} (u : One levels tree at p0 p1) where
   -- "Xe of Id passes"
-  pub expr-name : {o o' : List ℕ} (g : List ℕ) {s s' : State} → markAt tree p0 ≡ mark "Id" → Keeps o o' s s' (treeAt levels tree at) → s .d ≤ top
-      → Gives o o' g g s (record { s = s'; count = 1 }) (defaultExprOf tree scope (treeAt levels tree at) (s .n))
+  pub expr-name : {o o' : List ℕ} (g : List ℕ) {s s' : State} → markAt tree p0 ≡ mark "Id" → Keeps o o' s s' (treeAt levels tree at) → s .reported ≤ top
+      → Gives o o' g g s (record { s = s'; count = 1 }) (defaultExprOf tree scope (treeAt levels tree at) (s .counter))
   unfolding exportDefaultExpr
   expr-name g {s} m w d =
       let r : Rec = rec (headAt tree at) (cons (treeAt (levels - 1) tree p0) (rest levels tree (countAt tree at - 1) p1)) in
-      let z : pure (one r) (s .n) ≡ defaultExprOf tree scope r (s .n) = rw (is-mark (levels - 1) tree p0 (mark "Id") m) in
-      gives-as (gives-kept g w d) (ap (λ (r : Rec). pure (one r) (s .n)) (u .is) ∙ (z ∙ ap (λ (r : Rec). defaultExprOf tree scope r (s .n)) (sym (u .is))))
+      let z : pure (one r) (s .counter) ≡ defaultExprOf tree scope r (s .counter) = rw (is-mark (levels - 1) tree p0 (mark "Id") m) in
+      gives-as (gives-kept g w d) (ap (λ (r : Rec). pure (one r) (s .counter)) (u .is) ∙ (z ∙ ap (λ (r : Rec). defaultExprOf tree scope r (s .counter)) (sym (u .is))))
 
   -- what it gives otherwise, by the type of its expression
   typed-is : (n : ℕ) → (markAt tree p0 ≡ mark "Id" → ⊥) → onValue (defaultTyped (headOf (treeAt levels tree at)) (kidsOf (treeAt levels tree at)) (suc n)) (typingOf tree scope (treeAt (levels - 1) tree p0) false true (suc n))
@@ -154,14 +154,14 @@ module _ (tree : List ℕ) (scope : Scope) (levels at : ℕ) {p0 p1 : ℕ} (u : 
 
   -- the state of the typing, and its type
   abbrev raised : State → ℕ → State
-  raised s q = record { p = q; d = s .d; n = s .n + 1; fits = s .fits }
+  raised s q = record { written = q; reported = s .reported; counter = s .counter + 1; fits = s .fits }
 
   abbrev exprType : Mode → State → Out (Option Rec)
-  exprType m s = typeOf tree m (levels - 1) p0 (s .n + 1)
+  exprType m s = typeOf tree m (levels - 1) p0 (s .counter + 1)
 
-  type-is : (m : Mode) (s : State) → m ≡ readonlyMode scope → exprType m s ≡ typingOf tree scope (treeAt (levels - 1) tree p0) false true (suc (s .n))
+  type-is : (m : Mode) (s : State) → m ≡ readonlyMode scope → exprType m s ≡ typingOf tree scope (treeAt (levels - 1) tree p0) false true (suc (s .counter))
   unfolding typeOf
-  type-is m s e = rw (e, add-one (s .n))
+  type-is m s e = rw (e, add-one (s .counter))
 
   pair-is : (n : ℕ) (type : Rec) (v : Option Rec) → v ≡ some type
       → cons (constOf (n + 1) type) (one (rec (headAt tree at) (setKid 0 (ident dummySp (genUniqueName (n + 1))) (kidsOf (treeAt levels tree at))))) ≡ defaultTyped (headOf (treeAt levels tree at)) (kidsOf (treeAt levels tree at)) (suc n) v
@@ -178,41 +178,41 @@ module _ (tree : List ℕ) (scope : Scope) (levels at : ℕ) {p0 p1 : ℕ} (u : 
       ap one (sym (whole (treeAt levels tree at))) ∙ ap (λ (v : Option Rec). defaultTyped (headOf (treeAt levels tree at)) (kidsOf (treeAt levels tree at)) (suc n) v) (sym e)
 
   -- typed: a const with that type, and the Xe of its name
-  pub expr-typed : {o o1 o2 o3 o4 g g' : List ℕ} (s : State) {t : Typed} {typed next : State} {m : Mode} {q r : ℕ} → (markAt tree p0 ≡ mark "Id" → ⊥) → m ≡ readonlyMode scope → s .n + 1 < 2 ^ 64 → s .d ≤ top
-      → Put o o1 (s .p) (constFront (s .n + 1)) q → Did o1 o2 g g' (raised s q) t (exprType m s) → t ≡ Some typed → Put o2 o3 (typed .p) (encode absent) r
-      → Keeps o3 o4 (movedTo typed r) next (rec (headAt tree at) (setKid 0 (ident dummySp (genUniqueName (s .n + 1))) (kidsOf (treeAt levels tree at))))
-      → Gives o o4 g g' s (record { s = next; count = 2 }) (defaultExprOf tree scope (treeAt levels tree at) (s .n))
+  pub expr-typed : {o o1 o2 o3 o4 g g' : List ℕ} (s : State) {t : Typed} {typed next : State} {m : Mode} {q r : ℕ} → (markAt tree p0 ≡ mark "Id" → ⊥) → m ≡ readonlyMode scope → s .counter + 1 < 2 ^ 64 → s .reported ≤ top
+      → Put o o1 (s .written) (constFront (s .counter + 1)) q → Did o1 o2 g g' (raised s q) t (exprType m s) → t ≡ Some typed → Put o2 o3 (typed .written) (encode absent) r
+      → Keeps o3 o4 (movedTo typed r) next (rec (headAt tree at) (setKid 0 (ident dummySp (genUniqueName (s .counter + 1))) (kidsOf (treeAt levels tree at))))
+      → Gives o o4 g g' s (record { s = next; count = 2 }) (defaultExprOf tree scope (treeAt levels tree at) (s .counter))
   expr-typed {o} {o1} {o2} {o3} {o4} {g} {g'} s {typed = typed} {next = next} {m = m} {q = q} n e small d a w z b c =
       let x : Out (Option Rec) = exprType m s in
       let i : IsSome o1 o2 g g' (raised s q) typed x = is-some w z in
-      let xe : Rec = rec (headAt tree at) (setKid 0 (ident dummySp (genUniqueName (s .n + 1))) (kidsOf (treeAt levels tree at))) in
-      let below : typed .d ≤ top = (let y = i .step .ran .atd in omega arith) in
-      let all = step-then (step-put g (raised s (s .p)) a d) (step-then (i .step) (step-then (step-put g' typed b below) (step-puts g' c below))) in
-      let made : Gives o o4 g g' s (record { s = next; count = 2 }) (cons (constOf (s .n + 1) (i .type)) (one xe), x .1, x .2) =
+      let xe : Rec = rec (headAt tree at) (setKid 0 (ident dummySp (genUniqueName (s .counter + 1))) (kidsOf (treeAt levels tree at))) in
+      let below : typed .reported ≤ top = (let y = i .step .ran .atd in omega arith) in
+      let all = step-then (step-put g (raised s (s .written)) a d) (step-then (i .step) (step-then (step-put g' typed b below) (step-puts g' c below))) in
+      let made : Gives o o4 g g' s (record { s = next; count = 2 }) (cons (constOf (s .counter + 1) (i .type)) (one xe), x .1, x .2) =
       record {
         many = refl;
-        step = step-as (step-from s all) (pair-bytes (s .n + 1) (i .type) xe) (append-nil (x .1)) (i .step .counter) (pair-fits (s .n + 1) small (i .type) xe);
+        step = step-as (step-from s all) (pair-bytes (s .counter + 1) (i .type) xe) (append-nil (x .1)) (i .step .counter) (pair-fits (s .counter + 1) small (i .type) xe);
       } in
       gives-as made
-      ((λ j. (pair-is (s .n) (i .type) (x .0) (i .same) j, x .1, x .2))
-      ∙ (ap (onValue (defaultTyped (headOf (treeAt levels tree at)) (kidsOf (treeAt levels tree at)) (suc (s .n)))) (type-is m s e) ∙ typed-is (s .n) n))
+      ((λ j. (pair-is (s .counter) (i .type) (x .0) (i .same) j, x .1, x .2))
+      ∙ (ap (onValue (defaultTyped (headOf (treeAt levels tree at)) (kidsOf (treeAt levels tree at)) (suc (s .counter)))) (type-is m s e) ∙ typed-is (s .counter) n))
 
   -- "Untyped: kept whole, no diagnostic of its own"
-  pub expr-untyped : {o o1 o2 o3 g g' : List ℕ} (s : State) {t : Typed} {failed back next : State} {m : Mode} {q : ℕ} → (markAt tree p0 ≡ mark "Id" → ⊥) → m ≡ readonlyMode scope → s .p ≤ top → s .d ≤ top
-      → Put o o1 (s .p) (constFront (s .n + 1)) q → Did o1 o2 g g' (raised s q) t (exprType m s) → t ≡ None failed → back ≡ backTo s failed → Keeps o2 o3 back next (treeAt levels tree at)
-      → Gives o o3 g g' s (record { s = next; count = 1 }) (defaultExprOf tree scope (treeAt levels tree at) (s .n))
+  pub expr-untyped : {o o1 o2 o3 g g' : List ℕ} (s : State) {t : Typed} {failed back next : State} {m : Mode} {q : ℕ} → (markAt tree p0 ≡ mark "Id" → ⊥) → m ≡ readonlyMode scope → s .written ≤ top → s .reported ≤ top
+      → Put o o1 (s .written) (constFront (s .counter + 1)) q → Did o1 o2 g g' (raised s q) t (exprType m s) → t ≡ None failed → back ≡ backTo s failed → Keeps o2 o3 back next (treeAt levels tree at)
+      → Gives o o3 g g' s (record { s = next; count = 1 }) (defaultExprOf tree scope (treeAt levels tree at) (s .counter))
   expr-untyped {o} {o1} {o2} {o3} {g} {g'} s {failed = failed} {next = next} {m = m} {q = q} n e p d a w z f c =
       let x : Out (Option Rec) = exprType m s in
       let t : Rec = treeAt levels tree at in
       let i : IsNone o1 o2 g g' (raised s q) failed x = is-none w z in
-      let below : failed .d ≤ top = (let y = i .step .ran .atd in omega arith) in
+      let below : failed .reported ≤ top = (let y = i .step .ran .atd in omega arith) in
       let c' : Keeps o2 o3 (backTo s failed) next t = subst (λ (b : State). Keeps o2 o3 b next t) f c in
-      let all = step-then (step-back p (step-then (step-put g (raised s (s .p)) a d) (i .step))) (step-puts g' c' below) in
+      let all = step-then (step-back p (step-then (step-put g (raised s (s .written)) a d) (i .step))) (step-puts g' c' below) in
       let made : Gives o o3 g g' s (record { s = next; count = 1 }) (one t, x .1, x .2) =
       record { many = refl; step = step-as (step-from s all) (sym (encodes-one t)) (append-nil (x .1)) (i .step .counter) (sym (all-one t)) } in
       gives-as made
-      ((λ j. (whole-is (s .n) (x .0) (i .same) j, x .1, x .2))
-      ∙ (ap (onValue (defaultTyped (headOf t) (kidsOf t) (suc (s .n)))) (type-is m s e) ∙ typed-is (s .n) n))
+      ((λ j. (whole-is (s .counter) (x .0) (i .same) j, x .1, x .2))
+      ∙ (ap (onValue (defaultTyped (headOf t) (kidsOf t) (suc (s .counter)))) (type-is m s e) ∙ typed-is (s .counter) n))
 
 -- what its typing asks
 pub expr-ready : {levels : ℕ} {tree : List ℕ} {at n : ℕ} {scope : Scope} → Ready levels tree at n scope → {p0 p1 : ℕ} → One levels tree at p0 p1 → p0 ≡ bodyAt tree at → Ready (levels - 1) tree p0 (n + 1) scope
@@ -245,19 +245,19 @@ module _ (list tree : List ℕ) (scope : Scope) (levels at : ℕ) {p0 p1 : ℕ} 
       (sym e ∙ ap defaultKind (sym (mark-is (levels - 1) tree p0) ∙ ap (λ (r : Rec). markOf (kid 0 (kidsOf r))) (sym (u .is))))
 
   -- a class
-  pub default-class : AcceptedAt levels tree at → ((i : ℕ) → mir.Val.Fits w8 (getD tree i 0)) → markAt tree p0 ≡ mark "Cx" → {o o1 o2 o3 g g' : List ℕ} {s s1 s2 s3 : State} {h k : Fields} → s .d ≤ top
+  pub default-class : AcceptedAt levels tree at → ((i : ℕ) → mir.Val.Fits w8 (getD tree i 0)) → markAt tree p0 ≡ mark "Cx" → {o o1 o2 o3 g g' : List ℕ} {s s1 s2 s3 : State} {h k : Fields} → s .reported ≤ top
       → h ≡ fieldsAt tree at → k ≡ fieldsAt tree p0 → Puts o o1 s s1 (frontBytes (withFlags (headAt tree at) (h .flags)) (h .count)) true
-      → Makes o1 o2 g g' s1 s2 (withClass list tree scope (k .flags) (treeAt (levels - 1) tree p0) (s1 .n)) → KeepsAll o2 o3 s2 s3 (rest levels tree (h .count - 1) p1)
-      → Gives o o3 g g' s (record { s = s3; count = 1 }) (defaultDeclOf list tree scope (treeAt levels tree at) (s .n))
+      → Makes o1 o2 g g' s1 s2 (withClass list tree scope (k .flags) (treeAt (levels - 1) tree p0) (s1 .counter)) → KeepsAll o2 o3 s2 s3 (rest levels tree (h .count - 1) p1)
+      → Gives o o3 g g' s (record { s = s3; count = 1 }) (defaultDeclOf list tree scope (treeAt levels tree at) (s .counter))
   unfolding second defaultKind exportDefaultDecl
   default-class a known m {s = s} {s1 = s1} {k = k} d e f v b z =
       let F : Rec → ℕ → Out Rec = second (class list (scope .unresolved) (typingOf tree scope)) in
       let t : Rec = treeAt (levels - 1) tree p0 in
       let q : k .flags ≡ headOf t .flags = ap (λ (x : Fields). x .flags) f ∙ sym (flags-is (levels - 1) tree p0) in
-      let c : withClass list tree scope (k .flags) t (s1 .n) ≡ F t (s1 .n) = ap (λ (x : ℕ). withClass list tree scope x t (s1 .n)) q in
+      let c : withClass list tree scope (k .flags) t (s1 .counter) ≡ F t (s1 .counter) = ap (λ (x : ℕ). withClass list tree scope x t (s1 .counter)) q in
       let kind : defaultKind (markAt tree p0) ≡ xClass = rw m in
       gives-as (gives-one (makes-first levels tree at (headAt tree at) (head-short levels tree at a known) d (front-as tree at e v) e F u (makes-as b c) z))
-      (ap (λ (h : Head). single (wrap h (atKid 0 F (kidsOf (treeAt levels tree at)) (s .n)))) (sym (head-is levels tree at)) ∙ default-by (s .n) xClass kind)
+      (ap (λ (h : Head). single (wrap h (atKid 0 F (kidsOf (treeAt levels tree at)) (s .counter)))) (sym (head-is levels tree at)) ∙ default-by (s .counter) xClass kind)
 
   -- a function: "goes if the range .. is in the overload list"
   fn-is : (n : ℕ) → markAt tree p0 ≡ mark "Fx" → ifM (listed list (headAt tree at)) (pure nil) (λ n. single (defaultFn (treeAt levels tree at) n)) n ≡ defaultDeclOf list tree scope (treeAt levels tree at) n
@@ -266,21 +266,21 @@ module _ (list tree : List ℕ) (scope : Scope) (levels at : ℕ) {p0 p1 : ℕ} 
       let kind : defaultKind (markAt tree p0) ≡ xFn = rw m in
       ap (λ (h : Head). ifM (listed list h) (pure nil) (λ n. single (defaultFn (treeAt levels tree at) n)) n) (sym (head-is levels tree at)) ∙ default-by n xFn kind
 
-  pub default-gone : markAt tree p0 ≡ mark "Fx" → {b : Bool} → b ≡ listed list (headAt tree at) → b ≡ true → (o g : List ℕ) (s : State) → s .p ≤ top → s .d ≤ top
-      → Gives o o g g s (record { s = s; count = 0 }) (defaultDeclOf list tree scope (treeAt levels tree at) (s .n))
+  pub default-gone : markAt tree p0 ≡ mark "Fx" → {b : Bool} → b ≡ listed list (headAt tree at) → b ≡ true → (o g : List ℕ) (s : State) → s .written ≤ top → s .reported ≤ top
+      → Gives o o g g s (record { s = s; count = 0 }) (defaultDeclOf list tree scope (treeAt levels tree at) (s .counter))
   default-gone m e q o g s p d =
-      gives-as (gives-none o g s p d) (ap (λ (b : Bool). ifM b (pure nil) (λ n. single (defaultFn (treeAt levels tree at) n)) (s .n)) (sym q ∙ e) ∙ fn-is (s .n) m)
+      gives-as (gives-none o g s p d) (ap (λ (b : Bool). ifM b (pure nil) (λ n. single (defaultFn (treeAt levels tree at) n)) (s .counter)) (sym q ∙ e) ∙ fn-is (s .counter) m)
 
-  pub default-bare : markAt tree p0 ≡ mark "Fx" → {b : Bool} → b ≡ listed list (headAt tree at) → b ≡ false → {o o' : List ℕ} (g : List ℕ) {s s' : State} → s .d ≤ top
-      → Keeps o o' s s' (defaultFn (treeAt levels tree at) (s .n) .0) → Gives o o' g g s (record { s = s'; count = 1 }) (defaultDeclOf list tree scope (treeAt levels tree at) (s .n))
+  pub default-bare : markAt tree p0 ≡ mark "Fx" → {b : Bool} → b ≡ listed list (headAt tree at) → b ≡ false → {o o' : List ℕ} (g : List ℕ) {s s' : State} → s .reported ≤ top
+      → Keeps o o' s s' (defaultFn (treeAt levels tree at) (s .counter) .0) → Gives o o' g g s (record { s = s'; count = 1 }) (defaultDeclOf list tree scope (treeAt levels tree at) (s .counter))
   default-bare m e q g {s} d w =
       gives-as (gives-kept g w d)
-      (ap single (sym (fn-silent (treeAt levels tree at) (s .n)))
-      ∙ (ap (λ (b : Bool). ifM b (pure nil) (λ n. single (defaultFn (treeAt levels tree at) n)) (s .n)) (sym q ∙ e) ∙ fn-is (s .n) m))
+      (ap single (sym (fn-silent (treeAt levels tree at) (s .counter)))
+      ∙ (ap (λ (b : Bool). ifM b (pure nil) (λ n. single (defaultFn (treeAt levels tree at) n)) (s .counter)) (sym q ∙ e) ∙ fn-is (s .counter) m))
 
   -- an In
-  pub default-other : (markAt tree p0 ≡ mark "Cx" → ⊥) → (markAt tree p0 ≡ mark "Fx" → ⊥) → {o o' : List ℕ} (g : List ℕ) {s s' : State} → s .d ≤ top → Keeps o o' s s' (treeAt levels tree at)
-      → Gives o o' g g s (record { s = s'; count = 1 }) (defaultDeclOf list tree scope (treeAt levels tree at) (s .n))
+  pub default-other : (markAt tree p0 ≡ mark "Cx" → ⊥) → (markAt tree p0 ≡ mark "Fx" → ⊥) → {o o' : List ℕ} (g : List ℕ) {s s' : State} → s .reported ≤ top → Keeps o o' s s' (treeAt levels tree at)
+      → Gives o o' g g s (record { s = s'; count = 1 }) (defaultDeclOf list tree scope (treeAt levels tree at) (s .counter))
   unfolding exportDefaultDecl
   default-other m k g {s} d w =
-      gives-as (gives-kept g w d) (ap (λ (r : Rec). pure (one r) (s .n)) (sym (whole (treeAt levels tree at))) ∙ default-by (s .n) xOther (default-kind (markAt tree p0) m k))
+      gives-as (gives-kept g w d) (ap (λ (r : Rec). pure (one r) (s .counter)) (sym (whole (treeAt levels tree at))) ∙ default-by (s .counter) xOther (default-kind (markAt tree p0) m k))

@@ -311,13 +311,13 @@ members-cons r rs n =
 pub record Members (levels : ℕ) (tree : List ℕ) (at n : ℕ) (o0 o : List ℕ) (s0 s : State) (k c : ℕ) : Type 0 where
   pub kids : AllAccepted levels tree k c
   pub size : length o ≡ length o0
-  pub same : s .n ≡ s0 .n
+  pub same : s .counter ≡ s0 .counter
   pub made : Recs
-  pub sum : membersOf (recordsAt levels tree n at) (s0 .n) ≡ join made (membersOf (recordsAt levels tree k c) (s0 .n))
+  pub sum : membersOf (recordsAt levels tree n at) (s0 .counter) ≡ join made (membersOf (recordsAt levels tree k c) (s0 .counter))
   pub put : KeepsAll o0 o s0 s made
 
 module _ (levels : ℕ) (tree : List ℕ) (at n : ℕ) where
-  pub members-start : AllAccepted levels tree n at → (o : List ℕ) (s : State) → s .p ≤ top → Members levels tree at n o o s s n at
+  pub members-start : AllAccepted levels tree n at → (o : List ℕ) (s : State) → s .written ≤ top → Members levels tree at n o o s s n at
   unfolding encodes allTextsFit
   members-start a o s h = record { kids = a; size = refl; same = refl; made = nil; sum = refl; put = puts-none o s h }
 
@@ -325,25 +325,25 @@ module _ (levels : ℕ) (tree : List ℕ) (at n : ℕ) where
     pub members-first : 0 < k → AcceptedAt levels tree c
     members-first h = first-one levels tree k c (l .kids) h
 
-    pub members-turn : length o0 < 2 ^ 64 → 0 < k → {o' : List ℕ} {s' : State} → Keeps o o' s s' (enumMember (treeAt levels tree c) (s .n) .0) → {d : ℕ} → d ≡ endAt levels tree c → Members levels tree at n o0 o' s0 s' (k - 1) d
+    pub members-turn : length o0 < 2 ^ 64 → 0 < k → {o' : List ℕ} {s' : State} → Keeps o o' s s' (enumMember (treeAt levels tree c) (s .counter) .0) → {d : ℕ} → d ≡ endAt levels tree c → Members levels tree at n o0 o' s0 s' (k - 1) d
     members-turn b h {o'} {s'} w e =
-        let t : Rec = enumMember (treeAt levels tree c) (s0 .n) .0 in
+        let t : Rec = enumMember (treeAt levels tree c) (s0 .counter) .0 in
         let w' : Keeps o o' s s' t = subst (λ (m : ℕ). Keeps o o' s s' (enumMember (treeAt levels tree c) m .0)) (l .same) w in
         rw e (record {
           kids = others levels tree k c (l .kids) h;
-          size = ap length (w .put .bytes) ∙ (length-sets o (s .p) (encode (enumMember (treeAt levels tree c) (s .n) .0)) ∙ l .size);
+          size = ap length (w .put .bytes) ∙ (length-sets o (s .written) (encode (enumMember (treeAt levels tree c) (s .counter) .0)) ∙ l .size);
           same = puts-counter w ∙ l .same;
           made = join (l .made) (one t);
-          sum = l .sum ∙ (ap (λ (ks : Recs). join (l .made) (membersOf ks (s0 .n))) (readAll-more (treeAt levels tree) (endAt levels tree) k c h)
-              ∙ (ap (join (l .made)) (members-cons (treeAt levels tree c) (recordsAt levels tree (k - 1) (endAt levels tree c)) (s0 .n))
-              ∙ sym (join-assoc (l .made) (one t) (membersOf (recordsAt levels tree (k - 1) (endAt levels tree c)) (s0 .n)))));
+          sum = l .sum ∙ (ap (λ (ks : Recs). join (l .made) (membersOf ks (s0 .counter))) (readAll-more (treeAt levels tree) (endAt levels tree) k c h)
+              ∙ (ap (join (l .made)) (members-cons (treeAt levels tree c) (recordsAt levels tree (k - 1) (endAt levels tree c)) (s0 .counter))
+              ∙ sym (join-assoc (l .made) (one t) (membersOf (recordsAt levels tree (k - 1) (endAt levels tree c)) (s0 .counter)))));
           put = puts-to (puts-puts b (l .put) w')
               (ap (λ (E : List ℕ). encodes (l .made) ++ E) (sym (encodes-one t)) ∙ sym (encodes-join (l .made) (one t)))
               (ap (λ (f : Bool). allTextsFit (l .made) && f) (sym (all-one t)) ∙ sym (all-join (l .made) (one t)));
         })
 
-    pub members-done : k ≤ 0 → KeepsAll o0 o s0 s (membersOf (recordsAt levels tree n at) (s0 .n))
+    pub members-done : k ≤ 0 → KeepsAll o0 o s0 s (membersOf (recordsAt levels tree n at) (s0 .counter))
     unfolding each
     members-done h =
         subst (λ (ts : Recs). KeepsAll o0 o s0 s ts)
-        (sym (l .sum ∙ (ap (λ (ks : Recs). join (l .made) (membersOf ks (s0 .n))) (readAll-none (treeAt levels tree) (endAt levels tree) k c h) ∙ join-nil (l .made)))) (l .put)
+        (sym (l .sum ∙ (ap (λ (ks : Recs). join (l .made) (membersOf ks (s0 .counter))) (readAll-none (treeAt levels tree) (endAt levels tree) k c h) ∙ join-nil (l .made)))) (l .put)

@@ -201,5 +201,5 @@ is-fn m = go (eqb m (mark "Cd")) refl
 abbrev pub Kept : ℕ → Type 0
 Kept m = (m ≡ mark "Im") ⊎ (m ≡ mark "Op")
 
-pub kept-gives : {o o' : List ℕ} (g : List ℕ) {s : State} {r : Counted} {t : Rec} {y : Out Recs} → (r .count ≡ 1) × Keeps o o' s (r .s) t → s .d ≤ highest → pure (one t) (s .n) ≡ y → Gives o o' g g s r y
+pub kept-gives : {o o' : List ℕ} (g : List ℕ) {s : State} {r : Counted} {t : Rec} {y : Out Recs} → (r .count ≡ 1) × Keeps o o' s (r .s) t → s .reported ≤ highest → pure (one t) (s .counter) ≡ y → Gives o o' g g s r y
 kept-gives g w d e = gives-as (record { many = w .0; step = gives-one (makes-keeps g (w .1) d) .step }) e

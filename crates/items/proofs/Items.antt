@@ -105,51 +105,51 @@ module _ (list : List ℕ) (ctx : ℕ) (ty : Typing) where
 -- k are left from c on, of the n from `at` on, and `many` records were made
 pub record Itemizing (list tree : List ℕ) (scope : Scope) (top : Bool) (levels n at : ℕ) (o0 o g0 g : List ℕ) (s0 s : State) (k c many : ℕ) : Type 0 where
   pub kids : AllAccepted levels tree k c
-  pub low : s .n ≤ c
+  pub low : s .counter ≤ c
   pub done : Out Recs
   pub gives : Gives o0 o g0 g s0 (record { s = s; count = many }) done
-  pub sum : itemsOf list tree scope top (recordsAt levels tree n at) (s0 .n) ≡ both done (itemsOf list tree scope top (recordsAt levels tree k c) (s .n))
+  pub sum : itemsOf list tree scope top (recordsAt levels tree n at) (s0 .counter) ≡ both done (itemsOf list tree scope top (recordsAt levels tree k c) (s .counter))
   pub few : many + 2 * k < 131072
 
 module _ (list tree : List ℕ) (scope : Scope) (top : Bool) (levels n at : ℕ) where
-  pub itemizing-start : (o g : List ℕ) (s : State) → ReadyAll levels tree n at (s .n) scope → n < 65536 → s .p ≤ highest → s .d ≤ highest → Itemizing list tree scope top levels n at o o g g s s n at 0
-  itemizing-start o g s r h p d = record { kids = r .accepted; low = r .low; done = (nil, [], s .n); gives = gives-none o g s p d refl; sum = refl; few = omega arith }
+  pub itemizing-start : (o g : List ℕ) (s : State) → ReadyAll levels tree n at (s .counter) scope → n < 65536 → s .written ≤ highest → s .reported ≤ highest → Itemizing list tree scope top levels n at o o g g s s n at 0
+  itemizing-start o g s r h p d = record { kids = r .accepted; low = r .low; done = (nil, [], s .counter); gives = gives-none o g s p d refl; sum = refl; few = omega arith }
 
   module _ {o0 o g0 g : List ℕ} {s0 s : State} {k c many : ℕ} (l : Itemizing list tree scope top levels n at o0 o g0 g s0 s k c many) where
     pub itemizing-first : 0 < k → AcceptedAt levels tree c
     itemizing-first h = first-one levels tree k c (l .kids) h
 
-    module _ {o' g' : List ℕ} {made : Counted} {here : Scope} (end : ℕ) (e : here ≡ scopeAt scope levels c end) (w : Gives o o' g g' s made (itemOf list tree here top (treeAt levels tree c) (s .n))) where
-      here-gives : Gives o o' g g' s made (itemOf list tree scope top (treeAt levels tree c) (s .n))
-      here-gives = gives-as w (item-same scope levels c end list tree top (treeAt levels tree c) (s .n) e)
+    module _ {o' g' : List ℕ} {made : Counted} {here : Scope} (end : ℕ) (e : here ≡ scopeAt scope levels c end) (w : Gives o o' g g' s made (itemOf list tree here top (treeAt levels tree c) (s .counter))) where
+      here-gives : Gives o o' g g' s made (itemOf list tree scope top (treeAt levels tree c) (s .counter))
+      here-gives = gives-as w (item-same scope levels c end list tree top (treeAt levels tree c) (s .counter) e)
 
       -- the count stays small
       pub itemizing-more : made .count ≤ 2
-      itemizing-more = omega (arith, few-item list (scope .unresolved) (typingOf tree scope) (treeAt levels tree c) top (s .n), here-gives .many)
+      itemizing-more = omega (arith, few-item list (scope .unresolved) (typingOf tree scope) (treeAt levels tree c) top (s .counter), here-gives .many)
 
       pub itemizing-turn : 0 < k → end ≡ endAt levels tree c → Itemizing list tree scope top levels n at o0 o' g0 g' s0 (made .s) (k - 1) end (many + made .count)
       unfolding transformModuleItems
       itemizing-turn h f =
-          let x : Out Recs = itemOf list tree scope top (treeAt levels tree c) (s .n) in
+          let x : Out Recs = itemOf list tree scope top (treeAt levels tree c) (s .counter) in
           let rs : Recs = recordsAt levels tree (k - 1) (endAt levels tree c) in
           let a : AcceptedAt levels tree c = itemizing-first h in
-          let high : x .2 ≤ s .n + records (treeAt levels tree c) =
-          item-within (typingOf tree scope) (exprToTsType-within (idsOf tree) (scope .unresolved)) list (scope .unresolved) (treeAt levels tree c) top (s .n) .high in
+          let high : x .2 ≤ s .counter + records (treeAt levels tree c) =
+          item-within (typingOf tree scope) (exprToTsType-within (idsOf tree) (scope .unresolved)) list (scope .unresolved) (treeAt levels tree c) top (s .counter) .high in
           rw f (record {
             kids = others levels tree k c (l .kids) h;
             low = omega (arith, here-gives .step .counter, high, l .low, records-within levels tree c a);
             done = both (l .done) x;
             gives = record { many = omega (arith, l .gives .many, here-gives .many, count-join (l .done .0) (x .0)); step = all-join (gives-all (l .gives)) (gives-all here-gives) .step };
             sum = l .sum
-                ∙ (ap (λ (ks : Recs). both (l .done) (itemsOf list tree scope top ks (s .n))) (readAll-more (treeAt levels tree) (endAt levels tree) k c h)
+                ∙ (ap (λ (ks : Recs). both (l .done) (itemsOf list tree scope top ks (s .counter))) (readAll-more (treeAt levels tree) (endAt levels tree) k c h)
                 ∙ (both-assoc (l .done) x (itemsOf list tree scope top rs (x .2)) ∙ ap (λ (m : ℕ). both (both (l .done) x) (itemsOf list tree scope top rs m)) (sym (here-gives .step .counter))));
             few = omega (arith, l .few, itemizing-more);
           })
 
-    pub itemizing-done : k ≤ 0 → Gives o0 o g0 g s0 (record { s = s; count = many }) (itemsOf list tree scope top (recordsAt levels tree n at) (s0 .n))
+    pub itemizing-done : k ≤ 0 → Gives o0 o g0 g s0 (record { s = s; count = many }) (itemsOf list tree scope top (recordsAt levels tree n at) (s0 .counter))
     unfolding transformModuleItems
     itemizing-done h =
         gives-as (l .gives)
         (sym (l .sum
-        ∙ (ap (λ (ks : Recs). both (l .done) (itemsOf list tree scope top ks (s .n))) (readAll-none (treeAt levels tree) (endAt levels tree) k c h)
+        ∙ (ap (λ (ks : Recs). both (l .done) (itemsOf list tree scope top ks (s .counter))) (readAll-none (treeAt levels tree) (endAt levels tree) k c h)
         ∙ λ i. (join-nil (l .done .0) i, append-nil (l .done .1) i, l .gives .step .counter i))))

@@ -75,15 +75,15 @@ module _ (list tree : List ℕ) (scope : Scope) (levels at : ℕ) {p0 p1 p2 : �
       ap (λ (r : Rec). atKid 1 (bodyOf list tree scope) (kidsOf r) n) (u .is) ∙ ap (λ (r : Rec). nsParts list (scope .unresolved) (typingOf tree scope) (kidsOf r) n) (sym (u .is))
 
 pub body-made : (list tree : List ℕ) (scope : Scope) (levels at flags : ℕ) → AcceptedAt levels tree at → ((i : ℕ) → mir.Val.Fits w8 (getD tree i 0)) → {p0 p1 p2 : ℕ} → Two levels tree at p0 p1 p2
-    → {o o1 o2 o3 o4 g g' : List ℕ} {s s1 s2 s3 s4 : State} {h : Fields} → h ≡ fieldsAt tree at → s .d ≤ highest
+    → {o o1 o2 o3 o4 g g' : List ℕ} {s s1 s2 s3 s4 : State} {h : Fields} → h ≡ fieldsAt tree at → s .reported ≤ highest
     → Puts o o1 s s1 (frontBytes (withFlags (headAt tree at) flags) (h .count)) true → Keeps o1 o2 s1 s2 (treeAt (levels - 1) tree p0)
-    → Makes o2 o3 g g' s2 s3 (bodyOf list tree scope (treeAt (levels - 1) tree p1) (s2 .n)) → KeepsAll o3 o4 s3 s4 (rest levels tree (h .count - 2) p2)
-    → Makes o o4 g g' s s4 (withBody list tree scope flags (treeAt levels tree at) (s .n))
+    → Makes o2 o3 g g' s2 s3 (bodyOf list tree scope (treeAt (levels - 1) tree p1) (s2 .counter)) → KeepsAll o3 o4 s3 s4 (rest levels tree (h .count - 2) p2)
+    → Makes o o4 g g' s s4 (withBody list tree scope flags (treeAt levels tree at) (s .counter))
 body-made list tree scope levels at flags a known u {s = s} e d v b c z =
     makes-as
     (makes-second levels tree at (withFlags (headAt tree at) flags) (head-short levels tree at a known) d (front-flags tree at e (λ _. flags) v) e (bodyOf list tree scope) u b c z)
-    (ap (wrap (withFlags (headAt tree at) flags)) (parts-are list tree scope levels at u (s .n))
-    ∙ ap (λ (h : Head). wrap (withFlags h flags) (nsParts list (scope .unresolved) (typingOf tree scope) (kidsOf (treeAt levels tree at)) (s .n))) (sym (head-is levels tree at)))
+    (ap (wrap (withFlags (headAt tree at) flags)) (parts-are list tree scope levels at u (s .counter))
+    ∙ ap (λ (h : Head). wrap (withFlags h flags) (nsParts list (scope .unresolved) (typingOf tree scope) (kidsOf (treeAt levels tree at)) (s .counter))) (sym (head-is levels tree at)))
 
 text-size : (levels : ℕ) (tree : List ℕ) (at : ℕ) → AcceptedAt levels tree at → length (headAt tree at .text) ≡ lengthAt tree at
 unfolding headAt
@@ -95,16 +95,16 @@ front-same tree at k e w = rw e at w
 
 -- an Nb: its front follows its items
 pub block-made : (list tree : List ℕ) (scope : Scope) (levels at : ℕ) → AcceptedAt levels tree at → ((i : ℕ) → mir.Val.Fits w8 (getD tree i 0)) → markAt tree at ≡ mark "Nb"
-    → {o o1 o2 g g' : List ℕ} (s : State) {s2 : State} {made : Counted} {h : Fields} {b size q : ℕ} → h ≡ fieldsAt tree at → b ≡ bodyAt tree at → size ≡ headSize + lengthAt tree at → q ≡ sat (s .p) size
-    → Gives o o1 g g' (movedTo s q) made (itemsOf list tree scope false (recordsAt (levels - 1) tree (h .count) b) (s .n)) → Puts o1 o2 s s2 (frontBytes (withFlags (headAt tree at) (h .flags)) (made .count)) true
-    → Makes o o2 g g' s (made .s) (bodyOf list tree scope (treeAt levels tree at) (s .n))
+    → {o o1 o2 g g' : List ℕ} (s : State) {s2 : State} {made : Counted} {h : Fields} {b size q : ℕ} → h ≡ fieldsAt tree at → b ≡ bodyAt tree at → size ≡ headSize + lengthAt tree at → q ≡ sat (s .written) size
+    → Gives o o1 g g' (movedTo s q) made (itemsOf list tree scope false (recordsAt (levels - 1) tree (h .count) b) (s .counter)) → Puts o1 o2 s s2 (frontBytes (withFlags (headAt tree at) (h .flags)) (made .count)) true
+    → Makes o o2 g g' s (made .s) (bodyOf list tree scope (treeAt levels tree at) (s .counter))
 block-made list tree scope levels at a known m {o} {o1} {o2} {g} {g'} s {s2} {made} {h} {b} {size} {q} e f z y w v =
     let H : Head = headAt tree at in
     let k : size ≡ headSize + length (H .text) = z ∙ ap (λ (n : ℕ). headSize + n) (sym (text-size levels tree at a)) in
-    let items : Out Recs = itemsOf list tree scope false (rest levels tree (countAt tree at) (bodyAt tree at)) (s .n) in
+    let items : Out Recs = itemsOf list tree scope false (rest levels tree (countAt tree at) (bodyAt tree at)) (s .counter) in
     let w1 : Gives o o1 g g' (movedTo s q) made items = rw (e, f) at w in
-    let w2 : MakesAll o o1 g g' (movedTo s (sat (s .p) (headSize + length (H .text)))) (made .s) items =
-    subst (λ (q : ℕ). MakesAll o o1 g g' (movedTo s q) (made .s) items) (y ∙ ap (sat (s .p)) k) (record { step = w1 .step }) in
+    let w2 : MakesAll o o1 g g' (movedTo s (sat (s .written) (headSize + length (H .text)))) (made .s) items =
+    subst (λ (q : ℕ). MakesAll o o1 g g' (movedTo s q) (made .s) items) (y ∙ ap (sat (s .written)) k) (record { step = w1 .step }) in
     let v' : Puts o1 o2 s s2 (frontBytes H (made .count)) true = front-same tree at (made .count) e v in
     makes-as (makes-front-last s H {y = items} w2 v' (w1 .many) (head-short levels tree at a known))
-    (ap (λ (r : Rec). wrap (headOf r) (itemsOf list tree scope false (kidsOf r) (s .n))) (sym (tree-is levels tree at a)) ∙ body-block list tree scope (treeAt levels tree at) (s .n) (mark-is levels tree at ∙ m))
+    (ap (λ (r : Rec). wrap (headOf r) (itemsOf list tree scope false (kidsOf r) (s .counter))) (sym (tree-is levels tree at a)) ∙ body-block list tree scope (treeAt levels tree at) (s .counter) (mark-is levels tree at ∙ m))

@@ -48,11 +48,11 @@ pub fn with_class(
     diagnostics: &mut [u8],
     s: State,
 ) -> State
-    requires { ⌜ Ready levels (now tree) at (s .n) scope ⌝ }
+    requires { ⌜ Ready levels (now tree) at (s .counter) scope ⌝ }
     requires { ⌜ (markAt (now tree) at ≡ mark "Cd") ⊎ (markAt (now tree) at ≡ mark "Cx") ⌝ }
     ensures { λ r. ⌜
         Makes (now (out .entry)) (now (out .exit)) (now (diagnostics .entry)) (now (diagnostics .exit)) s r
-        (withClass (now (list .entry)) (now (tree .entry)) scope flags (treeAt levels (now (tree .entry)) at) (s .n))
+        (withClass (now (list .entry)) (now (tree .entry)) scope flags (treeAt levels (now (tree .entry)) at) (s .counter))
         ⌝ }
 {
     let head = read_head(tree, at);
@@ -85,10 +85,10 @@ pub fn with_function(
     diagnostics: &mut [u8],
     s: State,
 ) -> State
-    requires { ⌜ Ready levels (now tree) at (s .n) scope × (markAt (now tree) at ≡ mark "Fd") ⌝ }
+    requires { ⌜ Ready levels (now tree) at (s .counter) scope × (markAt (now tree) at ≡ mark "Fd") ⌝ }
     ensures { λ r. ⌜
         Makes (now (out .entry)) (now (out .exit)) (now (diagnostics .entry)) (now (diagnostics .exit)) s r
-        (withFunction (now (tree .entry)) scope flags (treeAt levels (now (tree .entry)) at) (s .n))
+        (withFunction (now (tree .entry)) scope flags (treeAt levels (now (tree .entry)) at) (s .counter))
         ⌝ }
 {
     let head = read_head(tree, at);
@@ -121,10 +121,10 @@ pub fn with_declarators(
     diagnostics: &mut [u8],
     s: State,
 ) -> State
-    requires { ⌜ Ready levels (now tree) at (s .n) scope ⌝ }
+    requires { ⌜ Ready levels (now tree) at (s .counter) scope ⌝ }
     ensures { λ r. ⌜
         Makes (now (out .entry)) (now (out .exit)) (now (diagnostics .entry)) (now (diagnostics .exit)) s r
-        (withDeclarators (now (tree .entry)) scope flags (treeAt levels (now (tree .entry)) at) (s .n))
+        (withDeclarators (now (tree .entry)) scope flags (treeAt levels (now (tree .entry)) at) (s .counter))
         ⌝ }
 {
     let head = read_head(tree, at);
@@ -152,7 +152,7 @@ pub fn with_members(
     s: State,
 ) -> State
     requires { ⌜ AcceptedAt levels (now tree) at ⌝ }
-    ensures { λ r. ⌜ Keeps (now (out .entry)) (now (out .exit)) s r (withMembers flags (treeAt levels (now (tree .entry)) at) (s .n) .0) ⌝ }
+    ensures { λ r. ⌜ Keeps (now (out .entry)) (now (out .exit)) s r (withMembers flags (treeAt levels (now (tree .entry)) at) (s .counter) .0) ⌝ }
 {
     let head = read_head(tree, at);
     let first = body_at(tree, at);
@@ -163,7 +163,7 @@ pub fn with_members(
 // The Fu at `at` of a function exported as default: it loses "the body only".
 fn without_body(tree: &[u8], at: usize, levels: usize, out: &mut [u8], s: State) -> State
     requires { ⌜ AcceptedAt levels (now tree) at × (markAt (now tree) at ≡ mark "Fu") ⌝ }
-    ensures { λ r. ⌜ Keeps (now (out .entry)) (now (out .exit)) s r (withoutBody (treeAt levels (now (tree .entry)) at) (s .n) .0) ⌝ }
+    ensures { λ r. ⌜ Keeps (now (out .entry)) (now (out .exit)) s r (withoutBody (treeAt levels (now (tree .entry)) at) (s .counter) .0) ⌝ }
 {
     let head = read_head(tree, at);
     let type_params = body_at(tree, at);
@@ -180,7 +180,7 @@ fn without_body(tree: &[u8], at: usize, levels: usize, out: &mut [u8], s: State)
 // The Fx of a function exported as default.
 pub fn bodiless(tree: &[u8], at: usize, levels: usize, out: &mut [u8], s: State) -> State
     requires { ⌜ AcceptedAt levels (now tree) at × (markAt (now tree) at ≡ mark "Fx") ⌝ }
-    ensures { λ r. ⌜ Keeps (now (out .entry)) (now (out .exit)) s r (second withoutBody (treeAt levels (now (tree .entry)) at) (s .n) .0) ⌝ }
+    ensures { λ r. ⌜ Keeps (now (out .entry)) (now (out .exit)) s r (second withoutBody (treeAt levels (now (tree .entry)) at) (s .counter) .0) ⌝ }
 {
     let head = read_head(tree, at);
     let ident = body_at(tree, at);

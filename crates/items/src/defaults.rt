@@ -51,11 +51,11 @@ fn default_class(
     diagnostics: &mut [u8],
     s: State,
 ) -> Counted
-    requires { ⌜ Ready levels (now tree) at (s .n) scope × (markAt (now tree) at ≡ mark "Xd") ⌝ }
+    requires { ⌜ Ready levels (now tree) at (s .counter) scope × (markAt (now tree) at ≡ mark "Xd") ⌝ }
     requires { ⌜ markAt (now tree) (bodyAt (now tree) at) ≡ mark "Cx" ⌝ }
     ensures { λ r. ⌜
         Gives (now (out .entry)) (now (out .exit)) (now (diagnostics .entry)) (now (diagnostics .exit)) s r
-        (defaultDeclOf (now (list .entry)) (now (tree .entry)) scope (treeAt levels (now (tree .entry)) at) (s .n))
+        (defaultDeclOf (now (list .entry)) (now (tree .entry)) scope (treeAt levels (now (tree .entry)) at) (s .counter))
         ⌝ }
 {
     let head = read_head(tree, at);
@@ -82,7 +82,7 @@ fn default_class(
 fn default_fn(tree: &[u8], at: usize, levels: usize, out: &mut [u8], s: State) -> State
     requires { ⌜ AcceptedAt levels (now tree) at × (markAt (now tree) at ≡ mark "Xd") ⌝ }
     requires { ⌜ markAt (now tree) (bodyAt (now tree) at) ≡ mark "Fx" ⌝ }
-    ensures { λ r. ⌜ Keeps (now (out .entry)) (now (out .exit)) s r (defaultFn (treeAt levels (now (tree .entry)) at) (s .n) .0) ⌝ }
+    ensures { λ r. ⌜ Keeps (now (out .entry)) (now (out .exit)) s r (defaultFn (treeAt levels (now (tree .entry)) at) (s .counter) .0) ⌝ }
 {
     let head = read_head(tree, at);
     let function = body_at(tree, at);
@@ -103,10 +103,10 @@ pub fn export_default_decl(
     diagnostics: &mut [u8],
     s: State,
 ) -> Counted
-    requires { ⌜ Ready levels (now tree) at (s .n) scope × (markAt (now tree) at ≡ mark "Xd") ⌝ }
+    requires { ⌜ Ready levels (now tree) at (s .counter) scope × (markAt (now tree) at ≡ mark "Xd") ⌝ }
     ensures { λ r. ⌜
         Gives (now (out .entry)) (now (out .exit)) (now (diagnostics .entry)) (now (diagnostics .exit)) s r
-        (defaultDeclOf (now (list .entry)) (now (tree .entry)) scope (treeAt levels (now (tree .entry)) at) (s .n))
+        (defaultDeclOf (now (list .entry)) (now (tree .entry)) scope (treeAt levels (now (tree .entry)) at) (s .counter))
         ⌝ }
 {
     match mark_at(tree, body_at(tree, at)) {
@@ -128,7 +128,7 @@ pub fn export_default_decl(
 // "a declared const, named _dts_1 at the first", before its type: the counter `n` is raised.
 fn put_const_front(n: usize, out: &mut [u8], p: usize) -> Made
     requires { ⌜ n + 1 < 2 ^ 64 ⌝ }
-    ensures { λ r. ⌜ (r .«id_counter» ≡ n + 1) × Put (now (out .entry)) (now (out .exit)) p (constFront (n + 1)) (r .p) ⌝ }
+    ensures { λ r. ⌜ (r .«id_counter» ≡ n + 1) × Put (now (out .entry)) (now (out .exit)) p (constFront (n + 1)) (r .written) ⌝ }
 {
     let q = put_made_front(VD, DECLARE + CONST, DUMMY_SP, 1, out, p);
     let r = put_made_front(VR, 0, DUMMY_SP, 2, out, q);
@@ -155,7 +155,7 @@ fn put_default_name(
 {
     let head = read_head(tree, at);
     let mut named = put_front(tree, at, levels, head.flags, head.count, out, s);
-    named.p = unique::put_unique_ident(DUMMY_SP, counter, out, named.p);
+    named.written = unique::put_unique_ident(DUMMY_SP, counter, out, named.written);
     keep_all(tree, rest, head.count - 1, levels - 1, out, named)
 }
 
@@ -169,10 +169,10 @@ pub fn export_default_expr(
     diagnostics: &mut [u8],
     s: State,
 ) -> Counted
-    requires { ⌜ Ready levels (now tree) at (s .n) scope × (markAt (now tree) at ≡ mark "Xe") ⌝ }
+    requires { ⌜ Ready levels (now tree) at (s .counter) scope × (markAt (now tree) at ≡ mark "Xe") ⌝ }
     ensures { λ r. ⌜
         Gives (now (out .entry)) (now (out .exit)) (now (diagnostics .entry)) (now (diagnostics .exit)) s r
-        (defaultExprOf (now (tree .entry)) scope (treeAt levels (now (tree .entry)) at) (s .n))
+        (defaultExprOf (now (tree .entry)) scope (treeAt levels (now (tree .entry)) at) (s .counter))
         ⌝ }
 {
     let expr = body_at(tree, at);
@@ -180,11 +180,11 @@ pub fn export_default_expr(
         let next = keep(tree, at, levels, out, s);
         return Counted { s: next, count: 1 };
     }
-    let named = put_const_front(s.n, out, s.p);
+    let named = put_const_front(s.counter, out, s.written);
     let counter = named.id_counter;
     let mut front = s;
-    front.n = counter;
-    front.p = named.p;
+    front.counter = counter;
+    front.written = named.written;
     match typing::expr_to_ts_type(
         tree,
         expr,
@@ -196,7 +196,7 @@ pub fn export_default_expr(
     ) {
         Typed::Some(typed) => {
             let mut bare = typed;
-            bare.p = put_absent(out, typed.p);
+            bare.written = put_absent(out, typed.written);
             let rest = record_end(tree, expr, levels - 1);
             let next = put_default_name(tree, at, rest, levels, counter, out, bare);
             Counted { s: next, count: 2 }

@@ -112,7 +112,7 @@ fn valid_part(tree: &[u8], at: usize, levels: usize) -> bool
 // The init of an Em.
 fn enum_init(tree: &[u8], at: usize, levels: usize, out: &mut [u8], s: State) -> State
     requires { ⌜ AcceptedAt levels (now tree) at ⌝ }
-    ensures { λ r. ⌜ Keeps (now (out .entry)) (now (out .exit)) s r (enumInit (treeAt levels (now (tree .entry)) at) (s .n) .0) ⌝ }
+    ensures { λ r. ⌜ Keeps (now (out .entry)) (now (out .exit)) s r (enumInit (treeAt levels (now (tree .entry)) at) (s .counter) .0) ⌝ }
 {
     if mark_at(tree, at) == NO {
         return keep(tree, at, levels, out, s);
@@ -121,14 +121,14 @@ fn enum_init(tree: &[u8], at: usize, levels: usize, out: &mut [u8], s: State) ->
         return keep(tree, at, levels, out, s);
     }
     let mut next = s;
-    next.p = put_absent(out, s.p);
+    next.written = put_absent(out, s.written);
     next
 }
 
 // A child of an En: an Em, or its name or an Op, which are left as they are.
 fn enum_member(tree: &[u8], at: usize, levels: usize, out: &mut [u8], s: State) -> State
     requires { ⌜ AcceptedAt levels (now tree) at ⌝ }
-    ensures { λ r. ⌜ Keeps (now (out .entry)) (now (out .exit)) s r (enumMember (treeAt levels (now (tree .entry)) at) (s .n) .0) ⌝ }
+    ensures { λ r. ⌜ Keeps (now (out .entry)) (now (out .exit)) s r (enumMember (treeAt levels (now (tree .entry)) at) (s .counter) .0) ⌝ }
 {
     if mark_at(tree, at) != EM {
         return keep(tree, at, levels, out, s);
@@ -154,7 +154,7 @@ pub fn enum_members(
 ) -> State
     requires { ⌜ AllAccepted levels (now tree) n at ⌝ }
     ensures { λ r. ⌜
-        KeepsAll (now (out .entry)) (now (out .exit)) s r (each (λ i. enumMember) 0 (recordsAt levels (now (tree .entry)) n at) (s .n) .0)
+        KeepsAll (now (out .entry)) (now (out .exit)) s r (each (λ i. enumMember) 0 (recordsAt levels (now (tree .entry)) n at) (s .counter) .0)
         ⌝ }
 {
     let mut next = s;

@@ -105,10 +105,10 @@ pub fn transform_module_items(
     diagnostics: &mut [u8],
     s: State,
 ) -> Counted
-    requires { ⌜ ReadyAll levels (now tree) n at (s .n) scope × (n < 65536) ⌝ }
+    requires { ⌜ ReadyAll levels (now tree) n at (s .counter) scope × (n < 65536) ⌝ }
     ensures { λ r. ⌜
         Gives (now (out .entry)) (now (out .exit)) (now (diagnostics .entry)) (now (diagnostics .exit)) s r
-        (itemsOf (now (list .entry)) (now (tree .entry)) scope top (recordsAt levels (now (tree .entry)) n at) (s .n))
+        (itemsOf (now (list .entry)) (now (tree .entry)) scope top (recordsAt levels (now (tree .entry)) n at) (s .counter))
         ⌝ }
 {
     let mut next = s;
@@ -149,10 +149,10 @@ fn transform_module_item(
     diagnostics: &mut [u8],
     s: State,
 ) -> Counted
-    requires { ⌜ Ready levels (now tree) at (s .n) scope ⌝ }
+    requires { ⌜ Ready levels (now tree) at (s .counter) scope ⌝ }
     ensures { λ r. ⌜
         Gives (now (out .entry)) (now (out .exit)) (now (diagnostics .entry)) (now (diagnostics .exit)) s r
-        (itemOf (now (list .entry)) (now (tree .entry)) scope top (treeAt levels (now (tree .entry)) at) (s .n))
+        (itemOf (now (list .entry)) (now (tree .entry)) scope top (treeAt levels (now (tree .entry)) at) (s .counter))
         ⌝ }
 {
     match mark_at(tree, at) {
@@ -177,10 +177,10 @@ fn export_decl(
     diagnostics: &mut [u8],
     s: State,
 ) -> Counted
-    requires { ⌜ Ready levels (now tree) at (s .n) scope × (markAt (now tree) at ≡ mark "Ed") ⌝ }
+    requires { ⌜ Ready levels (now tree) at (s .counter) scope × (markAt (now tree) at ≡ mark "Ed") ⌝ }
     ensures { λ r. ⌜
         Gives (now (out .entry)) (now (out .exit)) (now (diagnostics .entry)) (now (diagnostics .exit)) s r
-        (exportOf (now (list .entry)) (now (tree .entry)) scope top (treeAt levels (now (tree .entry)) at) (s .n))
+        (exportOf (now (list .entry)) (now (tree .entry)) scope top (treeAt levels (now (tree .entry)) at) (s .counter))
         ⌝ }
 {
     let decl = body_at(tree, at);
@@ -221,10 +221,10 @@ fn transform_module_stmt(
     diagnostics: &mut [u8],
     s: State,
 ) -> Counted
-    requires { ⌜ Ready levels (now tree) at (s .n) scope ⌝ }
+    requires { ⌜ Ready levels (now tree) at (s .counter) scope ⌝ }
     ensures { λ r. ⌜
         Gives (now (out .entry)) (now (out .exit)) (now (diagnostics .entry)) (now (diagnostics .exit)) s r
-        (stmtOf (now (list .entry)) (now (tree .entry)) scope top (treeAt levels (now (tree .entry)) at) (s .n))
+        (stmtOf (now (list .entry)) (now (tree .entry)) scope top (treeAt levels (now (tree .entry)) at) (s .counter))
         ⌝ }
 {
     if is_overloaded(list, tree, at, at) {
@@ -261,10 +261,10 @@ fn decl_to_type_decl(
     diagnostics: &mut [u8],
     s: State,
 ) -> Typed
-    requires { ⌜ Ready levels (now tree) at (s .n) scope ⌝ }
+    requires { ⌜ Ready levels (now tree) at (s .counter) scope ⌝ }
     ensures { λ r. ⌜
         Did (now (out .entry)) (now (out .exit)) (now (diagnostics .entry)) (now (diagnostics .exit)) s r
-        (declOf (now (list .entry)) (now (tree .entry)) scope top (treeAt levels (now (tree .entry)) at) (s .n))
+        (declOf (now (list .entry)) (now (tree .entry)) scope top (treeAt levels (now (tree .entry)) at) (s .counter))
         ⌝ }
 {
     let flags = declared(read_head(tree, at).flags, top);
@@ -291,10 +291,10 @@ fn with_body(
     diagnostics: &mut [u8],
     s: State,
 ) -> State
-    requires { ⌜ Ready levels (now tree) at (s .n) scope × (markAt (now tree) at ≡ mark "Ns") ⌝ }
+    requires { ⌜ Ready levels (now tree) at (s .counter) scope × (markAt (now tree) at ≡ mark "Ns") ⌝ }
     ensures { λ r. ⌜
         Makes (now (out .entry)) (now (out .exit)) (now (diagnostics .entry)) (now (diagnostics .exit)) s r
-        (withBody (now (list .entry)) (now (tree .entry)) scope flags (treeAt levels (now (tree .entry)) at) (s .n))
+        (withBody (now (list .entry)) (now (tree .entry)) scope flags (treeAt levels (now (tree .entry)) at) (s .counter))
         ⌝ }
 {
     let head = read_head(tree, at);
@@ -318,10 +318,10 @@ fn transform_ts_ns_body(
     diagnostics: &mut [u8],
     s: State,
 ) -> State
-    requires { ⌜ Ready levels (now tree) at (s .n) scope ⌝ }
+    requires { ⌜ Ready levels (now tree) at (s .counter) scope ⌝ }
     ensures { λ r. ⌜
         Makes (now (out .entry)) (now (out .exit)) (now (diagnostics .entry)) (now (diagnostics .exit)) s r
-        (bodyOf (now (list .entry)) (now (tree .entry)) scope (treeAt levels (now (tree .entry)) at) (s .n))
+        (bodyOf (now (list .entry)) (now (tree .entry)) scope (treeAt levels (now (tree .entry)) at) (s .counter))
         ⌝ }
 {
     match mark_at(tree, at) {
@@ -346,16 +346,16 @@ fn ns_block(
     diagnostics: &mut [u8],
     s: State,
 ) -> State
-    requires { ⌜ Ready levels (now tree) at (s .n) scope × (markAt (now tree) at ≡ mark "Nb") ⌝ }
+    requires { ⌜ Ready levels (now tree) at (s .counter) scope × (markAt (now tree) at ≡ mark "Nb") ⌝ }
     ensures { λ r. ⌜
         Makes (now (out .entry)) (now (out .exit)) (now (diagnostics .entry)) (now (diagnostics .exit)) s r
-        (bodyOf (now (list .entry)) (now (tree .entry)) scope (treeAt levels (now (tree .entry)) at) (s .n))
+        (bodyOf (now (list .entry)) (now (tree .entry)) scope (treeAt levels (now (tree .entry)) at) (s .counter))
         ⌝ }
 {
     let head = read_head(tree, at);
     let first = body_at(tree, at);
     let mut start = s;
-    start.p = records::advance(s.p, front_size(tree, at));
+    start.written = records::advance(s.written, front_size(tree, at));
     let made = transform_module_items(
         tree,
         first,

@@ -53,10 +53,10 @@ fn declarator_type(
     s: State,
 ) -> State
     requires { ⌜ AcceptedAt levels (now tree) at ⌝ }
-    requires { ⌜ Ready levels (now tree) init (s .n) scope ⌝ }
+    requires { ⌜ Ready levels (now tree) init (s .counter) scope ⌝ }
     ensures { λ r. ⌜
         Makes (now (out .entry)) (now (out .exit)) (now (diagnostics .entry)) (now (diagnostics .exit)) s r
-        (declaratorType (typingOf (now (tree .entry)) scope) (headAt (now (tree .entry)) at) (treeAt levels (now (tree .entry)) init) (s .n))
+        (declaratorType (typingOf (now (tree .entry)) scope) (headAt (now (tree .entry)) at) (treeAt levels (now (tree .entry)) init) (s .counter))
         ⌝ }
 {
     if mark_at(tree, init) == NO {
@@ -79,12 +79,12 @@ fn declarator_ident(
     s: State,
 ) -> State
     requires { ⌜ AcceptedAt levels (now tree) at × (markAt (now tree) at ≡ mark "Bd") ⌝ }
-    requires { ⌜ Ready levels (now tree) init (s .n) scope ⌝ }
+    requires { ⌜ Ready levels (now tree) init (s .counter) scope ⌝ }
     ensures { λ r. ⌜
         Makes (now (out .entry)) (now (out .exit)) (now (diagnostics .entry)) (now (diagnostics .exit)) s r
         (wrap (headOf (treeAt levels (now (tree .entry)) at))
         (atKid 1 (typeOr (declaratorType (typingOf (now (tree .entry)) scope) (headOf (treeAt levels (now (tree .entry)) at))
-        (treeAt levels (now (tree .entry)) init))) (kidsOf (treeAt levels (now (tree .entry)) at)) (s .n)))
+        (treeAt levels (now (tree .entry)) init))) (kidsOf (treeAt levels (now (tree .entry)) at)) (s .counter)))
         ⌝ }
 {
     let head = read_head(tree, at);
@@ -110,10 +110,10 @@ fn declarator_pattern(
     diagnostics: &mut [u8],
     s: State,
 ) -> State
-    requires { ⌜ Ready levels (now tree) at (s .n) scope × (markAt (now tree) at ≡ mark "Vr") ⌝ }
+    requires { ⌜ Ready levels (now tree) at (s .counter) scope × (markAt (now tree) at ≡ mark "Vr") ⌝ }
     ensures { λ r. ⌜
         Makes (now (out .entry)) (now (out .exit)) (now (diagnostics .entry)) (now (diagnostics .exit)) s r
-        (patternOf (now (tree .entry)) scope (treeAt levels (now (tree .entry)) at) (s .n))
+        (patternOf (now (tree .entry)) scope (treeAt levels (now (tree .entry)) at) (s .counter))
         ⌝ }
 {
     let pattern = body_at(tree, at);
@@ -135,10 +135,10 @@ fn declarator(
     diagnostics: &mut [u8],
     s: State,
 ) -> State
-    requires { ⌜ Ready levels (now tree) at (s .n) scope ⌝ }
+    requires { ⌜ Ready levels (now tree) at (s .counter) scope ⌝ }
     ensures { λ r. ⌜
         Makes (now (out .entry)) (now (out .exit)) (now (diagnostics .entry)) (now (diagnostics .exit)) s r
-        (declarator (typingOf (now (tree .entry)) scope) (treeAt levels (now (tree .entry)) at) (s .n))
+        (declarator (typingOf (now (tree .entry)) scope) (treeAt levels (now (tree .entry)) at) (s .counter))
         ⌝ }
 {
     if mark_at(tree, at) != VR {
@@ -165,10 +165,10 @@ pub fn declarators(
     diagnostics: &mut [u8],
     s: State,
 ) -> State
-    requires { ⌜ ReadyAll levels (now tree) n at (s .n) scope ⌝ }
+    requires { ⌜ ReadyAll levels (now tree) n at (s .counter) scope ⌝ }
     ensures { λ r. ⌜
         MakesAll (now (out .entry)) (now (out .exit)) (now (diagnostics .entry)) (now (diagnostics .exit)) s r
-        (each (λ i. declarator (typingOf (now (tree .entry)) scope)) 0 (recordsAt levels (now (tree .entry)) n at) (s .n))
+        (each (λ i. declarator (typingOf (now (tree .entry)) scope)) 0 (recordsAt levels (now (tree .entry)) n at) (s .counter))
         ⌝ }
 {
     let mut next = s;

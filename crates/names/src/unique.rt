@@ -46,7 +46,7 @@ pub struct Names {
 
 // A name that was made: the position behind it, and the counter that it was made of.
 pub struct Made {
-    pub p: usize,
+    pub written: usize,
     pub id_counter: usize,
 }
 
@@ -83,13 +83,13 @@ pub fn make_unique_name(id_counter: usize, out: &mut [u8], p: usize) -> Made
     requires { ⌜ «id_counter» + 1 < 2 ^ 64 ⌝ }
     ensures { λ r. ⌜
         (r .«id_counter» ≡ «id_counter» + 1)
-        × Put (now (out .entry)) (now (out .exit)) p (genUniqueName («id_counter» + 1)) (r .p)
+        × Put (now (out .entry)) (now (out .exit)) p (genUniqueName («id_counter» + 1)) (r .written)
         ⌝ }
 {
     let mut names = Names { id_counter };
     let end = gen_unique_name(&mut names, out, p);
     Made {
-        p: end,
+        written: end,
         id_counter: names.id_counter,
     }
 }
@@ -99,7 +99,7 @@ pub fn make_unique_ident(range: Range, id_counter: usize, out: &mut [u8], p: usi
     requires { ⌜ «id_counter» + 1 < 2 ^ 64 ⌝ }
     ensures { λ r. ⌜
         (r .«id_counter» ≡ «id_counter» + 1)
-        × Put (now (out .entry)) (now (out .exit)) p (encode (ident (span range) (genUniqueName («id_counter» + 1)))) (r .p)
+        × Put (now (out .entry)) (now (out .exit)) p (encode (ident (span range) (genUniqueName («id_counter» + 1)))) (r .written)
         ⌝ }
 {
     let q = put_ident_front(range, unique_name_length(id_counter + 1), out, p);

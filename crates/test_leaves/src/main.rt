@@ -389,7 +389,7 @@ fn show_name(raised: usize) {
     }
     let mut out = io::buffer();
     let named = names::unique::make_unique_name(raised - 1, &mut out, 0);
-    print(front(&out, named.p));
+    print(front(&out, named.written));
 }
 
 // The next tree of the input, of at most 4,096 bytes, with its name; false where there is none.

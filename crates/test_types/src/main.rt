@@ -23,23 +23,23 @@ use typing::Typed;
 
 // Where every typing begins.
 fn start() -> State
-    ensures { λ r. ⌜ r .n ≡ 0 ⌝ }
+    ensures { λ r. ⌜ r .counter ≡ 0 ⌝ }
 {
     State {
-        p: 0,
-        d: 0,
-        n: 0,
+        written: 0,
+        reported: 0,
+        counter: 0,
         fits: true,
     }
 }
 
 // The bytes of the type, those of the diagnostics, and the counter.
 fn show_state(s: State) {
-    print_number(s.p);
+    print_number(s.written);
     print(b" ");
-    print_number(s.d);
+    print_number(s.reported);
     print(b" ");
-    print_number(s.n);
+    print_number(s.counter);
     print(b"\n");
 }
 
@@ -140,8 +140,8 @@ fn show_typing(
         frozen: false,
     };
     let s = dry_run(tree, at, levels, mode);
-    let p = s.p;
-    let d = s.d;
+    let p = s.written;
+    let d = s.reported;
     if ROOM < p {
         print(b"too long\n");
         return;

@@ -50,9 +50,9 @@ module _ (tree : List ℕ) (a : AcceptedAt deepest tree 0) (known : (i : ℕ) �
   -- ---- what the items are asked
 
   pub items-ready : (ctx : ℕ) {h : Fields} {first : ℕ} {b : State} → h ≡ fieldsAt tree 0 → first ≡ bodyAt tree 0 → b ≡ start
-      → ReadyAll (deepest - 1) tree (h .count) first (b .n) (outside ctx tree) × (h .count < 65536)
+      → ReadyAll (deepest - 1) tree (h .count) first (b .counter) (outside ctx tree) × (h .count < 65536)
   items-ready ctx {h} {first} {b} e f q =
-      let z : b .n ≡ 0 = ap (λ (s : State). s .n) q in
+      let z : b .counter ≡ 0 = ap (λ (s : State). s .counter) q in
       let k : h .count ≡ countAt tree 0 = ap (λ (s : Fields). s .count) e in (
         record {
           accepted = rw (k, f) (children deepest tree 0 a);
@@ -67,7 +67,7 @@ module _ (tree : List ℕ) (a : AcceptedAt deepest tree 0) (known : (i : ℕ) �
 
   module _ (list : List ℕ) (ctx : ℕ) {o o1 o2 g g2 : List ℕ} {b b2 s2 : State} {h : Fields} {first size p : ℕ} {made : Counted} where
     pub module-made : h ≡ fieldsAt tree 0 → first ≡ bodyAt tree 0 → b ≡ start → size ≡ headSize + lengthAt tree 0 → p ≡ sat 0 size
-        → Gives o o1 g g2 (movedTo b p) made (itemsOf list tree (outside ctx tree) true (recordsAt (deepest - 1) tree (h .count) first) (b .n))
+        → Gives o o1 g g2 (movedTo b p) made (itemsOf list tree (outside ctx tree) true (recordsAt (deepest - 1) tree (h .count) first) (b .counter))
         → b2 ≡ start → Puts o1 o2 b2 s2 (frontBytes (withFlags (headAt tree 0) (h .flags)) (made .count)) true
         → Makes o o2 g g2 start (made .s) (transformed list ctx tree)
     unfolding transform transformBy treeAt headAt idsOf

@@ -45,10 +45,10 @@ filled E out o1 {o2} p z q l m w =
 
 module _ {o1 g1 : List ℕ} {r : State} {x : Out Rec} (dry : Makes [] o1 [] g1 start r x) (out diags : List ℕ) where
   -- a dry run says how long the output and the diagnostics are, and whether every text fits; it has no room to write in
-  output-size : r .p ≡ sat 0 (length (encode (x .0)))
+  output-size : r .written ≡ sat 0 (length (encode (x .0)))
   output-size = dry .step .ran .atp
 
-  diags-size : r .d ≡ sat 0 (length (diagsBytes (x .1)))
+  diags-size : r .reported ≡ sat 0 (length (diagsBytes (x .1)))
   diags-size = dry .step .ran .atd
 
   texts : textsFit (x .0) ≡ r .fits
@@ -66,35 +66,35 @@ module _ {o1 g1 : List ℕ} {r : State} {x : Out Rec} (dry : Makes [] o1 [] g1 s
   text-too-long f = rw (texts, f) (record { answer = refl; output = out-kept; diagnostics = diags-kept })
 
   module _ (f : r .fits ≡ true) where
-    pub output-too-long : length out < r .p → Gives (written (x .0) (x .1) out diags) (Refused OutputFull 0) (o1 ++ out) (g1 ++ diags)
+    pub output-too-long : length out < r .written → Gives (written (x .0) (x .1) out diags) (Refused OutputFull 0) (o1 ++ out) (g1 ++ diags)
     unfolding written
     output-too-long h =
         rw (texts, f, lt-leb (length (encode (x .0))) (length out) (omega (arith, output-size)))
         (record { answer = refl; output = out-kept; diagnostics = diags-kept })
 
     -- a buffer is shorter than the largest position
-    module _ (l : r .p ≤ length out) (short : length out < 2 ^ 63) where
+    module _ (l : r .written ≤ length out) (short : length out < 2 ^ 63) where
       output-fits : leb (length (encode (x .0))) (length out) ≡ true
       output-fits = le-leb (length (encode (x .0))) (length out) (omega (arith, output-size))
 
       -- 10, "diagnostics longer than theirs"
-      pub diagnostics-too-long : length diags < r .d → Gives (written (x .0) (x .1) out diags) (Refused DiagnosticsFull 0) (o1 ++ out) (g1 ++ diags)
+      pub diagnostics-too-long : length diags < r .reported → Gives (written (x .0) (x .1) out diags) (Refused DiagnosticsFull 0) (o1 ++ out) (g1 ++ diags)
       unfolding written
       diagnostics-too-long h =
           rw (texts, f, output-fits, lt-leb (length (diagsBytes (x .1))) (length diags) (omega (arith, diags-size)))
           (record { answer = refl; output = out-kept; diagnostics = diags-kept })
 
       -- "Success returns bytes written and the diagnostic count; bytes beyond them are untouched"
-      pub done-is : r .d ≤ length diags → length diags < 2 ^ 63 → {o2 g2 : List ℕ} {s : State}
-          → Makes (take (r .p) (o1 ++ out)) o2 (take (r .d) (g1 ++ diags)) g2 start s x
-          → Gives (written (x .0) (x .1) out diags) (Done (r .p) (r .d / 10)) (o2 ++ drop (r .p) (o1 ++ out)) (g2 ++ drop (r .d) (g1 ++ diags))
+      pub done-is : r .reported ≤ length diags → length diags < 2 ^ 63 → {o2 g2 : List ℕ} {s : State}
+          → Makes (take (r .written) (o1 ++ out)) o2 (take (r .reported) (g1 ++ diags)) g2 start s x
+          → Gives (written (x .0) (x .1) out diags) (Done (r .written) (r .reported / 10)) (o2 ++ drop (r .written) (o1 ++ out)) (g2 ++ drop (r .reported) (g1 ++ diags))
       unfolding written
       done-is m short' w =
-          let n : r .p ≡ length (encode (x .0)) = omega (arith, output-size) in
-          let k : r .d / 10 ≡ length (x .1) = omega (arith, diags-size, length-diagsBytes (x .1)) in
+          let n : r .written ≡ length (encode (x .0)) = omega (arith, output-size) in
+          let k : r .reported / 10 ≡ length (x .1) = omega (arith, diags-size, length-diagsBytes (x .1)) in
           rw (texts, f, output-fits, le-leb (length (diagsBytes (x .1))) (length diags) (omega (arith, diags-size)))
           (record {
             answer = λ i. done (n i) (k i);
-            output = filled (encode (x .0)) out o1 (r .p) (dry .step .ran .out .same) output-size l short (w .step .ran .out);
-            diagnostics = filled (diagsBytes (x .1)) diags g1 (r .d) (dry .step .ran .dia .same) diags-size m short' (w .step .ran .dia);
+            output = filled (encode (x .0)) out o1 (r .written) (dry .step .ran .out .same) output-size l short (w .step .ran .out);
+            diagnostics = filled (diagsBytes (x .1)) diags g1 (r .reported) (dry .step .ran .dia .same) diags-size m short' (w .step .ran .dia);
           })

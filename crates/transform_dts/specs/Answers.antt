@@ -15,7 +15,7 @@ use Rattle.transform_dts.specs.declared.Answer.the-variants.{Done, Refus
 
 -- where a run begins
 abbrev pub start : State
-start = record { p = 0; d = 0; n = 0; fits = true }
+start = record { written = 0; reported = 0; counter = 0; fits = true }
 
 -- the transform of the tree that stands in a list of bytes
 abbrev pub transformed : List ℕ → ℕ → List ℕ → Out Rec

@@ -26,9 +26,9 @@ fn begin() -> State
     ensures { λ r. ⌜ r ≡ start ⌝ }
 {
     State {
-        p: 0,
-        d: 0,
-        n: 0,
+        written: 0,
+        reported: 0,
+        counter: 0,
         fits: true,
     }
 }
@@ -56,7 +56,7 @@ fn transform_module(
         end: tree.len() + HEAD_SIZE,
     };
     let mut items = begin();
-    items.p = records::advance(0, parts::front_size(tree, 0));
+    items.written = records::advance(0, parts::front_size(tree, 0));
     let made = items::transform_module_items(
         tree,
         first,
@@ -92,20 +92,20 @@ fn accepted(
     if !fits {
         return Answer::Refused(Refusal::OutputFull, 0);
     }
-    if out.len() < dry.p {
+    if out.len() < dry.written {
         return Answer::Refused(Refusal::OutputFull, 0);
     }
-    if diagnostics.len() < dry.d {
+    if diagnostics.len() < dry.reported {
         return Answer::Refused(Refusal::DiagnosticsFull, 0);
     }
     transform_module(
         tree,
         list,
         unresolved,
-        &mut out[..dry.p],
-        &mut diagnostics[..dry.d],
+        &mut out[..dry.written],
+        &mut diagnostics[..dry.reported],
     );
-    Answer::Done(dry.p, dry.d / DIAGNOSTIC_SIZE)
+    Answer::Done(dry.written, dry.reported / DIAGNOSTIC_SIZE)
 }
 
 // The exported call, for every two byte strings, every context and all buffers: the answer and both buffers are the definition's `call`.

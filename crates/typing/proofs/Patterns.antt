@@ -135,14 +135,14 @@ module _ (tree : List ℕ) (scope : Scope) (levels at n : ℕ) where
 
 -- ---- what the code does for each
 
-pub gave-keep : {o o' : List ℕ} (g : List ℕ) (s : State) {q : ℕ} {r : Rec} {x : Out Recs} → s .d ≤ top → textsFit r ≡ true → Put o o' (s .p) (encode r) q → x ≡ (one r, [], s .n)
+pub gave-keep : {o o' : List ℕ} (g : List ℕ) (s : State) {q : ℕ} {r : Rec} {x : Out Recs} → s .reported ≤ top → textsFit r ≡ true → Put o o' (s .written) (encode r) q → x ≡ (one r, [], s .counter)
     → Gave o o' g g s (Some (movedTo s q)) x
 gave-keep g s {r = r} h f w e = rw e (record { value = some r; same = refl; did = did-some (step-as (step-put g s w h) refl refl refl (sym f)) })
 
-pub gave-none : (o g : List ℕ) (s : State) {x : Out Recs} → s .p ≤ top → s .d ≤ top → x ≡ (nil, [], s .n) → Gave o o g g s (None s) x
+pub gave-none : (o g : List ℕ) (s : State) {x : Out Recs} → s .written ≤ top → s .reported ≤ top → x ≡ (nil, [], s .counter) → Gave o o g g s (None s) x
 gave-none o g s h k e = rw e (record { value = none; same = refl; did = did-none (step-none o g s h k) })
 
-pub gave-mark : (o : List ℕ) {g g' : List ℕ} (s : State) {s' : State} {d : Diag} {x : Out Recs} → s .p ≤ top → Marks g g' s s' d → x ≡ (nil, d ∷ [], s .n) → Gave o o g g' s (None s') x
+pub gave-mark : (o : List ℕ) {g g' : List ℕ} (s : State) {s' : State} {d : Diag} {x : Out Recs} → s .written ≤ top → Marks g g' s s' d → x ≡ (nil, d ∷ [], s .counter) → Gave o o g g' s (None s') x
 gave-mark o s h w e = rw e (record { value = none; same = refl; did = did-none (step-marks o w h) })
 
 -- the front of a parameter
@@ -158,18 +158,18 @@ unfolding textsFit allTextsFit
 binding-fits h name ty e = sym (ap (λ (b : Bool). b && (textsFit ty && true)) e ∙ and-true (textsFit ty))
 
 -- a default that has no type
-pub gave-left-out : {o o1 o2 g g2 : List ℕ} (s : State) {s2 : State} {y : Out (Option Rec)} {x : Out Recs} {q : ℕ} {F : List ℕ} → s .p ≤ top → s .d ≤ top → Put o o1 (s .p) F q
+pub gave-left-out : {o o1 o2 g g2 : List ℕ} (s : State) {s2 : State} {y : Out (Option Rec)} {x : Out Recs} {q : ℕ} {F : List ℕ} → s .written ≤ top → s .reported ≤ top → Put o o1 (s .written) F q
     → IsNone o1 o2 g g2 (movedTo s q) s2 y → x ≡ (nil, y .1, y .2) → Gave o o2 g g2 s (None (backTo s s2)) x
 gave-left-out {g = g} s h k v w e = rw e (record { value = none; same = refl; did = did-none (step-back h (step-then (step-put g s v k) (w .step))) })
 
-pub gave-skipped : {o o2 g g2 : List ℕ} (s : State) {s2 : State} {y : Out (Option Rec)} {x : Out Recs} {q : ℕ} (k : ℕ) → s .p ≤ top → q ≡ sat (s .p) k → IsNone o o2 g g2 (movedTo s q) s2 y
+pub gave-skipped : {o o2 g g2 : List ℕ} (s : State) {s2 : State} {y : Out (Option Rec)} {x : Out Recs} {q : ℕ} (k : ℕ) → s .written ≤ top → q ≡ sat (s .written) k → IsNone o o2 g g2 (movedTo s q) s2 y
     → x ≡ (nil, y .1, y .2) → Gave o o2 g g2 s (None (backTo s s2)) x
 gave-skipped {o} {o2} {g} {g2} s {s2} {y} k h z w e =
-    let u : Step o o2 g g2 (movedTo s (sat (s .p) k)) s2 [] (y .1) (y .2) true = rw z at (w .step) in
+    let u : Step o o2 g g2 (movedTo s (sat (s .written) k)) s2 [] (y .1) (y .2) true = rw z at (w .step) in
     rw e (record { value = none; same = refl; did = did-none (step-lower s k h u) })
 
 module _ (tree : List ℕ) (levels at : ℕ) {o o1 o2 g g2 : List ℕ} (s : State) {s2 : State} {y : Out (Option Rec)} {x : Out Recs} where
-  pub gave-named : {q : ℕ} (name : List ℕ) → s .d ≤ top → textsFit (identAt (headOf (treeAt levels tree at)) name) ≡ true → Put o o1 (s .p) (bindingFront (span (rangeAt tree at)) name) q
+  pub gave-named : {q : ℕ} (name : List ℕ) → s .reported ≤ top → textsFit (identAt (headOf (treeAt levels tree at)) name) ≡ true → Put o o1 (s .written) (bindingFront (span (rangeAt tree at)) name) q
       → IsSome o1 o2 g g2 (movedTo s q) s2 y → x ≡ given (y .0) (nil, y .1, y .2) (λ ty. (one (bindingIdent (headOf (treeAt levels tree at)) name ty), y .1, y .2))
       → Gave o o2 g g2 s (Some s2) x
   gave-named name k f v w e =
@@ -187,14 +187,14 @@ unfolding encode encodes headBytes
 front-length at name = omega (arith, ap length (append-nil name))
 
 unnamed-step : {o o1 o2 g g1 : List ℕ} (s : State) {made r : State} {E : List ℕ} {ds : List Diag} {n : ℕ} {at : Range} {f : Bool}
-    → Step o o1 g g1 (movedTo s (sat (s .p) (uniqueFront (s .n + 1)))) made E ds n f → Unnamed o1 o2 s made r at
-    → Step o o2 g g1 s r (bindingFront at (genUniqueName (made .n + 1)) ++ E) ds (n + 1) f
+    → Step o o1 g g1 (movedTo s (sat (s .written) (uniqueFront (s .counter + 1)))) made E ds n f → Unnamed o1 o2 s made r at
+    → Step o o2 g g1 s r (bindingFront at (genUniqueName (made .counter + 1)) ++ E) ds (n + 1) f
 unnamed-step {o} {o1} {o2} {g} {g1} s {made} {r} {E} {ds} {n} {at} {f} w u =
-    let H : List ℕ = bindingFront at (genUniqueName (made .n + 1)) in
-    let l : length H ≡ uniqueFront (s .n + 1) + u .by = front-length at (genUniqueName (made .n + 1)) ∙ sym (u .size) in
+    let H : List ℕ = bindingFront at (genUniqueName (made .counter + 1)) in
+    let l : length H ≡ uniqueFront (s .counter + 1) + u .by = front-length at (genUniqueName (made .counter + 1)) ∙ sym (u .size) in
     rw (u .state) (record {
       ran = record {
-        out = rw (u .put .bytes) (wrote-moved (s .p) (uniqueFront (s .n + 1)) (u .by) (made .p) H (w .ran .out) (w .ran .atp) (u .moved) l);
+        out = rw (u .put .bytes) (wrote-moved (s .written) (uniqueFront (s .counter + 1)) (u .by) (made .written) H (w .ran .out) (w .ran .atp) (u .moved) l);
         dia = w .ran .dia;
         atp = omega (arith, w .ran .atp, l, length-append H E);
         atd = w .ran .atd;
@@ -203,16 +203,16 @@ unnamed-step {o} {o1} {o2} {g} {g1} s {made} {r} {E} {ds} {n} {at} {f} w u =
       fits = w .fits;
     })
 
-pub gave-unnamed : (tree : List ℕ) (levels at : ℕ) {o o1 o2 g g1 : List ℕ} (s : State) {made r : State} {q : ℕ} {y : Out (Option Rec)} {x : Out Recs} → q ≡ sat (s .p) (uniqueFront (s .n + 1))
+pub gave-unnamed : (tree : List ℕ) (levels at : ℕ) {o o1 o2 g g1 : List ℕ} (s : State) {made r : State} {q : ℕ} {y : Out (Option Rec)} {x : Out Recs} → q ≡ sat (s .written) (uniqueFront (s .counter + 1))
     → IsSome o o1 g g1 (movedTo s q) made y → Unnamed o1 o2 s made r (span (rangeAt tree at))
     → x ≡ given (y .0) (nil, y .1, y .2) (λ ty. (one (bindingIdent (headOf (treeAt levels tree at)) (genUniqueName (y .2 + 1)) ty), y .1, y .2 + 1))
     → Gave o o2 g g1 s (Some r) x
 gave-unnamed tree levels at {o} {o1} {o2} {g} {g1} s {made} {r} {q} {y} z w u e =
     let ty : Rec = w .type in
     let f : textsFit (identAt (headOf (treeAt levels tree at)) (genUniqueName (y .2 + 1))) ≡ true =
-    rw (← w .step .counter) (name-fits (headOf (treeAt levels tree at)) (genUniqueName (made .n + 1)) (omega (arith, u .short))) in
-    let v : Step o o1 g g1 (movedTo s (sat (s .p) (uniqueFront (s .n + 1)))) made (encode ty) (y .1) (y .2) (textsFit ty) = rw z at (w .step) in
-    let c : made .n ≡ y .2 = w .step .counter in
+    rw (← w .step .counter) (name-fits (headOf (treeAt levels tree at)) (genUniqueName (made .counter + 1)) (omega (arith, u .short))) in
+    let v : Step o o1 g g1 (movedTo s (sat (s .written) (uniqueFront (s .counter + 1)))) made (encode ty) (y .1) (y .2) (textsFit ty) = rw z at (w .step) in
+    let c : made .counter ≡ y .2 = w .step .counter in
     let d : Step o o2 g g1 s r (bindingFront (span (rangeAt tree at)) (genUniqueName (y .2 + 1)) ++ encode ty) (y .1) (y .2 + 1) (textsFit ty) = rw c at (unnamed-step s v u) in
     rw (e, w .same) (record {
       value = some (bindingIdent (headOf (treeAt levels tree at)) (genUniqueName (y .2 + 1)) ty);
@@ -240,22 +240,22 @@ named-fits levels tree at a e f known =
     (rw (z, text-is (levels - 1 - 1) tree q, length-drop) (omega (arith, text-length (levels - 1 - 1) tree q (i .accepted))))
 
 -- what is asked for a generated name, once the default has been typed
-pub unnamed-ready : (tree : List ℕ) (scope : Scope) (levels at : ℕ) {o o1 g g1 : List ℕ} (s : State) {made : State} {p q : ℕ} → Ready levels tree at (s .n) scope → Child levels tree at 0 (bodyAt tree at) pattern
-    → Child levels tree at 1 p expression → p ≡ endAt (levels - 1) tree (bodyAt tree at) → q ≡ sat (s .p) (uniqueFront (s .n + 1))
-    → IsSome o o1 g g1 (movedTo s q) made (typeOf tree (mutableMode scope) (levels - 1) p (s .n))
-    → (at + headSize ≤ length tree) × (((s .n ≤ made .n) × (made .n < length tree)) × (sat (s .p) (uniqueFront (s .n + 1)) ≤ made .p))
+pub unnamed-ready : (tree : List ℕ) (scope : Scope) (levels at : ℕ) {o o1 g g1 : List ℕ} (s : State) {made : State} {p q : ℕ} → Ready levels tree at (s .counter) scope → Child levels tree at 0 (bodyAt tree at) pattern
+    → Child levels tree at 1 p expression → p ≡ endAt (levels - 1) tree (bodyAt tree at) → q ≡ sat (s .written) (uniqueFront (s .counter + 1))
+    → IsSome o o1 g g1 (movedTo s q) made (typeOf tree (mutableMode scope) (levels - 1) p (s .counter))
+    → (at + headSize ≤ length tree) × (((s .counter ≤ made .counter) × (made .counter < length tree)) × (sat (s .written) (uniqueFront (s .counter + 1)) ≤ made .written))
 unfolding typeOf
 unnamed-ready tree scope levels at s {made} {p} {q} r j k e z w =
     let ctx : ℕ = scope .unresolved in
     let ids : PrescannedModuleIds = idsOf tree in
     let x : Rec = treeAt (levels - 1) tree p in
-    let c : made .n ≡ exprToTsType ids ctx x false false (s .n) .2 = w .step .counter in
+    let c : made .counter ≡ exprToTsType ids ctx x false false (s .counter) .2 = w .step .counter in
     let a : bodyAt tree at + headSize ≤ endAt (levels - 1) tree (bodyAt tree at) = end-after (levels - 1) tree (bodyAt tree at) (j .accepted) in
     let b : p + records x ≤ endAt (levels - 1) tree p = records-within (levels - 1) tree p (k .accepted) in
     let d : endAt (levels - 1) tree p ≤ length tree = end-inside (levels - 1) tree p (k .accepted) in (
       itself levels tree at (r .accepted) .room,
       (
-        (omega (arith, c, counter-low ids ctx x false false (s .n)), omega (arith, c, counter-high ids ctx x false false (s .n), a, b, d, e, r .low)),
+        (omega (arith, c, counter-low ids ctx x false false (s .counter)), omega (arith, c, counter-high ids ctx x false false (s .counter), a, b, d, e, r .low)),
         omega (arith, z, w .step .ran .atp),
       ),
     )

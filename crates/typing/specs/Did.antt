@@ -54,8 +54,8 @@ typeOf tree m levels at n = readonlyIf (m .frozen) (exprToTsType (idsOf tree) (m
 
 -- only E was written, where `s` stood in the output; f says whether its texts fit
 pub record Puts (o o' : List ℕ) (s s' : State) (E : List ℕ) (f : Bool) : Type 0 where
-  pub put : Put o o' (s .p) E (s' .p)
-  pub same : s' ≡ record { p = s' .p; d = s .d; n = s .n; fits = s .fits && f }
+  pub put : Put o o' (s .written) E (s' .written)
+  pub same : s' ≡ record { written = s' .written; reported = s .reported; counter = s .counter; fits = s .fits && f }
 
 -- a diagnostic at the range of the record at `at`
 abbrev pub diagAt : List ℕ → ℕ → ℕ → Diag
@@ -63,13 +63,13 @@ diagAt tree at code = record { mark = code; start = startAt tree at; end = lastA
 
 -- only the diagnostic e was marked
 pub record Marks (g g' : List ℕ) (s s' : State) (e : Diag) : Type 0 where
-  pub put : Put g g' (s .d) (diagBytes e) (s' .d)
-  pub same : s' ≡ record { p = s .p; d = s' .d; n = s .n; fits = s .fits }
+  pub put : Put g g' (s .reported) (diagBytes e) (s' .reported)
+  pub same : s' ≡ record { written = s .written; reported = s' .reported; counter = s .counter; fits = s .fits }
 
 -- the bytes E and the diagnostics ds were written where `s` stood, the counter became n, and f says whether the texts of E fit
 pub record Step (o o' g g' : List ℕ) (s s' : State) (E : List ℕ) (ds : List Diag) (n : ℕ) (f : Bool) : Type 0 where
-  pub ran : Ran o o' g g' (s .p) (s .d) (s' .p) (s' .d) E (diagsBytes ds)
-  pub counter : s' .n ≡ n
+  pub ran : Ran o o' g g' (s .written) (s .reported) (s' .written) (s' .reported) E (diagsBytes ds)
+  pub counter : s' .counter ≡ n
   pub fits : s' .fits ≡ (s .fits && f)
 
 abbrev pub answerOf : Option Rec → State → Typed
@@ -99,20 +99,20 @@ pub record Gave (o o' g g' : List ℕ) (s : State) (r : Typed) (x : Out Recs) : 
 -- a type t, or any and the diagnostic e
 pub record Filled (o o' g g' : List ℕ) (t : Typed) (r : State) (e : Diag) : Type 0 where
   pub typed : (s : State) → t ≡ Some s → (r ≡ s) × (o' ≡ o) × (g' ≡ g)
-  pub any : (s : State) → t ≡ None s → Step o o' g g' s r (encode (anyTypeAnn dummySp)) (e ∷ []) (s .n) true
+  pub any : (s : State) → t ≡ None s → Step o o' g g' s r (encode (anyTypeAnn dummySp)) (e ∷ []) (s .counter) true
 
 -- the answer of a helper that wrote where `s` stood
 abbrev pub typedAs : State → MaybeType → Typed
-typedAs s (Made q) = Some (record { p = q; d = s .d; n = s .n; fits = s .fits })
+typedAs s (Made q) = Some (record { written = q; reported = s .reported; counter = s .counter; fits = s .fits })
 typedAs s Untyped = None s
 
 -- at another position of the output, or of the diagnostics
 abbrev pub movedTo : State → ℕ → State
-movedTo s q = record { p = q; d = s .d; n = s .n; fits = s .fits }
+movedTo s q = record { written = q; reported = s .reported; counter = s .counter; fits = s .fits }
 
 abbrev pub markedTo : State → ℕ → State
-markedTo s e = record { p = s .p; d = e; n = s .n; fits = s .fits }
+markedTo s e = record { written = s .written; reported = e; counter = s .counter; fits = s .fits }
 
 -- where a typing that began at s stands when it has failed at s'
 abbrev pub backTo : State → State → State
-backTo s s' = record { p = s .p; d = s' .d; n = s' .n; fits = s .fits }
+backTo s s' = record { written = s .written; reported = s' .reported; counter = s' .counter; fits = s .fits }

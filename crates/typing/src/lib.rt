@@ -65,9 +65,9 @@ mod readonly;
 // Where a typing stands: the positions in the output and in the diagnostics, the name counter, and whether every text that was written fits
 // the two bytes of its length.
 pub struct State {
-    pub p: usize,
-    pub d: usize,
-    pub n: usize,
+    pub written: usize,
+    pub reported: usize,
+    pub counter: usize,
     pub fits: bool,
 }
 
@@ -103,9 +103,9 @@ pub fn back(s: State, next: State) -> State
     ensures { λ r. ⌜ r ≡ backTo s next ⌝ }
 {
     State {
-        p: s.p,
-        d: next.d,
-        n: next.n,
+        written: s.written,
+        reported: next.reported,
+        counter: next.counter,
         fits: s.fits,
     }
 }
@@ -117,7 +117,7 @@ pub fn mark_diagnostic(tree: &[u8], at: usize, code: u16, diagnostics: &mut [u8]
 {
     let head = records::read_head(tree, at);
     let mut next = s;
-    next.d = records::put_diagnostic(diagnostics, s.d, code, head.start, head.end);
+    next.reported = records::put_diagnostic(diagnostics, s.reported, code, head.start, head.end);
     next
 }
 
@@ -140,7 +140,7 @@ pub fn or_any(
         Typed::Some(s) => s,
         Typed::None(s) => {
             let mut next = s;
-            next.p = swc_helpers::any_type_ann(DUMMY_SP, out, s.p);
+            next.written = swc_helpers::any_type_ann(DUMMY_SP, out, s.written);
             mark_diagnostic(tree, at, code, diagnostics, next)
         }
     }
@@ -153,7 +153,7 @@ fn answer_of(s: State, made: MaybeType) -> Typed
     match made {
         MaybeType::Typed(q) => {
             let mut next = s;
-            next.p = q;
+            next.written = q;
             Typed::Some(next)
         }
         MaybeType::Untyped => Typed::None(s),
@@ -199,20 +199,20 @@ fn shorthand(
     diagnostics: &mut [u8],
     s: State,
 ) -> Counted
-    requires { ⌜ Ready levels (now tree) at (s .n) (mode .scope) × (markAt (now tree) at ≡ mark "Sh") ⌝ }
+    requires { ⌜ Ready levels (now tree) at (s .counter) (mode .scope) × (markAt (now tree) at ≡ mark "Sh") ⌝ }
     ensures { λ r. ⌜
         Gives (now (out .entry)) (now (out .exit)) (now (diagnostics .entry)) (now (diagnostics .exit)) s r
-        (memberType (now (tree .entry)) mode levels at (s .n))
+        (memberType (now (tree .entry)) mode levels at (s .counter))
         ⌝ }
 {
     let ident = records::body_at(tree, at);
-    let q = put_shorthand(tree, ident, levels - 1, is_readonly(mode), out, s.p);
+    let q = put_shorthand(tree, ident, levels - 1, is_readonly(mode), out, s.written);
     let made = ident_to_ts_type(tree, ident, levels - 1, mode.scope, mode.as_const, out, q);
     let MaybeType::Typed(end) = made else {
         return skipped(tree, at, D3, diagnostics, s);
     };
     let mut next = s;
-    next.p = end;
+    next.written = end;
     Counted { s: next, count: 1 }
 }
 
@@ -248,10 +248,10 @@ pub fn expr_to_ts_type(
     diagnostics: &mut [u8],
     s: State,
 ) -> Typed
-    requires { ⌜ Ready levels (now tree) at (s .n) (mode .scope) ⌝ }
+    requires { ⌜ Ready levels (now tree) at (s .counter) (mode .scope) ⌝ }
     ensures { λ r. ⌜
         Did (now (out .entry)) (now (out .exit)) (now (diagnostics .entry)) (now (diagnostics .exit)) s r
-        (typeOf (now (tree .entry)) mode levels at (s .n))
+        (typeOf (now (tree .entry)) mode levels at (s .counter))
         ⌝ }
 {
     match records::mark_at(tree, at) {
@@ -270,7 +270,7 @@ pub fn expr_to_ts_type(
         }
         AS => {
             let mut next = s;
-            next.p = as_type(tree, at, levels, mode.frozen, out, s.p);
+            next.written = as_type(tree, at, levels, mode.frozen, out, s.written);
             Typed::Some(next)
         }
         FX => {
@@ -279,7 +279,7 @@ pub fn expr_to_ts_type(
         }
         AW => function_type(tree, at, levels, mode.scope, false, out, diagnostics, s),
         CA => call_type(tree, at, levels, mode, out, diagnostics, s),
-        _ => answer_of(s, leaf_type(tree, at, levels, mode, out, s.p)),
+        _ => answer_of(s, leaf_type(tree, at, levels, mode, out, s.written)),
     }
 }
 
@@ -293,17 +293,17 @@ fn array_type(
     diagnostics: &mut [u8],
     s: State,
 ) -> Typed
-    requires { ⌜ Ready levels (now tree) at (s .n) (mode .scope) × (markAt (now tree) at ≡ mark "Ar") ⌝ }
+    requires { ⌜ Ready levels (now tree) at (s .counter) (mode .scope) × (markAt (now tree) at ≡ mark "Ar") ⌝ }
     ensures { λ r. ⌜
         Did (now (out .entry)) (now (out .exit)) (now (diagnostics .entry)) (now (diagnostics .exit)) s r
-        (typeOf (now (tree .entry)) mode levels at (s .n))
+        (typeOf (now (tree .entry)) mode levels at (s .counter))
         ⌝ }
 {
     if !is_readonly(mode) {
         return tuple_type(tree, at, levels, mode, out, diagnostics, s);
     }
     let mut next = s;
-    next.p = swc_helpers::ts_readonly(DUMMY_SP, out, s.p);
+    next.written = swc_helpers::ts_readonly(DUMMY_SP, out, s.written);
     match tuple_type(tree, at, levels, mode, out, diagnostics, next) {
         Typed::Some(made) => Typed::Some(made),
         Typed::None(failed) => Typed::None(back(s, failed)),
@@ -320,17 +320,17 @@ fn tuple_type(
     diagnostics: &mut [u8],
     s: State,
 ) -> Typed
-    requires { ⌜ Ready levels (now tree) at (s .n) (mode .scope) ⌝ }
+    requires { ⌜ Ready levels (now tree) at (s .counter) (mode .scope) ⌝ }
     ensures { λ r. ⌜
         Did (now (out .entry)) (now (out .exit)) (now (diagnostics .entry)) (now (diagnostics .exit)) s r
-        (tupleType (now (tree .entry)) mode levels at (s .n))
+        (tupleType (now (tree .entry)) mode levels at (s .counter))
         ⌝ }
 {
     let head = records::read_head(tree, at);
     let mut n = head.count;
     let mut child = records::body_at(tree, at);
     let mut next = s;
-    next.p = records::advance(s.p, HEAD_SIZE);
+    next.written = records::advance(s.written, HEAD_SIZE);
     let mut count = 0;
     while 0 < n {
         match element_type(tree, child, levels - 1, mode, out, diagnostics, next) {
@@ -349,7 +349,7 @@ fn tuple_type(
         start: head.start,
         end: head.end,
     };
-    put_made_front(TU, 0, range, count, out, s.p);
+    put_made_front(TU, 0, range, count, out, s.written);
     Typed::Some(next)
 }
 
@@ -363,10 +363,10 @@ fn element_type(
     diagnostics: &mut [u8],
     s: State,
 ) -> Elements
-    requires { ⌜ Ready levels (now tree) at (s .n) (mode .scope) ⌝ }
+    requires { ⌜ Ready levels (now tree) at (s .counter) (mode .scope) ⌝ }
     ensures { λ r. ⌜
         DidAll (now (out .entry)) (now (out .exit)) (now (diagnostics .entry)) (now (diagnostics .exit)) s r
-        (elementType (now (tree .entry)) mode levels at (s .n))
+        (elementType (now (tree .entry)) mode levels at (s .counter))
         ⌝ }
 {
     let mut next = s;
@@ -374,14 +374,14 @@ fn element_type(
         OP => Elements::All(Counted { s, count: 0 }),
         SP => spread_type(tree, at, levels, mode, out, diagnostics, s),
         NO => {
-            let q = swc_helpers::ts_tuple_element(DUMMY_SP, out, s.p);
-            next.p = swc_helpers::any_type_ann(DUMMY_SP, out, q);
+            let q = swc_helpers::ts_tuple_element(DUMMY_SP, out, s.written);
+            next.written = swc_helpers::any_type_ann(DUMMY_SP, out, q);
             Elements::All(Counted { s: next, count: 1 })
         }
         _ => {
             let mut inner = mode;
             inner.frozen = false;
-            next.p = swc_helpers::ts_tuple_element(DUMMY_SP, out, s.p);
+            next.written = swc_helpers::ts_tuple_element(DUMMY_SP, out, s.written);
             let t = expr_to_ts_type(tree, at, levels, inner, out, diagnostics, next);
             let made = or_any(tree, at, D1, t, out, diagnostics);
             Elements::All(Counted { s: made, count: 1 })
@@ -399,16 +399,16 @@ fn spread_type(
     diagnostics: &mut [u8],
     s: State,
 ) -> Elements
-    requires { ⌜ Ready levels (now tree) at (s .n) (mode .scope) × (markAt (now tree) at ≡ mark "Sp") ⌝ }
+    requires { ⌜ Ready levels (now tree) at (s .counter) (mode .scope) × (markAt (now tree) at ≡ mark "Sp") ⌝ }
     ensures { λ r. ⌜
         DidAll (now (out .entry)) (now (out .exit)) (now (diagnostics .entry)) (now (diagnostics .exit)) s r
-        (elementType (now (tree .entry)) mode levels at (s .n))
+        (elementType (now (tree .entry)) mode levels at (s .counter))
         ⌝ }
 {
     let expr = records::body_at(tree, at);
-    let q = swc_helpers::ts_tuple_element(DUMMY_SP, out, s.p);
+    let q = swc_helpers::ts_tuple_element(DUMMY_SP, out, s.written);
     let mut next = s;
-    next.p = swc_helpers::ts_rest_type(DUMMY_SP, out, q);
+    next.written = swc_helpers::ts_rest_type(DUMMY_SP, out, q);
     match rest_type(tree, expr, levels - 1, mode, out, diagnostics, next) {
         Typed::Some(made) => Elements::All(Counted { s: made, count: 1 }),
         Typed::None(failed) => {
@@ -428,14 +428,14 @@ fn rest_type(
     diagnostics: &mut [u8],
     s: State,
 ) -> Typed
-    requires { ⌜ Ready levels (now tree) at (s .n) (mode .scope) ⌝ }
+    requires { ⌜ Ready levels (now tree) at (s .counter) (mode .scope) ⌝ }
     ensures { λ r. ⌜
         Did (now (out .entry)) (now (out .exit)) (now (diagnostics .entry)) (now (diagnostics .exit)) s r
-        (restType (now (tree .entry)) mode levels at (s .n))
+        (restType (now (tree .entry)) mode levels at (s .counter))
         ⌝ }
 {
     match records::mark_at(tree, at) {
-        ID => answer_of(s, array_ident(tree, at, levels, mode.scope, out, s.p)),
+        ID => answer_of(s, array_ident(tree, at, levels, mode.scope, out, s.written)),
         AR => {
             let mut inner = mode;
             inner.as_readonly = false;
@@ -456,17 +456,17 @@ fn object_type(
     diagnostics: &mut [u8],
     s: State,
 ) -> Typed
-    requires { ⌜ Ready levels (now tree) at (s .n) (mode .scope) × (markAt (now tree) at ≡ mark "Ob") ⌝ }
+    requires { ⌜ Ready levels (now tree) at (s .counter) (mode .scope) × (markAt (now tree) at ≡ mark "Ob") ⌝ }
     ensures { λ r. ⌜
         Did (now (out .entry)) (now (out .exit)) (now (diagnostics .entry)) (now (diagnostics .exit)) s r
-        (typeOf (now (tree .entry)) mode levels at (s .n))
+        (typeOf (now (tree .entry)) mode levels at (s .counter))
         ⌝ }
 {
     let head = records::read_head(tree, at);
     let mut n = head.count;
     let mut child = records::body_at(tree, at);
     let mut next = s;
-    next.p = records::advance(s.p, HEAD_SIZE);
+    next.written = records::advance(s.written, HEAD_SIZE);
     let mut count = 0;
     while 0 < n {
         let made = property_type(tree, child, levels - 1, mode, out, diagnostics, next);
@@ -479,7 +479,7 @@ fn object_type(
         start: head.start,
         end: head.end,
     };
-    put_made_front(LI, 0, range, count, out, s.p);
+    put_made_front(LI, 0, range, count, out, s.written);
     Typed::Some(next)
 }
 
@@ -493,10 +493,10 @@ fn property_type(
     diagnostics: &mut [u8],
     s: State,
 ) -> Counted
-    requires { ⌜ Ready levels (now tree) at (s .n) (mode .scope) ⌝ }
+    requires { ⌜ Ready levels (now tree) at (s .counter) (mode .scope) ⌝ }
     ensures { λ r. ⌜
         Gives (now (out .entry)) (now (out .exit)) (now (diagnostics .entry)) (now (diagnostics .exit)) s r
-        (memberType (now (tree .entry)) mode levels at (s .n))
+        (memberType (now (tree .entry)) mode levels at (s .counter))
         ⌝ }
 {
     match records::mark_at(tree, at) {
@@ -518,10 +518,10 @@ fn key_value(
     diagnostics: &mut [u8],
     s: State,
 ) -> Counted
-    requires { ⌜ Ready levels (now tree) at (s .n) (mode .scope) × (markAt (now tree) at ≡ mark "Kv") ⌝ }
+    requires { ⌜ Ready levels (now tree) at (s .counter) (mode .scope) × (markAt (now tree) at ≡ mark "Kv") ⌝ }
     ensures { λ r. ⌜
         Gives (now (out .entry)) (now (out .exit)) (now (diagnostics .entry)) (now (diagnostics .exit)) s r
-        (memberType (now (tree .entry)) mode levels at (s .n))
+        (memberType (now (tree .entry)) mode levels at (s .counter))
         ⌝ }
 {
     let key = records::body_at(tree, at);
@@ -545,10 +545,10 @@ fn call_type(
     diagnostics: &mut [u8],
     s: State,
 ) -> Typed
-    requires { ⌜ Ready levels (now tree) at (s .n) (mode .scope) × (markAt (now tree) at ≡ mark "Ca") ⌝ }
+    requires { ⌜ Ready levels (now tree) at (s .counter) (mode .scope) × (markAt (now tree) at ≡ mark "Ca") ⌝ }
     ensures { λ r. ⌜
         Did (now (out .entry)) (now (out .exit)) (now (diagnostics .entry)) (now (diagnostics .exit)) s r
-        (typeOf (now (tree .entry)) mode levels at (s .n))
+        (typeOf (now (tree .entry)) mode levels at (s .counter))
         ⌝ }
 {
     let found = swc_helpers::object_freeze_call_arg(tree, at, levels, mode.scope.unresolved);
@@ -578,19 +578,19 @@ fn function_type(
     diagnostics: &mut [u8],
     s: State,
 ) -> Typed
-    requires { ⌜ Ready levels (now tree) at (s .n) scope × (markAt (now tree) at ≡ functionMark function) ⌝ }
+    requires { ⌜ Ready levels (now tree) at (s .counter) scope × (markAt (now tree) at ≡ functionMark function) ⌝ }
     ensures { λ r. ⌜
         Did (now (out .entry)) (now (out .exit)) (now (diagnostics .entry)) (now (diagnostics .exit)) s r
-        (functionOf (now (tree .entry)) (scope .unresolved) function levels at (s .n))
+        (functionOf (now (tree .entry)) (scope .unresolved) function levels at (s .counter))
         ⌝ }
 {
     let head = records::read_head(tree, at);
     let first = params_from(function);
     let mut n = head.count - first;
     let mut child = child_at(tree, at, levels, first);
-    let q = records::advance(s.p, HEAD_SIZE);
+    let q = records::advance(s.written, HEAD_SIZE);
     let mut next = s;
-    next.p = put_fn_front(tree, at, levels, out, q);
+    next.written = put_fn_front(tree, at, levels, out, q);
     let mut count = 0;
     while 0 < n {
         let made = param_type(
@@ -612,7 +612,7 @@ fn function_type(
         start: head.start,
         end: head.end,
     };
-    put_made_front(FT, 0, range, 2 + count, out, s.p);
+    put_made_front(FT, 0, range, 2 + count, out, s.written);
     Typed::Some(next)
 }
 
@@ -627,10 +627,10 @@ fn param_type(
     diagnostics: &mut [u8],
     s: State,
 ) -> Counted
-    requires { ⌜ Ready levels (now tree) at (s .n) scope ⌝ }
+    requires { ⌜ Ready levels (now tree) at (s .counter) scope ⌝ }
     ensures { λ r. ⌜
         Gives (now (out .entry)) (now (out .exit)) (now (diagnostics .entry)) (now (diagnostics .exit)) s r
-        (paramType (now (tree .entry)) (scope .unresolved) function levels at (s .n))
+        (paramType (now (tree .entry)) (scope .unresolved) function levels at (s .counter))
         ⌝ }
 {
     if !function {
@@ -653,16 +653,16 @@ pub fn pat_to_ts_fn_param(
     diagnostics: &mut [u8],
     s: State,
 ) -> Typed
-    requires { ⌜ Ready levels (now tree) at (s .n) scope ⌝ }
+    requires { ⌜ Ready levels (now tree) at (s .counter) scope ⌝ }
     ensures { λ r. ⌜
         Gave (now (out .entry)) (now (out .exit)) (now (diagnostics .entry)) (now (diagnostics .exit)) s r
-        (patType (now (tree .entry)) (scope .unresolved) levels at (s .n))
+        (patType (now (tree .entry)) (scope .unresolved) levels at (s .counter))
         ⌝ }
 {
     match records::mark_at(tree, at) {
         BD | PB | RS | PO => {
             let mut next = s;
-            next.p = records::put_record(tree, at, levels, out, s.p);
+            next.written = records::put_record(tree, at, levels, out, s.written);
             Typed::Some(next)
         }
         AG => {
@@ -690,16 +690,16 @@ fn named_param(
     diagnostics: &mut [u8],
     s: State,
 ) -> Typed
-    requires { ⌜ Ready levels (now tree) at (s .n) scope × (markAt (now tree) at ≡ mark "Ag") ⌝ }
+    requires { ⌜ Ready levels (now tree) at (s .counter) scope × (markAt (now tree) at ≡ mark "Ag") ⌝ }
     requires { ⌜ markAt (now tree) (bodyAt (now tree) at) ≡ mark "Bd" ⌝ }
     ensures { λ r. ⌜
         Gave (now (out .entry)) (now (out .exit)) (now (diagnostics .entry)) (now (diagnostics .exit)) s r
-        (patType (now (tree .entry)) (scope .unresolved) levels at (s .n))
+        (patType (now (tree .entry)) (scope .unresolved) levels at (s .counter))
         ⌝ }
 {
     let right = child_at(tree, at, levels, 1);
     let mut next = s;
-    next.p = put_named(tree, at, levels, out, s.p);
+    next.written = put_named(tree, at, levels, out, s.written);
     match expr_to_ts_type(
         tree,
         right,
@@ -724,16 +724,16 @@ fn unnamed_param(
     diagnostics: &mut [u8],
     s: State,
 ) -> Typed
-    requires { ⌜ Ready levels (now tree) at (s .n) scope × (markAt (now tree) at ≡ mark "Ag") ⌝ }
+    requires { ⌜ Ready levels (now tree) at (s .counter) scope × (markAt (now tree) at ≡ mark "Ag") ⌝ }
     requires { ⌜ (markAt (now tree) (bodyAt (now tree) at) ≡ mark "Bd" → ⊥) ⌝ }
     ensures { λ r. ⌜
         Gave (now (out .entry)) (now (out .exit)) (now (diagnostics .entry)) (now (diagnostics .exit)) s r
-        (patType (now (tree .entry)) (scope .unresolved) levels at (s .n))
+        (patType (now (tree .entry)) (scope .unresolved) levels at (s .counter))
         ⌝ }
 {
     let right = child_at(tree, at, levels, 1);
     let mut next = s;
-    next.p = records::advance(s.p, unique_binding_size(s.n + 1));
+    next.written = records::advance(s.written, unique_binding_size(s.counter + 1));
     match expr_to_ts_type(
         tree,
         right,

@@ -65,7 +65,7 @@ same-length-4 : tie.Need-same-length-4
 same-length-4 c = search needs
 
 returns-3 : tie.Need-returns-3
-returns-3 c = makes-as (made-typed (did-as (c .before .before .before .before .before .before .before .expr-to-ts-type .ensures) (mutable-type _ (c .before .before .before .before .before .before .before .before .before .before .before .before .before .before .before .before .before .before .args .scope) (c .before .before .before .before .before .before .before .before .before .before .before .before .before .before .before .before .before .before .args .levels) (c .before .before .before .before .before .before .before .before .before .before .before .before .before .before .before .before .before .before .args .value) (c .before .before .before .before .before .before .before .before .before .before .before .before .before .before .before .before .before .before .args .s .n) (c .before .before .before .before .before .before .before .before .before .before .mutable .ensures))) (c .before .made .given .1)) (prop-inferred (typingOf (c .before .before .before .before .before .before .before .before .before .before .before .before .before .before .before .before .before .before .args .tree .now) (c .before .before .before .before .before .before .before .before .before .before .before .before .before .before .before .before .before .before .args .scope)) _ _ _ _ _ (λ e. c .before .before .before .before .before .before .before .before .before .before .before .before .before .if1 .left (c .before .before .before .before .before .before .before .before .before .before .before .before .before .before .mark-at .ensures .0 ∙ e)) (sym (c .before .before .before .before .before .before .before .before .before .before .before .before .mark-at2 .ensures .0) ∙ c .before .before .before .before .before .before .before .before .before .before .before .if2 .left))
+returns-3 c = makes-as (made-typed (did-as (c .before .before .before .before .before .before .before .expr-to-ts-type .ensures) (mutable-type _ (c .before .before .before .before .before .before .before .before .before .before .before .before .before .before .before .before .before .before .args .scope) (c .before .before .before .before .before .before .before .before .before .before .before .before .before .before .before .before .before .before .args .levels) (c .before .before .before .before .before .before .before .before .before .before .before .before .before .before .before .before .before .before .args .value) (c .before .before .before .before .before .before .before .before .before .before .before .before .before .before .before .before .before .before .args .s .counter) (c .before .before .before .before .before .before .before .before .before .before .mutable .ensures))) (c .before .made .given .1)) (prop-inferred (typingOf (c .before .before .before .before .before .before .before .before .before .before .before .before .before .before .before .before .before .before .args .tree .now) (c .before .before .before .before .before .before .before .before .before .before .before .before .before .before .before .before .before .before .args .scope)) _ _ _ _ _ (λ e. c .before .before .before .before .before .before .before .before .before .before .before .before .before .if1 .left (c .before .before .before .before .before .before .before .before .before .before .before .before .before .before .mark-at .ensures .0 ∙ e)) (sym (c .before .before .before .before .before .before .before .before .before .before .before .before .mark-at2 .ensures .0) ∙ c .before .before .before .before .before .before .before .before .before .before .before .if2 .left))
 
 same-length-5 : tie.Need-same-length-5
 same-length-5 c = search needs
@@ -74,7 +74,7 @@ same-length-6 : tie.Need-same-length-6
 same-length-6 c = search needs
 
 returns-4 : tie.Need-returns-4
-returns-4 c = makes-as (made-any (did-as (c .before .before .before .before .before .before .before .before .before .before .before .expr-to-ts-type .ensures) (mutable-type _ (c .before .before .before .before .before .before .before .before .before .before .before .before .before .before .before .before .before .before .before .before .before .before .args .scope) (c .before .before .before .before .before .before .before .before .before .before .before .before .before .before .before .before .before .before .before .before .before .before .args .levels) (c .before .before .before .before .before .before .before .before .before .before .before .before .before .before .before .before .before .before .before .before .before .before .args .value) (c .before .before .before .before .before .before .before .before .before .before .before .before .before .before .before .before .before .before .before .before .before .before .args .s .n) (c .before .before .before .before .before .before .before .before .before .before .before .before .before .before .mutable .ensures))) (c .before .before .before .before .before .failed .given .1) (c .before .before .put-any .ensures)) (prop-inferred (typingOf (c .before .before .before .before .before .before .before .before .before .before .before .before .before .before .before .before .before .before .before .before .before .before .args .tree .now) (c .before .before .before .before .before .before .before .before .before .before .before .before .before .before .before .before .before .before .before .before .before .before .args .scope)) _ _ _ _ _ (λ e. c .before .before .before .before .before .before .before .before .before .before .before .before .before .before .before .before .before .if1 .left (c .before .before .before .before .before .before .before .before .before .before .before .before .before .before .before .before .before .before .mark-at .ensures .0 ∙ e)) (sym (c .before .before .before .before .before .before .before .before .before .before .before .before .before .before .before .before .mark-at2 .ensures .0) ∙ c .before .before .before .before .before .before .before .before .before .before .before .before .before .before .before .if2 .left))
+returns-4 c = makes-as (made-any (did-as (c .before .before .before .before .before .before .before .before .before .before .before .expr-to-ts-type .ensures) (mutable-type _ (c .before .before .before .before .before .before .before .before .before .before .before .before .before .before .before .before .before .before .before .before .before .before .args .scope) (c .before .before .before .before .before .before .before .before .before .before .before .before .before .before .before .before .before .before .before .before .before .before .args .levels) (c .before .before .before .before .before .before .before .before .before .before .before .before .before .before .before .before .before .before .before .before .before .before .args .value) (c .before .before .before .before .before .before .before .before .before .before .before .before .before .before .before .before .before .before .before .before .before .before .args .s .counter) (c .before .before .before .before .before .before .before .before .before .before .before .before .before .before .mutable .ensures))) (c .before .before .before .before .before .failed .given .1) (c .before .before .put-any .ensures)) (prop-inferred (typingOf (c .before .before .before .before .before .before .before .before .before .before .before .before .before .before .before .before .before .before .before .before .before .before .args .tree .now) (c .before .before .before .before .before .before .before .before .before .before .before .before .before .before .before .before .before .before .before .before .before .before .args .scope)) _ _ _ _ _ (λ e. c .before .before .before .before .before .before .before .before .before .before .before .before .before .before .before .before .before .if1 .left (c .before .before .before .before .before .before .before .before .before .before .before .before .before .before .before .before .before .before .mark-at .ensures .0 ∙ e)) (sym (c .before .before .before .before .before .before .before .before .before .before .before .before .before .before .before .before .mark-at2 .ensures .0) ∙ c .before .before .before .before .before .before .before .before .before .before .before .before .before .before .before .if2 .left))
 
 pub prop-type-spec : {M : Type 1} → statement M
 prop-type-spec =

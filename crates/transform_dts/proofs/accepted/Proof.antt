@@ -52,13 +52,13 @@ slice-relend-prefix-transform-module-3 : tie.Need-slice-relend-prefix-transform-
 slice-relend-prefix-transform-module-3 c = search needs
 
 slice-aggregate-transform-module-3 : tie.Need-slice-aggregate-transform-module-3
-slice-aggregate-transform-module-3 c = omega (arith, part-length (c .before .before .before .before .before .before .before .before .before .before .transform-module .result .p) (c .before .before .before .before .before .before .before .before .before .before .transform-module .last .1 .1 .1 .0) (c .before .before .before .before .before .before .before .before .before .before .before .before .before .before .before .before .before .args .out .now) (omega arith))
+slice-aggregate-transform-module-3 c = omega (arith, part-length (c .before .before .before .before .before .before .before .before .before .before .transform-module .result .written) (c .before .before .before .before .before .before .before .before .before .before .transform-module .last .1 .1 .1 .0) (c .before .before .before .before .before .before .before .before .before .before .before .before .before .before .before .before .before .args .out .now) (omega arith))
 
 slice-relend-prefix-transform-module-4 : tie.Need-slice-relend-prefix-transform-module-4
 slice-relend-prefix-transform-module-4 c = search needs
 
 slice-aggregate-transform-module-4 : tie.Need-slice-aggregate-transform-module-4
-slice-aggregate-transform-module-4 c = omega (arith, part-length (c .before .before .before .before .before .before .before .before .before .before .before .transform-module .result .d) (c .before .before .before .before .before .before .before .before .before .before .before .transform-module .last .1 .1 .1 .1 .0) (c .before .before .before .before .before .before .before .before .before .before .before .before .before .before .before .before .before .before .args .diagnostics .now) (omega arith))
+slice-aggregate-transform-module-4 c = omega (arith, part-length (c .before .before .before .before .before .before .before .before .before .before .before .transform-module .result .reported) (c .before .before .before .before .before .before .before .before .before .before .before .transform-module .last .1 .1 .1 .1 .0) (c .before .before .before .before .before .before .before .before .before .before .before .before .before .before .before .before .before .before .args .diagnostics .now) (omega arith))
 
 transform-module-requires-2 : tie.Need-transform-module-requires-2
 transform-module-requires-2 c κs = search needs

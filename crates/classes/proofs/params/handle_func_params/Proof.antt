@@ -12,7 +12,7 @@ use Rattle.classes.proofs.params.handle_func_param.Reads as handle-func
 use Rattle.records.proofs.record_end.Reads as record-end-reads
 
 abbrev Inv-loop : tie.InvT-loop
-Inv-loop tree at n levels scope out₀ diagnostics₀ next₀ k₀ param₀ out diagnostics next k param = Handling tree scope levels (parameters tree scope levels n at (next₀ .n)) out₀ out diagnostics₀ diagnostics next₀ next k param
+Inv-loop tree at n levels scope out₀ diagnostics₀ next₀ k₀ param₀ out diagnostics next k param = Handling tree scope levels (parameters tree scope levels n at (next₀ .counter)) out₀ out diagnostics₀ diagnostics next₀ next k param
 
 abbrev μ-loop : tie.MeasureT-loop
 μ-loop tree at n levels scope out₀ diagnostics₀ next₀ k₀ param₀ out diagnostics next k param = k

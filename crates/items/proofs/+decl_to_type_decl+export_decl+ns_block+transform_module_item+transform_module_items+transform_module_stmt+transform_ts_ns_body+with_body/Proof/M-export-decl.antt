@@ -37,7 +37,7 @@ pub is-overloaded-requires : (t : ℕ) → export-decl-lts.Need-is-overloaded-re
 is-overloaded-requires t c κs = (itself _ _ _ (c .before .before .before .before .before .pre .1 .0 .accepted) .room, itself _ _ _ (ed-kids _ _ _ (c .before .before .before .before .before .pre .1 .0 .accepted) (c .before .before .before .before .before .pre .1 .1) (c .body-at .ensures) refl .first) .room)
 
 pub returns : (t : ℕ) → export-decl-lts.Need-returns (calls t) (export-decl-at t) export-decl.Post
-returns t c = gives-none _ _ (c .before .before .before .before .before .before .before .args .s) (omega (arith, c .before .before .before .before .before .before .before .good)) (omega (arith, c .before .before .before .before .before .before .before .good)) (export-gone (c .before .before .before .before .before .before .before .args .list .now) (c .before .before .before .before .before .before .before .args .tree .now) (c .before .before .before .before .before .before .before .args .scope) (c .before .before .before .before .before .before .before .args .top) (c .before .before .before .before .before .before .before .args .levels) (c .before .before .before .before .before .before .before .args .at) (ed-kids _ _ _ (c .before .before .before .before .before .before .before .pre .1 .0 .accepted) (c .before .before .before .before .before .before .before .pre .1 .1) (c .before .before .body-at .ensures) refl) (c .before .is-overloaded .ensures) (c .before .before .before .before .before .before .before .args .s .n) (c .if1 .taken))
+returns t c = gives-none _ _ (c .before .before .before .before .before .before .before .args .s) (omega (arith, c .before .before .before .before .before .before .before .good)) (omega (arith, c .before .before .before .before .before .before .before .good)) (export-gone (c .before .before .before .before .before .before .before .args .list .now) (c .before .before .before .before .before .before .before .args .tree .now) (c .before .before .before .before .before .before .before .args .scope) (c .before .before .before .before .before .before .before .args .top) (c .before .before .before .before .before .before .before .args .levels) (c .before .before .before .before .before .before .before .args .at) (ed-kids _ _ _ (c .before .before .before .before .before .before .before .pre .1 .0 .accepted) (c .before .before .before .before .before .before .before .pre .1 .1) (c .before .before .body-at .ensures) refl) (c .before .is-overloaded .ensures) (c .before .before .before .before .before .before .before .args .s .counter) (c .if1 .taken))
 
 pub read-head-requires : (t : ℕ) → export-decl-lts.Need-read-head-requires (calls t) (export-decl-at t) export-decl.Post
 read-head-requires t c κs = itself _ _ _ (c .before .before .before .before .before .before .before .pre .1 .0 .accepted) .room

@@ -40,22 +40,22 @@ pub transform-module-stmt-requires : (t : ℕ) → transform-module-item-lts.Nee
 transform-module-stmt-requires t c κs = (omega (arith, c .before .before .before .before .before .before .before .before .pre .0), c .before .before .before .before .before .before .before .before .pre .1)
 
 pub returns : (t : ℕ) → transform-module-item-lts.Need-returns (calls t) (transform-module-item-at t) transform-module-item.Post
-returns t c = kept-gives _ (c .before .before .kept .ensures) (omega (arith, c .before .before .before .before .before .before .before .before .before .before .good)) (item-kept (c .before .before .before .before .before .before .before .before .before .before .args .list .now) (c .before .before .before .before .before .before .before .before .before .before .args .tree .now) (c .before .before .before .before .before .before .before .before .before .before .args .scope) (c .before .before .before .before .before .before .before .before .before .before .args .top) (treeAt (c .before .before .before .before .before .before .before .before .before .before .args .levels) (c .before .before .before .before .before .before .before .before .before .before .args .tree .now) (c .before .before .before .before .before .before .before .before .before .before .args .at)) (c .before .before .before .before .before .before .before .before .before .before .args .s .n) (told-in Kept (mark-of (c .before .before .before .before .before .before .before .before .before .before .args .levels) (c .before .before .before .before .before .before .before .before .before .before .args .tree .now) (c .before .before .before .before .before .before .before .before .before .before .args .at) (c .before .before .before .before .before .mark-at .ensures .0)) (c .before .before .before .before .match .keys1)))
+returns t c = kept-gives _ (c .before .before .kept .ensures) (omega (arith, c .before .before .before .before .before .before .before .before .before .before .good)) (item-kept (c .before .before .before .before .before .before .before .before .before .before .args .list .now) (c .before .before .before .before .before .before .before .before .before .before .args .tree .now) (c .before .before .before .before .before .before .before .before .before .before .args .scope) (c .before .before .before .before .before .before .before .before .before .before .args .top) (treeAt (c .before .before .before .before .before .before .before .before .before .before .args .levels) (c .before .before .before .before .before .before .before .before .before .before .args .tree .now) (c .before .before .before .before .before .before .before .before .before .before .args .at)) (c .before .before .before .before .before .before .before .before .before .before .args .s .counter) (told-in Kept (mark-of (c .before .before .before .before .before .before .before .before .before .before .args .levels) (c .before .before .before .before .before .before .before .before .before .before .args .tree .now) (c .before .before .before .before .before .before .before .before .before .before .args .at) (c .before .before .before .before .before .mark-at .ensures .0)) (c .before .before .before .before .match .keys1)))
 
 pub returns-2 : (t : ℕ) → transform-module-item-lts.Need-returns-2 (calls t) (transform-module-item-at t) transform-module-item.Post
-returns-2 t c = gives-none _ _ (c .before .before .before .before .before .before .args .s) (omega (arith, c .before .before .before .before .before .before .good)) (omega (arith, c .before .before .before .before .before .before .good)) (item-dropped (c .before .before .before .before .before .before .args .list .now) (c .before .before .before .before .before .before .args .tree .now) (c .before .before .before .before .before .before .args .scope) (c .before .before .before .before .before .before .args .top) (treeAt (c .before .before .before .before .before .before .args .levels) (c .before .before .before .before .before .before .args .tree .now) (c .before .before .before .before .before .before .args .at)) (c .before .before .before .before .before .before .args .s .n) (told (mark-of (c .before .before .before .before .before .before .args .levels) (c .before .before .before .before .before .before .args .tree .now) (c .before .before .before .before .before .before .args .at) (c .before .mark-at .ensures .0)) (c .match .keys2)))
+returns-2 t c = gives-none _ _ (c .before .before .before .before .before .before .args .s) (omega (arith, c .before .before .before .before .before .before .good)) (omega (arith, c .before .before .before .before .before .before .good)) (item-dropped (c .before .before .before .before .before .before .args .list .now) (c .before .before .before .before .before .before .args .tree .now) (c .before .before .before .before .before .before .args .scope) (c .before .before .before .before .before .before .args .top) (treeAt (c .before .before .before .before .before .before .args .levels) (c .before .before .before .before .before .before .args .tree .now) (c .before .before .before .before .before .before .args .at)) (c .before .before .before .before .before .before .args .s .counter) (told (mark-of (c .before .before .before .before .before .before .args .levels) (c .before .before .before .before .before .before .args .tree .now) (c .before .before .before .before .before .before .args .at) (c .before .mark-at .ensures .0)) (c .match .keys2)))
 
 pub returns-3 : (t : ℕ) → transform-module-item-lts.Need-returns-3 (calls t) (transform-module-item-at t) transform-module-item.Post
-returns-3 t c = gives-as (c .before .before .before .before .export-decl .ensures) (item-export (c .before .before .before .before .before .before .before .before .before .before .before .before .before .args .list .now) (c .before .before .before .before .before .before .before .before .before .before .before .before .before .args .tree .now) (c .before .before .before .before .before .before .before .before .before .before .before .before .before .args .scope) (c .before .before .before .before .before .before .before .before .before .before .before .before .before .args .top) (treeAt (c .before .before .before .before .before .before .before .before .before .before .before .before .before .args .levels) (c .before .before .before .before .before .before .before .before .before .before .before .before .before .args .tree .now) (c .before .before .before .before .before .before .before .before .before .before .before .before .before .args .at)) (c .before .before .before .before .before .before .before .before .before .before .before .before .before .args .s .n) (told (mark-of (c .before .before .before .before .before .before .before .before .before .before .before .before .before .args .levels) (c .before .before .before .before .before .before .before .before .before .before .before .before .before .args .tree .now) (c .before .before .before .before .before .before .before .before .before .before .before .before .before .args .at) (c .before .before .before .before .before .before .before .before .mark-at .ensures .0)) (c .before .before .before .before .before .before .before .match .keys3)))
+returns-3 t c = gives-as (c .before .before .before .before .export-decl .ensures) (item-export (c .before .before .before .before .before .before .before .before .before .before .before .before .before .args .list .now) (c .before .before .before .before .before .before .before .before .before .before .before .before .before .args .tree .now) (c .before .before .before .before .before .before .before .before .before .before .before .before .before .args .scope) (c .before .before .before .before .before .before .before .before .before .before .before .before .before .args .top) (treeAt (c .before .before .before .before .before .before .before .before .before .before .before .before .before .args .levels) (c .before .before .before .before .before .before .before .before .before .before .before .before .before .args .tree .now) (c .before .before .before .before .before .before .before .before .before .before .before .before .before .args .at)) (c .before .before .before .before .before .before .before .before .before .before .before .before .before .args .s .counter) (told (mark-of (c .before .before .before .before .before .before .before .before .before .before .before .before .before .args .levels) (c .before .before .before .before .before .before .before .before .before .before .before .before .before .args .tree .now) (c .before .before .before .before .before .before .before .before .before .before .before .before .before .args .at) (c .before .before .before .before .before .before .before .before .mark-at .ensures .0)) (c .before .before .before .before .before .before .before .match .keys3)))
 
 pub returns-4 : (t : ℕ) → transform-module-item-lts.Need-returns-4 (calls t) (transform-module-item-at t) transform-module-item.Post
-returns-4 t c = gives-as (c .before .before .before .before .export-default-decl .ensures) (item-default (c .before .before .before .before .before .before .before .before .before .before .before .before .before .args .list .now) (c .before .before .before .before .before .before .before .before .before .before .before .before .before .args .tree .now) (c .before .before .before .before .before .before .before .before .before .before .before .before .before .args .scope) (c .before .before .before .before .before .before .before .before .before .before .before .before .before .args .top) (treeAt (c .before .before .before .before .before .before .before .before .before .before .before .before .before .args .levels) (c .before .before .before .before .before .before .before .before .before .before .before .before .before .args .tree .now) (c .before .before .before .before .before .before .before .before .before .before .before .before .before .args .at)) (c .before .before .before .before .before .before .before .before .before .before .before .before .before .args .s .n) (told (mark-of (c .before .before .before .before .before .before .before .before .before .before .before .before .before .args .levels) (c .before .before .before .before .before .before .before .before .before .before .before .before .before .args .tree .now) (c .before .before .before .before .before .before .before .before .before .before .before .before .before .args .at) (c .before .before .before .before .before .before .before .before .mark-at .ensures .0)) (c .before .before .before .before .before .before .before .match .keys4)))
+returns-4 t c = gives-as (c .before .before .before .before .export-default-decl .ensures) (item-default (c .before .before .before .before .before .before .before .before .before .before .before .before .before .args .list .now) (c .before .before .before .before .before .before .before .before .before .before .before .before .before .args .tree .now) (c .before .before .before .before .before .before .before .before .before .before .before .before .before .args .scope) (c .before .before .before .before .before .before .before .before .before .before .before .before .before .args .top) (treeAt (c .before .before .before .before .before .before .before .before .before .before .before .before .before .args .levels) (c .before .before .before .before .before .before .before .before .before .before .before .before .before .args .tree .now) (c .before .before .before .before .before .before .before .before .before .before .before .before .before .args .at)) (c .before .before .before .before .before .before .before .before .before .before .before .before .before .args .s .counter) (told (mark-of (c .before .before .before .before .before .before .before .before .before .before .before .before .before .args .levels) (c .before .before .before .before .before .before .before .before .before .before .before .before .before .args .tree .now) (c .before .before .before .before .before .before .before .before .before .before .before .before .before .args .at) (c .before .before .before .before .before .before .before .before .mark-at .ensures .0)) (c .before .before .before .before .before .before .before .match .keys4)))
 
 pub returns-5 : (t : ℕ) → transform-module-item-lts.Need-returns-5 (calls t) (transform-module-item-at t) transform-module-item.Post
-returns-5 t c = gives-as (c .before .before .before .before .export-default-expr .ensures) (item-expr (c .before .before .before .before .before .before .before .before .before .before .before .before .before .args .list .now) (c .before .before .before .before .before .before .before .before .before .before .before .before .before .args .tree .now) (c .before .before .before .before .before .before .before .before .before .before .before .before .before .args .scope) (c .before .before .before .before .before .before .before .before .before .before .before .before .before .args .top) (treeAt (c .before .before .before .before .before .before .before .before .before .before .before .before .before .args .levels) (c .before .before .before .before .before .before .before .before .before .before .before .before .before .args .tree .now) (c .before .before .before .before .before .before .before .before .before .before .before .before .before .args .at)) (c .before .before .before .before .before .before .before .before .before .before .before .before .before .args .s .n) (told (mark-of (c .before .before .before .before .before .before .before .before .before .before .before .before .before .args .levels) (c .before .before .before .before .before .before .before .before .before .before .before .before .before .args .tree .now) (c .before .before .before .before .before .before .before .before .before .before .before .before .before .args .at) (c .before .before .before .before .before .before .before .before .mark-at .ensures .0)) (c .before .before .before .before .before .before .before .match .keys5)))
+returns-5 t c = gives-as (c .before .before .before .before .export-default-expr .ensures) (item-expr (c .before .before .before .before .before .before .before .before .before .before .before .before .before .args .list .now) (c .before .before .before .before .before .before .before .before .before .before .before .before .before .args .tree .now) (c .before .before .before .before .before .before .before .before .before .before .before .before .before .args .scope) (c .before .before .before .before .before .before .before .before .before .before .before .before .before .args .top) (treeAt (c .before .before .before .before .before .before .before .before .before .before .before .before .before .args .levels) (c .before .before .before .before .before .before .before .before .before .before .before .before .before .args .tree .now) (c .before .before .before .before .before .before .before .before .before .before .before .before .before .args .at)) (c .before .before .before .before .before .before .before .before .before .before .before .before .before .args .s .counter) (told (mark-of (c .before .before .before .before .before .before .before .before .before .before .before .before .before .args .levels) (c .before .before .before .before .before .before .before .before .before .before .before .before .before .args .tree .now) (c .before .before .before .before .before .before .before .before .before .before .before .before .before .args .at) (c .before .before .before .before .before .before .before .before .mark-at .ensures .0)) (c .before .before .before .before .before .before .before .match .keys5)))
 
 pub returns-6 : (t : ℕ) → transform-module-item-lts.Need-returns-6 (calls t) (transform-module-item-at t) transform-module-item.Post
-returns-6 t c = gives-as (c .before .before .before .before .transform-module-stmt .ensures) (item-decl (c .before .before .before .before .before .before .before .before .before .before .before .before .before .args .list .now) (c .before .before .before .before .before .before .before .before .before .before .before .before .before .args .tree .now) (c .before .before .before .before .before .before .before .before .before .before .before .before .before .args .scope) (c .before .before .before .before .before .before .before .before .before .before .before .before .before .args .top) (treeAt (c .before .before .before .before .before .before .before .before .before .before .before .before .before .args .levels) (c .before .before .before .before .before .before .before .before .before .before .before .before .before .args .tree .now) (c .before .before .before .before .before .before .before .before .before .before .before .before .before .args .at)) (c .before .before .before .before .before .before .before .before .before .before .before .before .before .args .s .n) (told-out Kept (mark-of (c .before .before .before .before .before .before .before .before .before .before .before .before .before .args .levels) (c .before .before .before .before .before .before .before .before .before .before .before .before .before .args .tree .now) (c .before .before .before .before .before .before .before .before .before .before .before .before .before .args .at) (c .before .before .before .before .before .before .before .before .mark-at .ensures .0)) (c .before .before .before .before .before .before .before .match .rest .0 .0 .0 .0 .1)) (told-not (mark-of (c .before .before .before .before .before .before .before .before .before .before .before .before .before .args .levels) (c .before .before .before .before .before .before .before .before .before .before .before .before .before .args .tree .now) (c .before .before .before .before .before .before .before .before .before .before .before .before .before .args .at) (c .before .before .before .before .before .before .before .before .mark-at .ensures .0)) (c .before .before .before .before .before .before .before .match .rest .0 .0 .0 .1)) (told-not (mark-of (c .before .before .before .before .before .before .before .before .before .before .before .before .before .args .levels) (c .before .before .before .before .before .before .before .before .before .before .before .before .before .args .tree .now) (c .before .before .before .before .before .before .before .before .before .before .before .before .before .args .at) (c .before .before .before .before .before .before .before .before .mark-at .ensures .0)) (c .before .before .before .before .before .before .before .match .rest .0 .0 .1)) (told-not (mark-of (c .before .before .before .before .before .before .before .before .before .before .before .before .before .args .levels) (c .before .before .before .before .before .before .before .before .before .before .before .before .before .args .tree .now) (c .before .before .before .before .before .before .before .before .before .before .before .before .before .args .at) (c .before .before .before .before .before .before .before .before .mark-at .ensures .0)) (c .before .before .before .before .before .before .before .match .rest .0 .1)) (told-not (mark-of (c .before .before .before .before .before .before .before .before .before .before .before .before .before .args .levels) (c .before .before .before .before .before .before .before .before .before .before .before .before .before .args .tree .now) (c .before .before .before .before .before .before .before .before .before .before .before .before .before .args .at) (c .before .before .before .before .before .before .before .before .mark-at .ensures .0)) (c .before .before .before .before .before .before .before .match .rest .1)))
+returns-6 t c = gives-as (c .before .before .before .before .transform-module-stmt .ensures) (item-decl (c .before .before .before .before .before .before .before .before .before .before .before .before .before .args .list .now) (c .before .before .before .before .before .before .before .before .before .before .before .before .before .args .tree .now) (c .before .before .before .before .before .before .before .before .before .before .before .before .before .args .scope) (c .before .before .before .before .before .before .before .before .before .before .before .before .before .args .top) (treeAt (c .before .before .before .before .before .before .before .before .before .before .before .before .before .args .levels) (c .before .before .before .before .before .before .before .before .before .before .before .before .before .args .tree .now) (c .before .before .before .before .before .before .before .before .before .before .before .before .before .args .at)) (c .before .before .before .before .before .before .before .before .before .before .before .before .before .args .s .counter) (told-out Kept (mark-of (c .before .before .before .before .before .before .before .before .before .before .before .before .before .args .levels) (c .before .before .before .before .before .before .before .before .before .before .before .before .before .args .tree .now) (c .before .before .before .before .before .before .before .before .before .before .before .before .before .args .at) (c .before .before .before .before .before .before .before .before .mark-at .ensures .0)) (c .before .before .before .before .before .before .before .match .rest .0 .0 .0 .0 .1)) (told-not (mark-of (c .before .before .before .before .before .before .before .before .before .before .before .before .before .args .levels) (c .before .before .before .before .before .before .before .before .before .before .before .before .before .args .tree .now) (c .before .before .before .before .before .before .before .before .before .before .before .before .before .args .at) (c .before .before .before .before .before .before .before .before .mark-at .ensures .0)) (c .before .before .before .before .before .before .before .match .rest .0 .0 .0 .1)) (told-not (mark-of (c .before .before .before .before .before .before .before .before .before .before .before .before .before .args .levels) (c .before .before .before .before .before .before .before .before .before .before .before .before .before .args .tree .now) (c .before .before .before .before .before .before .before .before .before .before .before .before .before .args .at) (c .before .before .before .before .before .before .before .before .mark-at .ensures .0)) (c .before .before .before .before .before .before .before .match .rest .0 .0 .1)) (told-not (mark-of (c .before .before .before .before .before .before .before .before .before .before .before .before .before .args .levels) (c .before .before .before .before .before .before .before .before .before .before .before .before .before .args .tree .now) (c .before .before .before .before .before .before .before .before .before .before .before .before .before .args .at) (c .before .before .before .before .before .before .before .before .mark-at .ensures .0)) (c .before .before .before .before .before .before .before .match .rest .0 .1)) (told-not (mark-of (c .before .before .before .before .before .before .before .before .before .before .before .before .before .args .levels) (c .before .before .before .before .before .before .before .before .before .before .before .before .before .args .tree .now) (c .before .before .before .before .before .before .before .before .before .before .before .before .before .args .at) (c .before .before .before .before .before .before .before .before .mark-at .ensures .0)) (c .before .before .before .before .before .before .before .match .rest .1)))
 
 pub same-length : (t : ℕ) → transform-module-item-lts.Need-same-length (calls t) (transform-module-item-at t) transform-module-item.Post
 same-length t c = returns t c .step .ran .out .same

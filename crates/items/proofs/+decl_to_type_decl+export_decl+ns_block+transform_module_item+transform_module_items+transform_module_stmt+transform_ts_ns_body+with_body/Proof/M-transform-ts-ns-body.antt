@@ -50,10 +50,10 @@ pub returns : (t : ℕ) → transform-ts-ns-body-lts.Need-returns (calls t) (tra
 returns t c = c .before .before .before .before .ns-block .ensures
 
 pub returns-2 : (t : ℕ) → transform-ts-ns-body-lts.Need-returns-2 (calls t) (transform-ts-ns-body-at t) transform-ts-ns-body.Post
-returns-2 t c = makes-as (c .before .before .before .before .transform-ts-ns-body .ensures) (nested-is (c .before .before .before .before .before .before .before .before .before .before .before .before .before .before .before .args .list .now) (c .before .before .before .before .before .before .before .before .before .before .before .before .before .before .before .args .tree .now) (c .before .before .before .before .before .before .before .before .before .before .before .before .before .before .before .args .scope) (c .before .before .before .before .before .before .before .before .before .before .before .before .before .before .before .args .levels) (c .before .before .before .before .before .before .before .before .before .before .before .before .before .before .before .args .at) (nd-kids _ _ _ (c .before .before .before .before .before .before .before .before .before .before .before .before .before .before .before .pre .1 .accepted) (told (c .before .before .before .before .before .before .before .before .before .before .mark-at .ensures .0) (c .before .before .before .before .before .before .before .before .before .match .keys2)) (c .before .before .before .before .before .before .before .before .body-at .ensures) (c .before .before .before .before .before .before .before .record-end .ensures) refl) (c .before .before .before .before .before .before .before .before .before .before .before .before .before .before .before .args .s .n) (told (c .before .before .before .before .before .before .before .before .before .before .mark-at .ensures .0) (c .before .before .before .before .before .before .before .before .before .match .keys2)))
+returns-2 t c = makes-as (c .before .before .before .before .transform-ts-ns-body .ensures) (nested-is (c .before .before .before .before .before .before .before .before .before .before .before .before .before .before .before .args .list .now) (c .before .before .before .before .before .before .before .before .before .before .before .before .before .before .before .args .tree .now) (c .before .before .before .before .before .before .before .before .before .before .before .before .before .before .before .args .scope) (c .before .before .before .before .before .before .before .before .before .before .before .before .before .before .before .args .levels) (c .before .before .before .before .before .before .before .before .before .before .before .before .before .before .before .args .at) (nd-kids _ _ _ (c .before .before .before .before .before .before .before .before .before .before .before .before .before .before .before .pre .1 .accepted) (told (c .before .before .before .before .before .before .before .before .before .before .mark-at .ensures .0) (c .before .before .before .before .before .before .before .before .before .match .keys2)) (c .before .before .before .before .before .before .before .before .body-at .ensures) (c .before .before .before .before .before .before .before .record-end .ensures) refl) (c .before .before .before .before .before .before .before .before .before .before .before .before .before .before .before .args .s .counter) (told (c .before .before .before .before .before .before .before .before .before .before .mark-at .ensures .0) (c .before .before .before .before .before .before .before .before .before .match .keys2)))
 
 pub returns-3 : (t : ℕ) → transform-ts-ns-body-lts.Need-returns-3 (calls t) (transform-ts-ns-body-at t) transform-ts-ns-body.Post
-returns-3 t c = makes-as (makes-keeps _ (c .before .before .keep .ensures) (omega (arith, c .before .before .before .before .before .before .before .before .before .before .good))) (body-other (c .before .before .before .before .before .before .before .before .before .before .args .list .now) (c .before .before .before .before .before .before .before .before .before .before .args .tree .now) (c .before .before .before .before .before .before .before .before .before .before .args .scope) (treeAt (c .before .before .before .before .before .before .before .before .before .before .args .levels) (c .before .before .before .before .before .before .before .before .before .before .args .tree .now) (c .before .before .before .before .before .before .before .before .before .before .args .at)) (c .before .before .before .before .before .before .before .before .before .before .args .s .n) (told-not (mark-of (c .before .before .before .before .before .before .before .before .before .before .args .levels) (c .before .before .before .before .before .before .before .before .before .before .args .tree .now) (c .before .before .before .before .before .before .before .before .before .before .args .at) (c .before .before .before .before .before .mark-at .ensures .0)) (c .before .before .before .before .match .rest .0 .1)) (told-not (mark-of (c .before .before .before .before .before .before .before .before .before .before .args .levels) (c .before .before .before .before .before .before .before .before .before .before .args .tree .now) (c .before .before .before .before .before .before .before .before .before .before .args .at) (c .before .before .before .before .before .mark-at .ensures .0)) (c .before .before .before .before .match .rest .1)))
+returns-3 t c = makes-as (makes-keeps _ (c .before .before .keep .ensures) (omega (arith, c .before .before .before .before .before .before .before .before .before .before .good))) (body-other (c .before .before .before .before .before .before .before .before .before .before .args .list .now) (c .before .before .before .before .before .before .before .before .before .before .args .tree .now) (c .before .before .before .before .before .before .before .before .before .before .args .scope) (treeAt (c .before .before .before .before .before .before .before .before .before .before .args .levels) (c .before .before .before .before .before .before .before .before .before .before .args .tree .now) (c .before .before .before .before .before .before .before .before .before .before .args .at)) (c .before .before .before .before .before .before .before .before .before .before .args .s .counter) (told-not (mark-of (c .before .before .before .before .before .before .before .before .before .before .args .levels) (c .before .before .before .before .before .before .before .before .before .before .args .tree .now) (c .before .before .before .before .before .before .before .before .before .before .args .at) (c .before .before .before .before .before .mark-at .ensures .0)) (c .before .before .before .before .match .rest .0 .1)) (told-not (mark-of (c .before .before .before .before .before .before .before .before .before .before .args .levels) (c .before .before .before .before .before .before .before .before .before .before .args .tree .now) (c .before .before .before .before .before .before .before .before .before .before .args .at) (c .before .before .before .before .before .mark-at .ensures .0)) (c .before .before .before .before .match .rest .1)))
 
 pub same-length : (t : ℕ) → transform-ts-ns-body-lts.Need-same-length (calls t) (transform-ts-ns-body-at t) transform-ts-ns-body.Post
 same-length t c = returns t c .step .ran .out .same

@@ -17,7 +17,7 @@ same-length : tie.Need-same-length
 same-length c = search needs
 
 returns : tie.Need-returns
-returns c = puts-as (c .before .before .keep .ensures) (init-none _ _ _ (c .before .before .before .before .before .before .before .before .args .s .n) (told (c .before .before .before .before .before .mark-at .ensures .0) (c .before .before .before .before .if1 .taken)))
+returns c = puts-as (c .before .before .keep .ensures) (init-none _ _ _ (c .before .before .before .before .before .before .before .before .args .s .counter) (told (c .before .before .before .before .before .mark-at .ensures .0) (c .before .before .before .before .if1 .taken)))
 
 valid-enum-init-expr-requires : tie.Need-valid-enum-init-expr-requires
 valid-enum-init-expr-requires c κs = search needs
@@ -29,7 +29,7 @@ same-length-2 : tie.Need-same-length-2
 same-length-2 c = search needs
 
 returns-2 : tie.Need-returns-2
-returns-2 c = puts-as (c .before .before .keep2 .ensures) (init-kept _ _ _ (c .before .before .before .before .before .before .before .before .before .before .args .s .n) (told-not (c .before .before .before .before .before .before .before .mark-at .ensures .0) (c .before .before .before .before .before .before .if1 .left)) (c .before .before .before .before .before .valid-enum-init-expr .ensures) (c .before .before .before .before .if2 .taken))
+returns-2 c = puts-as (c .before .before .keep2 .ensures) (init-kept _ _ _ (c .before .before .before .before .before .before .before .before .before .before .args .s .counter) (told-not (c .before .before .before .before .before .before .before .mark-at .ensures .0) (c .before .before .before .before .before .before .if1 .left)) (c .before .before .before .before .before .valid-enum-init-expr .ensures) (c .before .before .before .before .if2 .taken))
 
 put-absent-requires : tie.Need-put-absent-requires
 put-absent-requires c κs = search needs
@@ -38,7 +38,7 @@ same-length-3 : tie.Need-same-length-3
 same-length-3 c = search needs
 
 returns-3 : tie.Need-returns-3
-returns-3 c = puts-as (absent-put (c .before .before .before .before .before .before .before .before .before .before .args .s) (c .before .before .put-absent .ensures)) (init-gone _ _ _ (c .before .before .before .before .before .before .before .before .before .before .args .s .n) (told-not (c .before .before .before .before .before .before .before .mark-at .ensures .0) (c .before .before .before .before .before .before .if1 .left)) (c .before .before .before .before .before .valid-enum-init-expr .ensures) (c .before .before .before .before .if2 .left))
+returns-3 c = puts-as (absent-put (c .before .before .before .before .before .before .before .before .before .before .args .s) (c .before .before .put-absent .ensures)) (init-gone _ _ _ (c .before .before .before .before .before .before .before .before .before .before .args .s .counter) (told-not (c .before .before .before .before .before .before .before .mark-at .ensures .0) (c .before .before .before .before .before .before .if1 .left)) (c .before .before .before .before .before .valid-enum-init-expr .ensures) (c .before .before .before .before .if2 .left))
 
 pub enum-init-spec : {M : Type 1} → statement M
 enum-init-spec =

@@ -111,7 +111,7 @@ module _ {M : Type 1} (𝓤 : URA M) (H : Heap 𝓤) (A : Atoms 𝓤) (W : Given
 
   -- the result, and its machine value
   abbrev made : ℕ → Made
-  made r = record { p = r; «id_counter» = n + 1 }
+  made r = record { written = r; «id_counter» = n + 1 }
 
   abbrev mach-made : ℕ → Val
   mach-made r = vstruct (vcons (vint w64 r) (vcons (vint w64 (n + 1)) vnil))

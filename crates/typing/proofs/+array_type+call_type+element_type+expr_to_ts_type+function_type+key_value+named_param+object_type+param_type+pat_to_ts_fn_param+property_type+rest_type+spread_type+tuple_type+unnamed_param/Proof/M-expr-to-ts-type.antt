@@ -102,7 +102,7 @@ pub same-length-4 : (t : ℕ) → expr-to-ts-type-lts.Need-same-length-4 (calls 
 same-length-4 t c = returns-2 t c .step .ran .dia .same
 
 pub returns-3 : (t : ℕ) → expr-to-ts-type-lts.Need-returns-3 (calls t) (expr-to-ts-type-at t) expr-to-ts-type.Post
-returns-3 t c = did-as (c .before .before .before .before .expr-to-ts-type .ensures) (type-const (c .before .before .before .before .before .before .before .before .before .before .before .before .before .args .tree .now) (c .before .before .before .before .before .before .before .before .before .before .before .before .before .args .mode) (c .before .before .before .before .before .before .before .before .before .before .before .before .before .args .levels) (c .before .before .before .before .before .before .before .before .before .before .before .before .before .args .at) (c .before .before .before .before .before .before .before .before .before .before .before .before .before .args .s .n) (c .before .before .before .before .before .before .before .before .before .before .before .before .before .pre .1 .accepted) (sym (c .before .before .before .before .before .before .before .before .before .mark-at .ensures .0) ∙ c .before .before .before .before .before .before .before .before .match .keys3) (placed (tc-expr _ _ _ (c .before .before .before .before .before .before .before .before .before .before .before .before .before .pre .1 .accepted) (sym (c .before .before .before .before .before .before .before .before .before .mark-at .ensures .0) ∙ c .before .before .before .before .before .before .before .before .match .keys3)) (c .before .before .before .before .before .before .before .body-at .ensures)))
+returns-3 t c = did-as (c .before .before .before .before .expr-to-ts-type .ensures) (type-const (c .before .before .before .before .before .before .before .before .before .before .before .before .before .args .tree .now) (c .before .before .before .before .before .before .before .before .before .before .before .before .before .args .mode) (c .before .before .before .before .before .before .before .before .before .before .before .before .before .args .levels) (c .before .before .before .before .before .before .before .before .before .before .before .before .before .args .at) (c .before .before .before .before .before .before .before .before .before .before .before .before .before .args .s .counter) (c .before .before .before .before .before .before .before .before .before .before .before .before .before .pre .1 .accepted) (sym (c .before .before .before .before .before .before .before .before .before .mark-at .ensures .0) ∙ c .before .before .before .before .before .before .before .before .match .keys3) (placed (tc-expr _ _ _ (c .before .before .before .before .before .before .before .before .before .before .before .before .before .pre .1 .accepted) (sym (c .before .before .before .before .before .before .before .before .before .mark-at .ensures .0) ∙ c .before .before .before .before .before .before .before .before .match .keys3)) (c .before .before .before .before .before .before .before .body-at .ensures)))
 
 pub same-length-5 : (t : ℕ) → expr-to-ts-type-lts.Need-same-length-5 (calls t) (expr-to-ts-type-at t) expr-to-ts-type.Post
 same-length-5 t c = returns-3 t c .step .ran .out .same
@@ -111,7 +111,7 @@ pub same-length-6 : (t : ℕ) → expr-to-ts-type-lts.Need-same-length-6 (calls 
 same-length-6 t c = returns-3 t c .step .ran .dia .same
 
 pub returns-4 : (t : ℕ) → expr-to-ts-type-lts.Need-returns-4 (calls t) (expr-to-ts-type-at t) expr-to-ts-type.Post
-returns-4 t c = did-as (c .before .before .before .before .expr-to-ts-type2 .ensures) (type-satisfies (c .before .before .before .before .before .before .before .before .before .before .before .before .before .args .tree .now) (c .before .before .before .before .before .before .before .before .before .before .before .before .before .args .mode) (c .before .before .before .before .before .before .before .before .before .before .before .before .before .args .levels) (c .before .before .before .before .before .before .before .before .before .before .before .before .before .args .at) (c .before .before .before .before .before .before .before .before .before .before .before .before .before .args .s .n) (c .before .before .before .before .before .before .before .before .before .before .before .before .before .pre .1 .accepted) (sym (c .before .before .before .before .before .before .before .before .before .mark-at .ensures .0) ∙ c .before .before .before .before .before .before .before .before .match .keys4) (placed (ts-expr _ _ _ (c .before .before .before .before .before .before .before .before .before .before .before .before .before .pre .1 .accepted) (sym (c .before .before .before .before .before .before .before .before .before .mark-at .ensures .0) ∙ c .before .before .before .before .before .before .before .before .match .keys4)) (c .before .before .before .before .before .before .before .body-at2 .ensures)))
+returns-4 t c = did-as (c .before .before .before .before .expr-to-ts-type2 .ensures) (type-satisfies (c .before .before .before .before .before .before .before .before .before .before .before .before .before .args .tree .now) (c .before .before .before .before .before .before .before .before .before .before .before .before .before .args .mode) (c .before .before .before .before .before .before .before .before .before .before .before .before .before .args .levels) (c .before .before .before .before .before .before .before .before .before .before .before .before .before .args .at) (c .before .before .before .before .before .before .before .before .before .before .before .before .before .args .s .counter) (c .before .before .before .before .before .before .before .before .before .before .before .before .before .pre .1 .accepted) (sym (c .before .before .before .before .before .before .before .before .before .mark-at .ensures .0) ∙ c .before .before .before .before .before .before .before .before .match .keys4) (placed (ts-expr _ _ _ (c .before .before .before .before .before .before .before .before .before .before .before .before .before .pre .1 .accepted) (sym (c .before .before .before .before .before .before .before .before .before .mark-at .ensures .0) ∙ c .before .before .before .before .before .before .before .before .match .keys4)) (c .before .before .before .before .before .before .before .body-at2 .ensures)))
 
 pub same-length-7 : (t : ℕ) → expr-to-ts-type-lts.Need-same-length-7 (calls t) (expr-to-ts-type-at t) expr-to-ts-type.Post
 same-length-7 t c = returns-4 t c .step .ran .out .same
@@ -120,13 +120,13 @@ pub same-length-8 : (t : ℕ) → expr-to-ts-type-lts.Need-same-length-8 (calls 
 same-length-8 t c = returns-4 t c .step .ran .dia .same
 
 pub returns-5 : (t : ℕ) → expr-to-ts-type-lts.Need-returns-5 (calls t) (expr-to-ts-type-at t) expr-to-ts-type.Post
-returns-5 t c = let k = as-type-of _ _ _ (c .before .before .before .before .before .before .before .before .before .pre .1 .accepted) (sym (c .before .before .before .before .before .mark-at .ensures .0) ∙ (c .before .before .before .before .match .keys5)) in did-as (did-put _ (c .before .before .before .before .before .before .before .before .before .args .s) (omega (arith, c .before .before .before .before .before .before .before .before .before .good)) (as-fits (c .before .before .before .before .before .before .before .before .before .args .mode .frozen) _ (kid-fits 1 _ (kids-fit _ (tree-fits _ _ _ (c .before .before .before .before .before .before .before .before .before .pre .1 .accepted) (c .before .before .before .before .before .before .before .before .shared-slice-known .given))))) (c .before .before .as-type .ensures)) (sym (type-as (c .before .before .before .before .before .before .before .before .before .args .tree .now) (c .before .before .before .before .before .before .before .before .before .args .mode) (c .before .before .before .before .before .before .before .before .before .args .levels) (c .before .before .before .before .before .before .before .before .before .args .at) (c .before .before .before .before .before .before .before .before .before .args .s .n) (sym (c .before .before .before .before .before .mark-at .ensures .0) ∙ (c .before .before .before .before .match .keys5)) k))
+returns-5 t c = let k = as-type-of _ _ _ (c .before .before .before .before .before .before .before .before .before .pre .1 .accepted) (sym (c .before .before .before .before .before .mark-at .ensures .0) ∙ (c .before .before .before .before .match .keys5)) in did-as (did-put _ (c .before .before .before .before .before .before .before .before .before .args .s) (omega (arith, c .before .before .before .before .before .before .before .before .before .good)) (as-fits (c .before .before .before .before .before .before .before .before .before .args .mode .frozen) _ (kid-fits 1 _ (kids-fit _ (tree-fits _ _ _ (c .before .before .before .before .before .before .before .before .before .pre .1 .accepted) (c .before .before .before .before .before .before .before .before .shared-slice-known .given))))) (c .before .before .as-type .ensures)) (sym (type-as (c .before .before .before .before .before .before .before .before .before .args .tree .now) (c .before .before .before .before .before .before .before .before .before .args .mode) (c .before .before .before .before .before .before .before .before .before .args .levels) (c .before .before .before .before .before .before .before .before .before .args .at) (c .before .before .before .before .before .before .before .before .before .args .s .counter) (sym (c .before .before .before .before .before .mark-at .ensures .0) ∙ (c .before .before .before .before .match .keys5)) k))
 
 pub same-length-9 : (t : ℕ) → expr-to-ts-type-lts.Need-same-length-9 (calls t) (expr-to-ts-type-at t) expr-to-ts-type.Post
 same-length-9 t c = returns-5 t c .step .ran .out .same
 
 pub returns-6 : (t : ℕ) → expr-to-ts-type-lts.Need-returns-6 (calls t) (expr-to-ts-type-at t) expr-to-ts-type.Post
-returns-6 t c = did-as (c .before .before .before .before .function-type .ensures) (type-fn (c .before .before .before .before .before .before .before .before .before .before .before .before .before .args .tree .now) (c .before .before .before .before .before .before .before .before .before .before .before .before .before .args .mode) (c .before .before .before .before .before .before .before .before .before .before .before .before .before .args .levels) (c .before .before .before .before .before .before .before .before .before .before .before .before .before .args .at) (c .before .before .before .before .before .before .before .before .before .before .before .before .before .args .s .n) (c .before .before .before .before .before .before .before .before .before .before .before .before .before .pre .1 .accepted) (sym (c .before .before .before .before .before .before .before .before .before .mark-at .ensures .0) ∙ c .before .before .before .before .before .before .before .before .match .keys6) (placed (fx-function _ _ _ (c .before .before .before .before .before .before .before .before .before .before .before .before .before .pre .1 .accepted) (sym (c .before .before .before .before .before .before .before .before .before .mark-at .ensures .0) ∙ c .before .before .before .before .before .before .before .before .match .keys6)) (second-at _ _ _ (c .before .before .before .before .before .before .before .child-at .ensures))))
+returns-6 t c = did-as (c .before .before .before .before .function-type .ensures) (type-fn (c .before .before .before .before .before .before .before .before .before .before .before .before .before .args .tree .now) (c .before .before .before .before .before .before .before .before .before .before .before .before .before .args .mode) (c .before .before .before .before .before .before .before .before .before .before .before .before .before .args .levels) (c .before .before .before .before .before .before .before .before .before .before .before .before .before .args .at) (c .before .before .before .before .before .before .before .before .before .before .before .before .before .args .s .counter) (c .before .before .before .before .before .before .before .before .before .before .before .before .before .pre .1 .accepted) (sym (c .before .before .before .before .before .before .before .before .before .mark-at .ensures .0) ∙ c .before .before .before .before .before .before .before .before .match .keys6) (placed (fx-function _ _ _ (c .before .before .before .before .before .before .before .before .before .before .before .before .before .pre .1 .accepted) (sym (c .before .before .before .before .before .before .before .before .before .mark-at .ensures .0) ∙ c .before .before .before .before .before .before .before .before .match .keys6)) (second-at _ _ _ (c .before .before .before .before .before .before .before .child-at .ensures))))
 
 pub same-length-10 : (t : ℕ) → expr-to-ts-type-lts.Need-same-length-10 (calls t) (expr-to-ts-type-at t) expr-to-ts-type.Post
 same-length-10 t c = returns-6 t c .step .ran .out .same
@@ -135,7 +135,7 @@ pub same-length-11 : (t : ℕ) → expr-to-ts-type-lts.Need-same-length-11 (call
 same-length-11 t c = returns-6 t c .step .ran .dia .same
 
 pub returns-7 : (t : ℕ) → expr-to-ts-type-lts.Need-returns-7 (calls t) (expr-to-ts-type-at t) expr-to-ts-type.Post
-returns-7 t c = did-as (c .before .before .before .before .function-type2 .ensures) (type-arrow (c .before .before .before .before .before .before .before .before .before .before .before .before .args .tree .now) (c .before .before .before .before .before .before .before .before .before .before .before .before .args .mode) (c .before .before .before .before .before .before .before .before .before .before .before .before .args .levels) (c .before .before .before .before .before .before .before .before .before .before .before .before .args .at) (c .before .before .before .before .before .before .before .before .before .before .before .before .args .s .n) (sym (c .before .before .before .before .before .before .before .before .mark-at .ensures .0) ∙ c .before .before .before .before .before .before .before .match .keys7))
+returns-7 t c = did-as (c .before .before .before .before .function-type2 .ensures) (type-arrow (c .before .before .before .before .before .before .before .before .before .before .before .before .args .tree .now) (c .before .before .before .before .before .before .before .before .before .before .before .before .args .mode) (c .before .before .before .before .before .before .before .before .before .before .before .before .args .levels) (c .before .before .before .before .before .before .before .before .before .before .before .before .args .at) (c .before .before .before .before .before .before .before .before .before .before .before .before .args .s .counter) (sym (c .before .before .before .before .before .before .before .before .mark-at .ensures .0) ∙ c .before .before .before .before .before .before .before .match .keys7))
 
 pub same-length-12 : (t : ℕ) → expr-to-ts-type-lts.Need-same-length-12 (calls t) (expr-to-ts-type-at t) expr-to-ts-type.Post
 same-length-12 t c = returns-7 t c .step .ran .out .same
@@ -153,7 +153,7 @@ pub same-length-15 : (t : ℕ) → expr-to-ts-type-lts.Need-same-length-15 (call
 same-length-15 t c = returns-8 t c .step .ran .dia .same
 
 pub returns-9 : (t : ℕ) → expr-to-ts-type-lts.Need-returns-9 (calls t) (expr-to-ts-type-at t) expr-to-ts-type.Post
-returns-9 t c = did-as (did-maybe _ (c .before .before .before .before .before .before .before .before .before .before .args .s) _ (omega (arith, c .before .before .before .before .before .before .before .before .before .before .good)) (omega (arith, c .before .before .before .before .before .before .before .before .before .before .good)) (leaf-fits (c .before .before .before .before .before .before .before .before .before .before .args .tree .now) (c .before .before .before .before .before .before .before .before .before .before .args .mode) (c .before .before .before .before .before .before .before .before .before .before .args .levels) (c .before .before .before .before .before .before .before .before .before .before .args .at) (tree-fits _ _ _ (c .before .before .before .before .before .before .before .before .before .before .pre .1 .accepted) (c .before .before .before .before .before .before .before .before .before .shared-slice-known .given))) (c .before .before .before .leaf-type .ensures) (c .answer-of .ensures)) (sym (leaf-is (c .before .before .before .before .before .before .before .before .before .before .args .tree .now) (c .before .before .before .before .before .before .before .before .before .before .args .mode) (c .before .before .before .before .before .before .before .before .before .before .args .levels) (c .before .before .before .before .before .before .before .before .before .before .args .at) (c .before .before .before .before .before .before .before .before .before .before .args .s .n) (λ e. c .before .before .before .before .before .match .rest .0 .0 .0 .0 .0 .0 .0 .1 (c .before .before .before .before .before .before .mark-at .ensures .0 ∙ e)) (λ e. c .before .before .before .before .before .match .rest .0 .0 .0 .0 .0 .0 .1 (c .before .before .before .before .before .before .mark-at .ensures .0 ∙ e)) (λ e. c .before .before .before .before .before .match .rest .0 .0 .0 .0 .0 .1 (c .before .before .before .before .before .before .mark-at .ensures .0 ∙ e)) (λ e. c .before .before .before .before .before .match .rest .0 .0 .0 .0 .1 (c .before .before .before .before .before .before .mark-at .ensures .0 ∙ e)) (λ e. c .before .before .before .before .before .match .rest .0 .0 .0 .1 (c .before .before .before .before .before .before .mark-at .ensures .0 ∙ e)) (λ e. c .before .before .before .before .before .match .rest .0 .0 .1 (c .before .before .before .before .before .before .mark-at .ensures .0 ∙ e)) (λ e. c .before .before .before .before .before .match .rest .0 .1 (c .before .before .before .before .before .before .mark-at .ensures .0 ∙ e)) (λ e. c .before .before .before .before .before .match .rest .1 (c .before .before .before .before .before .before .mark-at .ensures .0 ∙ e))))
+returns-9 t c = did-as (did-maybe _ (c .before .before .before .before .before .before .before .before .before .before .args .s) _ (omega (arith, c .before .before .before .before .before .before .before .before .before .before .good)) (omega (arith, c .before .before .before .before .before .before .before .before .before .before .good)) (leaf-fits (c .before .before .before .before .before .before .before .before .before .before .args .tree .now) (c .before .before .before .before .before .before .before .before .before .before .args .mode) (c .before .before .before .before .before .before .before .before .before .before .args .levels) (c .before .before .before .before .before .before .before .before .before .before .args .at) (tree-fits _ _ _ (c .before .before .before .before .before .before .before .before .before .before .pre .1 .accepted) (c .before .before .before .before .before .before .before .before .before .shared-slice-known .given))) (c .before .before .before .leaf-type .ensures) (c .answer-of .ensures)) (sym (leaf-is (c .before .before .before .before .before .before .before .before .before .before .args .tree .now) (c .before .before .before .before .before .before .before .before .before .before .args .mode) (c .before .before .before .before .before .before .before .before .before .before .args .levels) (c .before .before .before .before .before .before .before .before .before .before .args .at) (c .before .before .before .before .before .before .before .before .before .before .args .s .counter) (λ e. c .before .before .before .before .before .match .rest .0 .0 .0 .0 .0 .0 .0 .1 (c .before .before .before .before .before .before .mark-at .ensures .0 ∙ e)) (λ e. c .before .before .before .before .before .match .rest .0 .0 .0 .0 .0 .0 .1 (c .before .before .before .before .before .before .mark-at .ensures .0 ∙ e)) (λ e. c .before .before .before .before .before .match .rest .0 .0 .0 .0 .0 .1 (c .before .before .before .before .before .before .mark-at .ensures .0 ∙ e)) (λ e. c .before .before .before .before .before .match .rest .0 .0 .0 .0 .1 (c .before .before .before .before .before .before .mark-at .ensures .0 ∙ e)) (λ e. c .before .before .before .before .before .match .rest .0 .0 .0 .1 (c .before .before .before .before .before .before .mark-at .ensures .0 ∙ e)) (λ e. c .before .before .before .before .before .match .rest .0 .0 .1 (c .before .before .before .before .before .before .mark-at .ensures .0 ∙ e)) (λ e. c .before .before .before .before .before .match .rest .0 .1 (c .before .before .before .before .before .before .mark-at .ensures .0 ∙ e)) (λ e. c .before .before .before .before .before .match .rest .1 (c .before .before .before .before .before .before .mark-at .ensures .0 ∙ e))))
 
 pub same-length-16 : (t : ℕ) → expr-to-ts-type-lts.Need-same-length-16 (calls t) (expr-to-ts-type-at t) expr-to-ts-type.Post
 same-length-16 t c = returns-9 t c .step .ran .out .same

@@ -57,7 +57,7 @@ pub mark-diagnostic-requires : (t : ℕ) → pat-to-ts-fn-param-lts.Need-mark-di
 mark-diagnostic-requires t c κs = itself _ _ _ (placed (pe-expr _ _ _ (c .before .before .before .before .before .before .before .pre .1 .accepted) (sym (c .before .before .before .mark-at .ensures .0) ∙ c .before .before .match .keys3)) (c .before .body-at2 .ensures) .accepted) .room
 
 pub returns-2 : (t : ℕ) → pat-to-ts-fn-param-lts.Need-returns-2 (calls t) (pat-to-ts-fn-param-at t) pat-to-ts-fn-param.Post
-returns-2 t c = gave-keep _ (c .before .before .before .before .before .before .before .before .before .args .s) (omega (arith, c .before .before .before .before .before .before .before .before .before .good)) (tree-fits _ _ _ (c .before .before .before .before .before .before .before .before .before .pre .1 .accepted) (c .before .before .before .before .before .before .before .before .shared-slice-known .given)) (copied _ _ _ (c .before .before .before .before .before .before .before .before .before .pre .1 .accepted) (c .before .before .before .before .before .before .before .before .shared-slice-known .given) (c .before .before .put-record .ensures)) (pat-keep (c .before .before .before .before .before .before .before .before .before .args .tree .now) (c .before .before .before .before .before .before .before .before .before .args .scope) (c .before .before .before .before .before .before .before .before .before .args .levels) (c .before .before .before .before .before .before .before .before .before .args .at) (c .before .before .before .before .before .before .before .before .before .args .s .n) (rw (c .before .before .before .before .before .mark-at .ensures .0) at (c .before .before .before .before .match .keys1)))
+returns-2 t c = gave-keep _ (c .before .before .before .before .before .before .before .before .before .args .s) (omega (arith, c .before .before .before .before .before .before .before .before .before .good)) (tree-fits _ _ _ (c .before .before .before .before .before .before .before .before .before .pre .1 .accepted) (c .before .before .before .before .before .before .before .before .shared-slice-known .given)) (copied _ _ _ (c .before .before .before .before .before .before .before .before .before .pre .1 .accepted) (c .before .before .before .before .before .before .before .before .shared-slice-known .given) (c .before .before .put-record .ensures)) (pat-keep (c .before .before .before .before .before .before .before .before .before .args .tree .now) (c .before .before .before .before .before .before .before .before .before .args .scope) (c .before .before .before .before .before .before .before .before .before .args .levels) (c .before .before .before .before .before .before .before .before .before .args .at) (c .before .before .before .before .before .before .before .before .before .args .s .counter) (rw (c .before .before .before .before .before .mark-at .ensures .0) at (c .before .before .before .before .match .keys1)))
 
 pub same-length-3 : (t : ℕ) → pat-to-ts-fn-param-lts.Need-same-length-3 (calls t) (pat-to-ts-fn-param-at t) pat-to-ts-fn-param.Post
 same-length-3 t c = returns-2 t c .did .step .ran .out .same
@@ -72,10 +72,10 @@ pub same-length-5 : (t : ℕ) → pat-to-ts-fn-param-lts.Need-same-length-5 (cal
 same-length-5 t c = returns-3 t c .did .step .ran .dia .same
 
 pub returns-4 : (t : ℕ) → pat-to-ts-fn-param-lts.Need-returns-4 (calls t) (pat-to-ts-fn-param-at t) pat-to-ts-fn-param.Post
-returns-4 t c = gave-mark _ (c .before .before .before .before .before .before .before .before .before .before .args .s) (omega (arith, c .before .before .before .before .before .before .before .before .before .before .good)) (c .before .before .mark-diagnostic .ensures) (pat-expr (c .before .before .before .before .before .before .before .before .before .before .args .tree .now) (c .before .before .before .before .before .before .before .before .before .before .args .scope) (c .before .before .before .before .before .before .before .before .before .before .args .levels) (c .before .before .before .before .before .before .before .before .before .before .args .at) (c .before .before .before .before .before .before .before .before .before .before .args .s .n) (sym (c .before .before .before .before .before .before .mark-at .ensures .0) ∙ c .before .before .before .before .before .match .keys3) (placed (pe-expr _ _ _ (c .before .before .before .before .before .before .before .before .before .before .pre .1 .accepted) (sym (c .before .before .before .before .before .before .mark-at .ensures .0) ∙ c .before .before .before .before .before .match .keys3)) (c .before .before .before .before .body-at2 .ensures)))
+returns-4 t c = gave-mark _ (c .before .before .before .before .before .before .before .before .before .before .args .s) (omega (arith, c .before .before .before .before .before .before .before .before .before .before .good)) (c .before .before .mark-diagnostic .ensures) (pat-expr (c .before .before .before .before .before .before .before .before .before .before .args .tree .now) (c .before .before .before .before .before .before .before .before .before .before .args .scope) (c .before .before .before .before .before .before .before .before .before .before .args .levels) (c .before .before .before .before .before .before .before .before .before .before .args .at) (c .before .before .before .before .before .before .before .before .before .before .args .s .counter) (sym (c .before .before .before .before .before .before .mark-at .ensures .0) ∙ c .before .before .before .before .before .match .keys3) (placed (pe-expr _ _ _ (c .before .before .before .before .before .before .before .before .before .before .pre .1 .accepted) (sym (c .before .before .before .before .before .before .mark-at .ensures .0) ∙ c .before .before .before .before .before .match .keys3)) (c .before .before .before .before .body-at2 .ensures)))
 
 pub same-length-6 : (t : ℕ) → pat-to-ts-fn-param-lts.Need-same-length-6 (calls t) (pat-to-ts-fn-param-at t) pat-to-ts-fn-param.Post
 same-length-6 t c = returns-4 t c .did .step .ran .dia .same
 
 pub returns-5 : (t : ℕ) → pat-to-ts-fn-param-lts.Need-returns-5 (calls t) (pat-to-ts-fn-param-at t) pat-to-ts-fn-param.Post
-returns-5 t c = gave-none _ _ (c .before .before .before .before .before .args .s) (omega (arith, c .before .before .before .before .before .good)) (omega (arith, c .before .before .before .before .before .good)) (pat-other (c .before .before .before .before .before .args .tree .now) (c .before .before .before .before .before .args .scope) (c .before .before .before .before .before .args .levels) (c .before .before .before .before .before .args .at) (c .before .before .before .before .before .args .s .n) (rw (c .before .mark-at .ensures .0) at (c .match .rest .0 .0 .1)) (λ e. c .match .rest .0 .1 (c .before .mark-at .ensures .0 ∙ e)) (λ e. c .match .rest .1 (c .before .mark-at .ensures .0 ∙ e)))
+returns-5 t c = gave-none _ _ (c .before .before .before .before .before .args .s) (omega (arith, c .before .before .before .before .before .good)) (omega (arith, c .before .before .before .before .before .good)) (pat-other (c .before .before .before .before .before .args .tree .now) (c .before .before .before .before .before .args .scope) (c .before .before .before .before .before .args .levels) (c .before .before .before .before .before .args .at) (c .before .before .before .before .before .args .s .counter) (rw (c .before .mark-at .ensures .0) at (c .match .rest .0 .0 .1)) (λ e. c .match .rest .0 .1 (c .before .mark-at .ensures .0 ∙ e)) (λ e. c .match .rest .1 (c .before .mark-at .ensures .0 ∙ e)))
