@@ -14,7 +14,7 @@ use Rattle.prescan.specs.declared.Scope.{Scope}
 use Rattle.prescan.specs.Scope.{Skips}
 use Rattle.typing.specs.declared.State.{State}
 use Rattle.typing.specs.declared.Typed.{Typed}
-use Rattle.typing.specs.Did.{idsOf, answerOf, bytesOf, fitOf, Puts}
+use Rattle.typing.specs.Did.{idsOf, answerOf, bytesOf, fitOf, Writes}
 
 -- the typing of the expressions of a tree
 abbrev pub typingOf : List ℕ → Scope → Typing
@@ -35,4 +35,4 @@ returnPart setter r = cond setter (gone r) r
 pub record Named (o o' : List ℕ) (s : State) (r : Typed) (k : Option Rec) : Type 0 where
   pub after : State
   pub answer : r ≡ answerOf k after
-  pub puts : Puts o o' s after (bytesOf k) (fitOf k)
+  pub puts : Writes o o' s after (bytesOf k) (fitOf k)

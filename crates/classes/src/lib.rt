@@ -8,7 +8,7 @@ ghost use Rattle.definition.specs.Record.{kidsOf, kid};
 ghost use Rattle.definition.specs.Names.{validPropName};
 ghost use Rattle.definition.specs.Classes.{handleFunction, constructor, method, propType, classProp, member, class};
 ghost use Rattle.typing.specs.Did.{Ready};
-ghost use Rattle.typing.specs.Below.{Gives};
+ghost use Rattle.typing.specs.Below.{MakesCounted};
 ghost use Rattle.parts.specs.Makes.{Keeps, Makes};
 ghost use Rattle.classes.specs.Typings.{typingOf, returnPart, Named};
 use crate::overloads::is_impl_with_overloads;
@@ -73,7 +73,7 @@ fn put_prop_name(
 }
 
 // The return type of a function: "Setters lose the return type".
-fn put_return_type(
+fn keep_return_type(
     tree: &[u8],
     at: usize,
     levels: usize,
@@ -114,7 +114,7 @@ pub fn handle_function(
     let params = record_end(tree, body, levels - 1);
     let front = put_front(tree, at, levels, head.flags, head.count, out, s);
     let kept = keep(tree, type_params, levels - 1, out, front);
-    let typed = put_return_type(tree, return_type, levels - 1, setter, out, kept);
+    let typed = keep_return_type(tree, return_type, levels - 1, setter, out, kept);
     let bare = put_gone(tree, body, levels - 1, out, typed);
     handle_func_params(
         tree,
@@ -140,7 +140,7 @@ fn constructor(
 ) -> Counted
     requires { ⌜ Ready levels (now tree) at (s .counter) scope × (markAt (now tree) at ≡ mark "Co") ⌝ }
     ensures { λ r. ⌜
-        Gives (now (out .entry)) (now (out .exit)) (now (diagnostics .entry)) (now (diagnostics .exit)) s r
+        MakesCounted (now (out .entry)) (now (out .exit)) (now (diagnostics .entry)) (now (diagnostics .exit)) s r
         (constructor (typingOf (now (tree .entry)) scope) (treeAt levels (now (tree .entry)) at) (s .counter))
         ⌝ }
 {
@@ -174,7 +174,7 @@ fn method(
 ) -> Counted
     requires { ⌜ Ready levels (now tree) at (s .counter) scope × (markAt (now tree) at ≡ mark "Me") ⌝ }
     ensures { λ r. ⌜
-        Gives (now (out .entry)) (now (out .exit)) (now (diagnostics .entry)) (now (diagnostics .exit)) s r
+        MakesCounted (now (out .entry)) (now (out .exit)) (now (diagnostics .entry)) (now (diagnostics .exit)) s r
         (method (typingOf (now (tree .entry)) scope) (treeAt levels (now (tree .entry)) at)
         (validPropName (scope .unresolved) (kid 0 (kidsOf (treeAt levels (now (tree .entry)) at)))) (s .counter))
         ⌝ }
@@ -246,7 +246,7 @@ fn class_prop(
 ) -> Counted
     requires { ⌜ Ready levels (now tree) at (s .counter) scope × (markAt (now tree) at ≡ mark "Cp") ⌝ }
     ensures { λ r. ⌜
-        Gives (now (out .entry)) (now (out .exit)) (now (diagnostics .entry)) (now (diagnostics .exit)) s r
+        MakesCounted (now (out .entry)) (now (out .exit)) (now (diagnostics .entry)) (now (diagnostics .exit)) s r
         (classProp (typingOf (now (tree .entry)) scope) (treeAt levels (now (tree .entry)) at)
         (validPropName (scope .unresolved) (kid 0 (kidsOf (treeAt levels (now (tree .entry)) at)))) (s .counter))
         ⌝ }
@@ -291,7 +291,7 @@ fn class_member(
 ) -> Counted
     requires { ⌜ Ready levels (now tree) at (s .counter) scope ⌝ }
     ensures { λ r. ⌜
-        Gives (now (out .entry)) (now (out .exit)) (now (diagnostics .entry)) (now (diagnostics .exit)) s r
+        MakesCounted (now (out .entry)) (now (out .exit)) (now (diagnostics .entry)) (now (diagnostics .exit)) s r
         (member (now (list .entry)) (scope .unresolved) (typingOf (now (tree .entry)) scope) (treeAt levels (now (tree .entry)) at) (s .counter))
         ⌝ }
 {

@@ -15,8 +15,8 @@ use Rattle.definition.specs.Transform.{textsFit, allTextsFit}
 use Rattle.records.specs.declared.Head.{Head as Fields}
 use Rattle.records.specs.Fields.{fieldsAt}
 use Rattle.typing.specs.declared.State.{State}
-use Rattle.typing.specs.Did.{Puts}
-use Rattle.records.specs.Wrote.{top}
+use Rattle.typing.specs.Did.{Writes}
+use Rattle.records.specs.Wrote.{highest}
 use Rattle.typing.proofs.Fits.{all-join, all-one}
 use Rattle.typing.proofs.Loops.{rest, encodes-join, encodes-one}
 use Rattle.typing.proofs.Written.{puts-as, puts-counter}
@@ -28,9 +28,9 @@ use Rattle.parts.proofs.Makes.{makes-as}
 
 -- the front of a record with the head h and k children, and the first of them
 pub record Begun (o o' : List ℕ) (s s' : State) (h : Head) (k : ℕ) (ks : Recs) : Type 0 where
-  pub puts : Puts o o' s s' (frontBytes h k ++ encodes ks) (allTextsFit ks)
+  pub puts : Writes o o' s s' (frontBytes h k ++ encodes ks) (allTextsFit ks)
 
-pub begun : {o o' : List ℕ} {s s' : State} (h : Head) (k : ℕ) → Puts o o' s s' (frontBytes h k) true → Begun o o' s s' h k nil
+pub begun : {o o' : List ℕ} {s s' : State} (h : Head) (k : ℕ) → Writes o o' s s' (frontBytes h k) true → Begun o o' s s' h k nil
 unfolding encodes allTextsFit
 begun h k w = record { puts = puts-to w (sym (append-nil (frontBytes h k))) refl }
 
@@ -54,7 +54,7 @@ begun-done {h = h} {ks = ks} w e t =
     (ap (λ (n : ℕ). frontBytes h n ++ encodes ks) e ∙ append-assoc (headBytes h (count ks)) (h .text) (encodes ks))
     (ap (λ (b : Bool). b && allTextsFit ks) (sym (lt-ltb (length (h .text)) 65536 t)))
 
-pub puts-length : {o o' : List ℕ} {x x' : State} {E : List ℕ} {f : Bool} → Puts o o' x x' E f → length o' ≡ length o
+pub puts-length : {o o' : List ℕ} {x x' : State} {E : List ℕ} {f : Bool} → Writes o o' x x' E f → length o' ≡ length o
 puts-length {o} {x = x} {E = E} w = ap length (w .put .bytes) ∙ length-sets o (x .written) E
 
 -- ---- the children behind the first ones, by the count that the code has read
@@ -70,7 +70,7 @@ others-three {s = s} {at = at} u e = others-as s at e 3 (u .others)
 
 -- ---- a record of the tree with another child in the place of its first, its second or its third
 
-module _ (levels : ℕ) (s : List ℕ) (at : ℕ) {h : Fields} (e : h ≡ fieldsAt s at) {o o1 : List ℕ} {x x1 : State} (l : length o < 2 ^ 64) (H : Head) (v : Puts o o1 x x1 (frontBytes H (countAt s at)) true)
+module _ (levels : ℕ) (s : List ℕ) (at : ℕ) {h : Fields} (e : h ≡ fieldsAt s at) {o o1 : List ℕ} {x x1 : State} (l : length o < 2 ^ 64) (H : Head) (v : Writes o o1 x x1 (frontBytes H (countAt s at)) true)
     (short : length (H .text) < 65536) (t : Rec) where
   pub keeps-first : {p0 p1 : ℕ} → One levels s at p0 p1 → {o2 o3 : List ℕ} {x2 x3 : State} → Keeps o1 o2 x1 x2 t → KeepsAll o2 o3 x2 x3 (rest levels s (h .count - 1) p1)
       → Keeps o o3 x x3 (rec H (cons t (rest levels s (countAt s at - 1) p1)))
@@ -94,7 +94,7 @@ module _ (levels : ℕ) (s : List ℕ) (at : ℕ) {h : Fields} (e : h ≡ fields
 -- ---- the same by a step on that child
 
 module _ {levels : ℕ} {s : List ℕ} {at : ℕ} (a : AcceptedAt levels s at) (known : (i : ℕ) → mir.Val.Fits w8 (getD s i 0)) {o o1 : List ℕ} {x x1 : State} (l : length o < 2 ^ 64) {h : Fields} (e : h ≡ fieldsAt s at)
-    (v : Puts o o1 x x1 (frontBytes (withFlags (headAt s at) (h .flags)) (h .count)) true) where
+    (v : Writes o o1 x x1 (frontBytes (withFlags (headAt s at) (h .flags)) (h .count)) true) where
   pub first-step : (f : Rec → ℕ → Out Rec) → {p0 p1 : ℕ} → One levels s at p0 p1 → {o2 o3 : List ℕ} {x2 x3 : State} → Keeps o1 o2 x1 x2 (f (treeAt (levels - 1) s p0) (x1 .counter) .0)
       → KeepsAll o2 o3 x2 x3 (rest levels s (h .count - 1) p1) → Keeps o o3 x x3 (wrap (headOf (treeAt levels s at)) (atKid 0 f (kidsOf (treeAt levels s at)) (x .counter)) .0)
   first-step f {p0} {p1} u b z =
@@ -112,7 +112,7 @@ module _ {levels : ℕ} {s : List ℕ} {at : ℕ} (a : AcceptedAt levels s at) (
 
 -- ---- the same where the step may give diagnostics and raise the counter
 
-module _ (levels : ℕ) (s : List ℕ) (at : ℕ) (H : Head) (short : length (H .text) < 65536) {o o1 : List ℕ} {x x1 : State} (d : x .reported ≤ top) (v : Puts o o1 x x1 (frontBytes H (countAt s at)) true) {h : Fields} (e : h ≡ fieldsAt s at)
+module _ (levels : ℕ) (s : List ℕ) (at : ℕ) (H : Head) (short : length (H .text) < 65536) {o o1 : List ℕ} {x x1 : State} (d : x .reported ≤ highest) (v : Writes o o1 x x1 (frontBytes H (countAt s at)) true) {h : Fields} (e : h ≡ fieldsAt s at)
     (f : Rec → ℕ → Out Rec) where
   pub makes-first : {p0 p1 : ℕ} → One levels s at p0 p1 → {o2 o3 g g' : List ℕ} {x2 x3 : State} → Makes o1 o2 g g' x1 x2 (f (treeAt (levels - 1) s p0) (x1 .counter)) → KeepsAll o2 o3 x2 x3 (rest levels s (h .count - 1) p1)
       → Makes o o3 g g' x x3 (wrap H (atKid 0 f (kidsOf (treeAt levels s at)) (x .counter)))

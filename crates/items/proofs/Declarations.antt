@@ -18,10 +18,10 @@ use Rattle.definition.proofs.Converse.{count-readAll}
 use Rattle.definition.proofs.Kids.{head-is, fixed, placed, member-one, second-in, has}
 use Rattle.records.specs.declared.Head.{Head as Fields}
 use Rattle.records.specs.Fields.{fieldsAt}
-use Rattle.records.specs.Wrote.{top}
+use Rattle.records.specs.Wrote.{highest}
 use Rattle.prescan.specs.declared.Scope.{Scope}
 use Rattle.typing.specs.declared.State.{State}
-use Rattle.typing.specs.Did.{Puts}
+use Rattle.typing.specs.Did.{Writes}
 use Rattle.typing.proofs.Loops.{rest}
 use Rattle.typing.proofs.Slots.{fx-function}
 use Rattle.typing.proofs.Written.{puts-as, puts-counter}
@@ -58,7 +58,7 @@ module _ (levels : ℕ) (s : List ℕ) (at : ℕ) (a : AcceptedAt levels s at) w
   each-is f flags n = ap (λ (r : Rec). wrap (withFlags (headOf r) flags) (each f 0 (kidsOf r) n)) (sym (tree-is levels s at a))
 
   pub members-written : ((i : ℕ) → mir.Val.Fits w8 (getD s i 0)) → (flags : ℕ) {o o1 o2 : List ℕ} {x x1 x2 : State} {h : Fields} {b : ℕ} → length o < 2 ^ 64 → h ≡ fieldsAt s at → b ≡ bodyAt s at
-      → Puts o o1 x x1 (frontBytes (withFlags (headAt s at) flags) (h .count)) true → KeepsAll o1 o2 x1 x2 (each (λ i. enumMember) 0 (recordsAt (levels - 1) s (h .count) b) (x1 .counter) .0)
+      → Writes o o1 x x1 (frontBytes (withFlags (headAt s at) flags) (h .count)) true → KeepsAll o1 o2 x1 x2 (each (λ i. enumMember) 0 (recordsAt (levels - 1) s (h .count) b) (x1 .counter) .0)
       → Keeps o o2 x x2 (withMembers flags (treeAt levels s at) (x .counter) .0)
   members-written known flags {x = x} {x1 = x1} l e f v w =
       let H : Head = withFlags (headAt s at) flags in
@@ -66,8 +66,8 @@ module _ (levels : ℕ) (s : List ℕ) (at : ℕ) (a : AcceptedAt levels s at) w
       (begun-done (begun-all l (begun H (countAt s at) (front-flags s at e (λ _. flags) v)) (each (λ i. enumMember) 0 childrenOf (x1 .counter) .0) (rw (e, f) at w)) (each-many (λ i. enumMember) (x1 .counter)) (head-short levels s at a known))
       (ap (λ (n : ℕ). rec H (each (λ i. enumMember) 0 childrenOf n .0)) (puts-counter v) ∙ ap (λ (o : Out Rec). o .0) (each-is (λ i. enumMember) flags (x .counter)))
 
-  pub declarators-made : ((i : ℕ) → mir.Val.Fits w8 (getD s i 0)) → (scope : Scope) (flags : ℕ) {o o1 o2 g g' : List ℕ} {x x1 x2 : State} {h : Fields} {b : ℕ} → x .reported ≤ top → h ≡ fieldsAt s at → b ≡ bodyAt s at
-      → Puts o o1 x x1 (frontBytes (withFlags (headAt s at) flags) (h .count)) true
+  pub declarators-made : ((i : ℕ) → mir.Val.Fits w8 (getD s i 0)) → (scope : Scope) (flags : ℕ) {o o1 o2 g g' : List ℕ} {x x1 x2 : State} {h : Fields} {b : ℕ} → x .reported ≤ highest → h ≡ fieldsAt s at → b ≡ bodyAt s at
+      → Writes o o1 x x1 (frontBytes (withFlags (headAt s at) flags) (h .count)) true
       → MakesAll o1 o2 g g' x1 x2 (each (λ i. declarator (typingOf s scope)) 0 (recordsAt (levels - 1) s (h .count) b) (x1 .counter))
       → Makes o o2 g g' x x2 (withDeclarators s scope flags (treeAt levels s at) (x .counter))
   declarators-made known scope flags {o} {o1} {o2} {g} {g'} {x} {x1} {x2} d e f v w =
@@ -98,7 +98,7 @@ module _ (levels : ℕ) (s : List ℕ) (at : ℕ) (a : AcceptedAt levels s at) w
       ∙ ap (λ (r : Rec). withoutBody r n .0) (sym (u .is))
 
   pub body-written : ((i : ℕ) → mir.Val.Fits w8 (getD s i 0)) → {o o1 o2 o3 o4 o5 : List ℕ} {x x1 x2 x3 x4 x5 : State} {h : Fields} {p0 p1 p2 p3 : ℕ} → Three levels s at p0 p1 p2 p3 → length o < 2 ^ 64 → h ≡ fieldsAt s at
-      → Puts o o1 x x1 (frontBytes (withFlags (headAt s at) (h .flags)) (h .count)) true → Keeps o1 o2 x1 x2 (treeAt (levels - 1) s p0) → Keeps o2 o3 x2 x3 (treeAt (levels - 1) s p1)
+      → Writes o o1 x x1 (frontBytes (withFlags (headAt s at) (h .flags)) (h .count)) true → Keeps o1 o2 x1 x2 (treeAt (levels - 1) s p0) → Keeps o2 o3 x2 x3 (treeAt (levels - 1) s p1)
       → Keeps o3 o4 x3 x4 (gone (treeAt (levels - 1) s p2)) → KeepsAll o4 o5 x4 x5 (rest levels s (h .count - 3) p3) → Keeps o o5 x x5 (withoutBody (treeAt levels s at) (x .counter) .0)
   body-written known {x = x} {p2 = p2} u l e v b c d z =
       puts-as (keeps-third levels s at e l (headAt s at) (front-as s at e v) (head-short levels s at a known) (gone (treeAt (levels - 1) s p2)) u b c d z) (body-gone u (x .counter))
@@ -127,8 +127,8 @@ module _ (levels : ℕ) (s : List ℕ) (at : ℕ) (a : AcceptedAt levels s at) w
 
   -- a step on the second child, with other flags
   pub flagged-second : ((i : ℕ) → mir.Val.Fits w8 (getD s i 0)) → (f : Rec → ℕ → Out Rec) (flags : ℕ) {p0 p1 p2 : ℕ} → Two levels s at p0 p1 p2
-      → {o o1 o2 o3 o4 g g' : List ℕ} {x x1 x2 x3 x4 : State} {h : Fields} → x .reported ≤ top → h ≡ fieldsAt s at
-      → Puts o o1 x x1 (frontBytes (withFlags (headAt s at) flags) (h .count)) true → Keeps o1 o2 x1 x2 (treeAt (levels - 1) s p0) → Makes o2 o3 g g' x2 x3 (f (treeAt (levels - 1) s p1) (x2 .counter))
+      → {o o1 o2 o3 o4 g g' : List ℕ} {x x1 x2 x3 x4 : State} {h : Fields} → x .reported ≤ highest → h ≡ fieldsAt s at
+      → Writes o o1 x x1 (frontBytes (withFlags (headAt s at) flags) (h .count)) true → Keeps o1 o2 x1 x2 (treeAt (levels - 1) s p0) → Makes o2 o3 g g' x2 x3 (f (treeAt (levels - 1) s p1) (x2 .counter))
       → KeepsAll o3 o4 x3 x4 (rest levels s (h .count - 2) p2) → Makes o o4 g g' x x4 (wrap (withFlags (headOf (treeAt levels s at)) flags) (atKid 1 f (kidsOf (treeAt levels s at)) (x .counter)))
   flagged-second known f flags u {x = x} d e v b c z =
       makes-as (makes-second levels s at (withFlags (headAt s at) flags) (head-short levels s at a known) d (front-flags s at e (λ _. flags) v) e f u b c z)

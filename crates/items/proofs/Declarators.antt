@@ -21,12 +21,12 @@ use Rattle.definition.proofs.Counting.{exprToTsType-within}
 use Rattle.definition.proofs.Kids.{head-is, is-mark, not-mark, has}
 use Rattle.records.specs.declared.Head.{Head as Fields}
 use Rattle.records.specs.Fields.{fieldsAt}
-use Rattle.records.specs.Wrote.{top}
+use Rattle.records.specs.Wrote.{highest}
 use Rattle.prescan.specs.declared.Scope.{Scope}
 use Rattle.typing.specs.declared.State.{State}
 use Rattle.typing.specs.declared.Mode.{Mode}
 use Rattle.typing.specs.declared.Typed.{Typed}
-use Rattle.typing.specs.Did.{Ready, idsOf, typeOf, diagAt, Puts, Marks, Did, Filled}
+use Rattle.typing.specs.Did.{Ready, idsOf, typeOf, diagAt, Writes, Marks, MakesMaybe, Filled}
 use Rattle.typing.proofs.Loops.{rest}
 use Rattle.typing.proofs.Steps.{filled}
 use Rattle.typing.proofs.Written.{puts-counter}
@@ -62,12 +62,12 @@ module _ (tree : List ℕ) (scope : Scope) (levels at init n : ℕ) where
   unfolding headAt typeOf
   init-type e = rw (not-mark levels tree init (mark "No") e)
 
-pub type-any : (tree : List ℕ) (scope : Scope) (levels at init : ℕ) {o o' g g' : List ℕ} {s s1 s2 : State} → markAt tree init ≡ mark "No" → s .reported ≤ top → Keeps o o' s s1 (anyTypeAnn dummySp)
+pub type-any : (tree : List ℕ) (scope : Scope) (levels at init : ℕ) {o o' g g' : List ℕ} {s s1 s2 : State} → markAt tree init ≡ mark "No" → s .reported ≤ highest → Keeps o o' s s1 (anyTypeAnn dummySp)
     → Marks g g' s1 s2 (diagAt tree at (mark "d2")) → Makes o o' g g' s s2 (declaratorType (typingOf tree scope) (headAt tree at) (treeAt levels tree init) (s .counter))
 type-any tree scope levels at init {g = g} {s = s} m d v w = makes-as (makes-mark (makes-keeps g v d) w) (any-type tree scope levels at init (s .counter) m)
 
 pub type-init : (tree : List ℕ) (scope : Scope) (levels at init : ℕ) {o o1 o2 g g1 g2 : List ℕ} {s r : State} {t : Typed} {m : Mode} → (markAt tree init ≡ mark "No" → ⊥) → m ≡ readonlyMode scope
-    → Did o o1 g g1 s t (typeOf tree m levels init (s .counter)) → Filled o1 o2 g1 g2 t r (diagAt tree at (mark "d2")) → Makes o o2 g g2 s r (declaratorType (typingOf tree scope) (headAt tree at) (treeAt levels tree init) (s .counter))
+    → MakesMaybe o o1 g g1 s t (typeOf tree m levels init (s .counter)) → Filled o1 o2 g1 g2 t r (diagAt tree at (mark "d2")) → Makes o o2 g g2 s r (declaratorType (typingOf tree scope) (headAt tree at) (treeAt levels tree init) (s .counter))
 type-init tree scope levels at init {s = s} n e v w = makes-as (record { step = filled (rw e at v) w }) (init-type tree scope levels at init (s .counter) n)
 
 -- ---- a Bd as the pattern
@@ -84,7 +84,7 @@ bindingOf tree scope levels at init n =
 
 module _ (tree : List ℕ) (scope : Scope) (levels at init : ℕ) {p0 p1 p2 : ℕ} (u : Two levels tree at p0 p1 p2) where
   -- it has a type
-  pub binding-kept : {o o' : List ℕ} (g : List ℕ) {s s' : State} → (markAt tree p1 ≡ mark "No" → ⊥) → Keeps o o' s s' (treeAt levels tree at) → s .reported ≤ top → Makes o o' g g s s' (bindingOf tree scope levels at init (s .counter))
+  pub binding-kept : {o o' : List ℕ} (g : List ℕ) {s s' : State} → (markAt tree p1 ≡ mark "No" → ⊥) → Keeps o o' s s' (treeAt levels tree at) → s .reported ≤ highest → Makes o o' g g s s' (bindingOf tree scope levels at init (s .counter))
   binding-kept g {s} m w d =
       let f : ℕ → Out Rec = declaratorType (typingOf tree scope) (headOf (treeAt levels tree at)) (treeAt levels tree init) in
       makes-as (makes-keeps g w d)
@@ -93,8 +93,8 @@ module _ (tree : List ℕ) (scope : Scope) (levels at init : ℕ) {p0 p1 p2 : �
       ∙ ap (λ (r : Rec). wrap (headOf r) (atKid 1 (typeOr f) (kidsOf r) (s .counter))) (sym (u .is))))
 
   -- it has none
-  pub binding-typed : AcceptedAt levels tree at → ((i : ℕ) → mir.Val.Fits w8 (getD tree i 0)) → {o o1 o2 o3 o4 g g' : List ℕ} {s s1 s2 s3 s4 : State} {h : Fields} → h ≡ fieldsAt tree at → markAt tree p1 ≡ mark "No" → s .reported ≤ top
-      → Puts o o1 s s1 (frontBytes (withFlags (headAt tree at) (h .flags)) (h .count)) true → Keeps o1 o2 s1 s2 (treeAt (levels - 1) tree p0)
+  pub binding-typed : AcceptedAt levels tree at → ((i : ℕ) → mir.Val.Fits w8 (getD tree i 0)) → {o o1 o2 o3 o4 g g' : List ℕ} {s s1 s2 s3 s4 : State} {h : Fields} → h ≡ fieldsAt tree at → markAt tree p1 ≡ mark "No" → s .reported ≤ highest
+      → Writes o o1 s s1 (frontBytes (withFlags (headAt tree at) (h .flags)) (h .count)) true → Keeps o1 o2 s1 s2 (treeAt (levels - 1) tree p0)
       → Makes o2 o3 g g' s2 s3 (declaratorType (typingOf tree scope) (headAt tree at) (treeAt levels tree init) (s2 .counter)) → KeepsAll o3 o4 s3 s4 (rest levels tree (h .count - 2) p2)
       → Makes o o4 g g' s s4 (bindingOf tree scope levels at init (s .counter))
   binding-typed a known {s2 = s2} e m d v b c z =
@@ -109,7 +109,7 @@ module _ (tree : List ℕ) (scope : Scope) (levels at : ℕ) {p0 p1 p2 : ℕ} (u
   pattern-is : (n : ℕ) → declaratorPattern (typingOf tree scope) (headAt tree at) (treeAt (levels - 1) tree p1) (treeAt (levels - 1) tree p0) n ≡ patternOf tree scope (treeAt levels tree at) n
   pattern-is n = ap (λ (r : Rec). patternOf tree scope r n) (sym (u .is))
 
-  pub pattern-other : {o o' g g' : List ℕ} {s s1 s2 : State} → (markAt tree p0 ≡ mark "Bd" → ⊥) → s .reported ≤ top → Keeps o o' s s1 (treeAt (levels - 1) tree p0) → Marks g g' s1 s2 (diagAt tree at (mark "d1"))
+  pub pattern-other : {o o' g g' : List ℕ} {s s1 s2 : State} → (markAt tree p0 ≡ mark "Bd" → ⊥) → s .reported ≤ highest → Keeps o o' s s1 (treeAt (levels - 1) tree p0) → Marks g g' s1 s2 (diagAt tree at (mark "d1"))
       → Makes o o' g g' s s2 (patternOf tree scope (treeAt levels tree at) (s .counter))
   unfolding headAt declaratorPattern
   pattern-other {g = g} {s = s} m d v w =
@@ -126,7 +126,7 @@ module _ (tree : List ℕ) (scope : Scope) (levels at : ℕ) {p0 p1 p2 : ℕ} (u
 
 -- ---- a Vr, or another child of a Vd
 
-pub declarator-other : (tree : List ℕ) (scope : Scope) (levels at : ℕ) {o o' : List ℕ} (g : List ℕ) {s s' : State} → (markAt tree at ≡ mark "Vr" → ⊥) → Keeps o o' s s' (treeAt levels tree at) → s .reported ≤ top
+pub declarator-other : (tree : List ℕ) (scope : Scope) (levels at : ℕ) {o o' : List ℕ} (g : List ℕ) {s s' : State} → (markAt tree at ≡ mark "Vr" → ⊥) → Keeps o o' s s' (treeAt levels tree at) → s .reported ≤ highest
     → Makes o o' g g s s' (declarator (typingOf tree scope) (treeAt levels tree at) (s .counter))
 unfolding declarator
 declarator-other tree scope levels at g {s} m w d =
@@ -134,8 +134,8 @@ declarator-other tree scope levels at g {s} m w d =
     makes-as (makes-keeps g w d) z
 
 pub declarator-made : (tree : List ℕ) (scope : Scope) (levels at : ℕ) → AcceptedAt levels tree at → ((i : ℕ) → mir.Val.Fits w8 (getD tree i 0)) → {p0 p1 p2 : ℕ} → Two levels tree at p0 p1 p2 → markAt tree at ≡ mark "Vr"
-    → {o o1 o2 o3 o4 g g' : List ℕ} {s s1 s2 s3 s4 : State} {h : Fields} → h ≡ fieldsAt tree at → s .reported ≤ top
-    → Puts o o1 s s1 (frontBytes (withFlags (headAt tree at) (h .flags)) (h .count)) true → Makes o1 o2 g g' s1 s2 (patternOf tree scope (treeAt levels tree at) (s1 .counter))
+    → {o o1 o2 o3 o4 g g' : List ℕ} {s s1 s2 s3 s4 : State} {h : Fields} → h ≡ fieldsAt tree at → s .reported ≤ highest
+    → Writes o o1 s s1 (frontBytes (withFlags (headAt tree at) (h .flags)) (h .count)) true → Makes o1 o2 g g' s1 s2 (patternOf tree scope (treeAt levels tree at) (s1 .counter))
     → Keeps o2 o3 s2 s3 (gone (treeAt (levels - 1) tree p1)) → KeepsAll o3 o4 s3 s4 (rest levels tree (h .count - 2) p2) → Makes o o4 g g' s s4 (declarator (typingOf tree scope) (treeAt levels tree at) (s .counter))
 unfolding declarator
 declarator-made tree scope levels at a known {p0} {p1} {p2} u m {g' = g'} {s = s} e d v b c z =
@@ -164,7 +164,7 @@ module _ (tree : List ℕ) (scope : Scope) (levels : ℕ) where
   abbrev pub Declaring : ℕ → ℕ → List ℕ → List ℕ → List ℕ → List ℕ → State → State → ℕ → ℕ → Type 0
   Declaring n at o0 o g0 g s0 s k c = Making (declaratorStep tree scope) levels tree (remaining (declaratorStep tree scope) levels tree n at (s0 .counter)) o0 o g0 g s0 s k c
 
-  pub declaring-start : (o g : List ℕ) (s : State) {n at : ℕ} → ReadyAll levels tree n at (s .counter) scope → s .written ≤ top → s .reported ≤ top → Declaring n at o o g g s s n at
+  pub declaring-start : (o g : List ℕ) (s : State) {n at : ℕ} → ReadyAll levels tree n at (s .counter) scope → s .written ≤ highest → s .reported ≤ highest → Declaring n at o o g g s s n at
   declaring-start o g s r h k = making-start (declaratorStep tree scope) levels tree o g s (r .accepted) (r .low) h k
 
   module _ (n at : ℕ) {o0 o g0 g : List ℕ} {s0 s : State} {k c : ℕ} (l : Declaring n at o0 o g0 g s0 s k c) where

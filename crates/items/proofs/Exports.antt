@@ -22,7 +22,7 @@ use Rattle.definition.proofs.Children.{child-1}
 use Rattle.definition.proofs.Kids.{head-is, mark-is, flags-is, is-mark, not-mark, has}
 use Rattle.records.specs.declared.Head.{Head as Fields}
 use Rattle.records.specs.Fields.{fieldsAt}
-use Rattle.records.specs.Wrote.{top, Put}
+use Rattle.records.specs.Wrote.{highest, Put}
 use Rattle.names.proofs.Decimals.{length-unique, at-most-twenty}
 use Rattle.swc_helpers.proofs.Made.{encode-one, encode-two}
 use Rattle.prescan.specs.declared.Scope.{Scope}
@@ -31,8 +31,8 @@ use Rattle.typing.specs.declared.Mode.{Mode}
 use Rattle.typing.specs.declared.Typed.{Typed}
 use Rattle.typing.specs.declared.Typed.the-variants.{Some, None}
 use Rattle.typing.specs.declared.Counted.{Counted}
-use Rattle.typing.specs.Did.{Ready, typeOf, Puts, Step, Did, movedTo, backTo}
-use Rattle.typing.specs.Below.{Gives}
+use Rattle.typing.specs.Did.{Ready, typeOf, Writes, Step, MakesMaybe, movedTo, backTo}
+use Rattle.typing.specs.Below.{MakesCounted}
 use Rattle.typing.proofs.Fits.{name-fits, all-one}
 use Rattle.typing.proofs.Loops.{rest, encodes-one}
 use Rattle.typing.proofs.Steps.{step-put, step-puts, step-then, step-as, step-back, IsSome, IsNone, is-some, is-none}
@@ -49,7 +49,7 @@ use Rattle.items.proofs.Begun.{keeps-first, makes-first, each-silent}
 
 -- ---- records as the only ones
 
-pub gives-kept : {o o' : List ℕ} (g : List ℕ) {s s' : State} {t : Rec} → Keeps o o' s s' t → s .reported ≤ top → Gives o o' g g s (record { s = s'; count = 1 }) (pure (one t) (s .counter))
+pub gives-kept : {o o' : List ℕ} (g : List ℕ) {s s' : State} {t : Rec} → Keeps o o' s s' t → s .reported ≤ highest → MakesCounted o o' g g s (record { s = s'; count = 1 }) (pure (one t) (s .counter))
 gives-kept g w d = gives-one (makes-keeps g w d)
 
 -- ---- the children
@@ -80,7 +80,7 @@ unique-fits counter h = name-fits (fresh "Id" 0 []) (genUniqueName counter) (ome
 
 pub name-written : (levels : ℕ) (s : List ℕ) (at : ℕ) → AcceptedAt levels s at → ((i : ℕ) → mir.Val.Fits w8 (getD s i 0)) → {p1 : ℕ} → One levels s at (bodyAt s at) p1 → (counter : ℕ) → counter < 2 ^ 64
     → {o o1 o2 o3 : List ℕ} {x x1 x3 : State} {h : Fields} {q : ℕ} → length o < 2 ^ 64 → h ≡ fieldsAt s at
-    → Puts o o1 x x1 (frontBytes (withFlags (headAt s at) (h .flags)) (h .count)) true → Put o1 o2 (x1 .written) (encode (ident dummySp (genUniqueName counter))) q
+    → Writes o o1 x x1 (frontBytes (withFlags (headAt s at) (h .flags)) (h .count)) true → Put o1 o2 (x1 .written) (encode (ident dummySp (genUniqueName counter))) q
     → KeepsAll o2 o3 (movedTo x1 q) x3 (rest levels s (h .count - 1) p1) → Keeps o o3 x x3 (rec (headAt s at) (setKid 0 (ident dummySp (genUniqueName counter)) (kidsOf (treeAt levels s at))))
 name-written levels s at a known u counter small {x1 = x1} l e v w z =
     puts-as
@@ -134,8 +134,8 @@ step-from s w = record { ran = w .ran; counter = w .counter; fits = w .fits }
 
 module _ (tree : List ℕ) (scope : Scope) (levels at : ℕ) {p0 p1 : ℕ} (u : One levels tree at p0 p1) where
   -- "Xe of Id passes"
-  pub expr-name : {o o' : List ℕ} (g : List ℕ) {s s' : State} → markAt tree p0 ≡ mark "Id" → Keeps o o' s s' (treeAt levels tree at) → s .reported ≤ top
-      → Gives o o' g g s (record { s = s'; count = 1 }) (defaultExprOf tree scope (treeAt levels tree at) (s .counter))
+  pub expr-name : {o o' : List ℕ} (g : List ℕ) {s s' : State} → markAt tree p0 ≡ mark "Id" → Keeps o o' s s' (treeAt levels tree at) → s .reported ≤ highest
+      → MakesCounted o o' g g s (record { s = s'; count = 1 }) (defaultExprOf tree scope (treeAt levels tree at) (s .counter))
   unfolding exportDefaultExpr
   expr-name g {s} m w d =
       let r : Rec = rec (headAt tree at) (cons (treeAt (levels - 1) tree p0) (rest levels tree (countAt tree at - 1) p1)) in
@@ -178,17 +178,17 @@ module _ (tree : List ℕ) (scope : Scope) (levels at : ℕ) {p0 p1 : ℕ} (u : 
       ap one (sym (whole (treeAt levels tree at))) ∙ ap (λ (v : Option Rec). defaultTyped (headOf (treeAt levels tree at)) (kidsOf (treeAt levels tree at)) (suc n) v) (sym e)
 
   -- typed: a const with that type, and the Xe of its name
-  pub expr-typed : {o o1 o2 o3 o4 g g' : List ℕ} (s : State) {t : Typed} {typed next : State} {m : Mode} {q r : ℕ} → (markAt tree p0 ≡ mark "Id" → ⊥) → m ≡ readonlyMode scope → s .counter + 1 < 2 ^ 64 → s .reported ≤ top
-      → Put o o1 (s .written) (constFront (s .counter + 1)) q → Did o1 o2 g g' (raised s q) t (exprType m s) → t ≡ Some typed → Put o2 o3 (typed .written) (encode absent) r
+  pub expr-typed : {o o1 o2 o3 o4 g g' : List ℕ} (s : State) {t : Typed} {typed next : State} {m : Mode} {q r : ℕ} → (markAt tree p0 ≡ mark "Id" → ⊥) → m ≡ readonlyMode scope → s .counter + 1 < 2 ^ 64 → s .reported ≤ highest
+      → Put o o1 (s .written) (constFront (s .counter + 1)) q → MakesMaybe o1 o2 g g' (raised s q) t (exprType m s) → t ≡ Some typed → Put o2 o3 (typed .written) (encode absent) r
       → Keeps o3 o4 (movedTo typed r) next (rec (headAt tree at) (setKid 0 (ident dummySp (genUniqueName (s .counter + 1))) (kidsOf (treeAt levels tree at))))
-      → Gives o o4 g g' s (record { s = next; count = 2 }) (defaultExprOf tree scope (treeAt levels tree at) (s .counter))
+      → MakesCounted o o4 g g' s (record { s = next; count = 2 }) (defaultExprOf tree scope (treeAt levels tree at) (s .counter))
   expr-typed {o} {o1} {o2} {o3} {o4} {g} {g'} s {typed = typed} {next = next} {m = m} {q = q} n e small d a w z b c =
       let x : Out (Option Rec) = exprType m s in
       let i : IsSome o1 o2 g g' (raised s q) typed x = is-some w z in
       let xe : Rec = rec (headAt tree at) (setKid 0 (ident dummySp (genUniqueName (s .counter + 1))) (kidsOf (treeAt levels tree at))) in
-      let below : typed .reported ≤ top = (let y = i .step .ran .atd in omega arith) in
+      let below : typed .reported ≤ highest = (let y = i .step .ran .atd in omega arith) in
       let all = step-then (step-put g (raised s (s .written)) a d) (step-then (i .step) (step-then (step-put g' typed b below) (step-puts g' c below))) in
-      let made : Gives o o4 g g' s (record { s = next; count = 2 }) (cons (constOf (s .counter + 1) (i .type)) (one xe), x .1, x .2) =
+      let made : MakesCounted o o4 g g' s (record { s = next; count = 2 }) (cons (constOf (s .counter + 1) (i .type)) (one xe), x .1, x .2) =
       record {
         many = refl;
         step = step-as (step-from s all) (pair-bytes (s .counter + 1) (i .type) xe) (append-nil (x .1)) (i .step .counter) (pair-fits (s .counter + 1) small (i .type) xe);
@@ -198,17 +198,17 @@ module _ (tree : List ℕ) (scope : Scope) (levels at : ℕ) {p0 p1 : ℕ} (u : 
       ∙ (ap (onValue (defaultTyped (headOf (treeAt levels tree at)) (kidsOf (treeAt levels tree at)) (suc (s .counter)))) (type-is m s e) ∙ typed-is (s .counter) n))
 
   -- "Untyped: kept whole, no diagnostic of its own"
-  pub expr-untyped : {o o1 o2 o3 g g' : List ℕ} (s : State) {t : Typed} {failed back next : State} {m : Mode} {q : ℕ} → (markAt tree p0 ≡ mark "Id" → ⊥) → m ≡ readonlyMode scope → s .written ≤ top → s .reported ≤ top
-      → Put o o1 (s .written) (constFront (s .counter + 1)) q → Did o1 o2 g g' (raised s q) t (exprType m s) → t ≡ None failed → back ≡ backTo s failed → Keeps o2 o3 back next (treeAt levels tree at)
-      → Gives o o3 g g' s (record { s = next; count = 1 }) (defaultExprOf tree scope (treeAt levels tree at) (s .counter))
+  pub expr-untyped : {o o1 o2 o3 g g' : List ℕ} (s : State) {t : Typed} {failed back next : State} {m : Mode} {q : ℕ} → (markAt tree p0 ≡ mark "Id" → ⊥) → m ≡ readonlyMode scope → s .written ≤ highest → s .reported ≤ highest
+      → Put o o1 (s .written) (constFront (s .counter + 1)) q → MakesMaybe o1 o2 g g' (raised s q) t (exprType m s) → t ≡ None failed → back ≡ backTo s failed → Keeps o2 o3 back next (treeAt levels tree at)
+      → MakesCounted o o3 g g' s (record { s = next; count = 1 }) (defaultExprOf tree scope (treeAt levels tree at) (s .counter))
   expr-untyped {o} {o1} {o2} {o3} {g} {g'} s {failed = failed} {next = next} {m = m} {q = q} n e p d a w z f c =
       let x : Out (Option Rec) = exprType m s in
       let t : Rec = treeAt levels tree at in
       let i : IsNone o1 o2 g g' (raised s q) failed x = is-none w z in
-      let below : failed .reported ≤ top = (let y = i .step .ran .atd in omega arith) in
+      let below : failed .reported ≤ highest = (let y = i .step .ran .atd in omega arith) in
       let c' : Keeps o2 o3 (backTo s failed) next t = subst (λ (b : State). Keeps o2 o3 b next t) f c in
       let all = step-then (step-back p (step-then (step-put g (raised s (s .written)) a d) (i .step))) (step-puts g' c' below) in
-      let made : Gives o o3 g g' s (record { s = next; count = 1 }) (one t, x .1, x .2) =
+      let made : MakesCounted o o3 g g' s (record { s = next; count = 1 }) (one t, x .1, x .2) =
       record { many = refl; step = step-as (step-from s all) (sym (encodes-one t)) (append-nil (x .1)) (i .step .counter) (sym (all-one t)) } in
       gives-as made
       ((λ j. (whole-is (s .counter) (x .0) (i .same) j, x .1, x .2))
@@ -245,10 +245,10 @@ module _ (list tree : List ℕ) (scope : Scope) (levels at : ℕ) {p0 p1 : ℕ} 
       (sym e ∙ ap defaultKind (sym (mark-is (levels - 1) tree p0) ∙ ap (λ (r : Rec). markOf (kid 0 (kidsOf r))) (sym (u .is))))
 
   -- a class
-  pub default-class : AcceptedAt levels tree at → ((i : ℕ) → mir.Val.Fits w8 (getD tree i 0)) → markAt tree p0 ≡ mark "Cx" → {o o1 o2 o3 g g' : List ℕ} {s s1 s2 s3 : State} {h k : Fields} → s .reported ≤ top
-      → h ≡ fieldsAt tree at → k ≡ fieldsAt tree p0 → Puts o o1 s s1 (frontBytes (withFlags (headAt tree at) (h .flags)) (h .count)) true
+  pub default-class : AcceptedAt levels tree at → ((i : ℕ) → mir.Val.Fits w8 (getD tree i 0)) → markAt tree p0 ≡ mark "Cx" → {o o1 o2 o3 g g' : List ℕ} {s s1 s2 s3 : State} {h k : Fields} → s .reported ≤ highest
+      → h ≡ fieldsAt tree at → k ≡ fieldsAt tree p0 → Writes o o1 s s1 (frontBytes (withFlags (headAt tree at) (h .flags)) (h .count)) true
       → Makes o1 o2 g g' s1 s2 (withClass list tree scope (k .flags) (treeAt (levels - 1) tree p0) (s1 .counter)) → KeepsAll o2 o3 s2 s3 (rest levels tree (h .count - 1) p1)
-      → Gives o o3 g g' s (record { s = s3; count = 1 }) (defaultDeclOf list tree scope (treeAt levels tree at) (s .counter))
+      → MakesCounted o o3 g g' s (record { s = s3; count = 1 }) (defaultDeclOf list tree scope (treeAt levels tree at) (s .counter))
   unfolding second defaultKind exportDefaultDecl
   default-class a known m {s = s} {s1 = s1} {k = k} d e f v b z =
       let F : Rec → ℕ → Out Rec = second (class list (scope .unresolved) (typingOf tree scope)) in
@@ -266,21 +266,21 @@ module _ (list tree : List ℕ) (scope : Scope) (levels at : ℕ) {p0 p1 : ℕ} 
       let kind : defaultKind (markAt tree p0) ≡ xFn = rw m in
       ap (λ (h : Head). ifM (listed list h) (pure nil) (λ n. single (defaultFn (treeAt levels tree at) n)) n) (sym (head-is levels tree at)) ∙ default-by n xFn kind
 
-  pub default-gone : markAt tree p0 ≡ mark "Fx" → {b : Bool} → b ≡ listed list (headAt tree at) → b ≡ true → (o g : List ℕ) (s : State) → s .written ≤ top → s .reported ≤ top
-      → Gives o o g g s (record { s = s; count = 0 }) (defaultDeclOf list tree scope (treeAt levels tree at) (s .counter))
+  pub default-gone : markAt tree p0 ≡ mark "Fx" → {b : Bool} → b ≡ listed list (headAt tree at) → b ≡ true → (o g : List ℕ) (s : State) → s .written ≤ highest → s .reported ≤ highest
+      → MakesCounted o o g g s (record { s = s; count = 0 }) (defaultDeclOf list tree scope (treeAt levels tree at) (s .counter))
   default-gone m e q o g s p d =
       gives-as (gives-none o g s p d) (ap (λ (b : Bool). ifM b (pure nil) (λ n. single (defaultFn (treeAt levels tree at) n)) (s .counter)) (sym q ∙ e) ∙ fn-is (s .counter) m)
 
-  pub default-bare : markAt tree p0 ≡ mark "Fx" → {b : Bool} → b ≡ listed list (headAt tree at) → b ≡ false → {o o' : List ℕ} (g : List ℕ) {s s' : State} → s .reported ≤ top
-      → Keeps o o' s s' (defaultFn (treeAt levels tree at) (s .counter) .0) → Gives o o' g g s (record { s = s'; count = 1 }) (defaultDeclOf list tree scope (treeAt levels tree at) (s .counter))
+  pub default-bare : markAt tree p0 ≡ mark "Fx" → {b : Bool} → b ≡ listed list (headAt tree at) → b ≡ false → {o o' : List ℕ} (g : List ℕ) {s s' : State} → s .reported ≤ highest
+      → Keeps o o' s s' (defaultFn (treeAt levels tree at) (s .counter) .0) → MakesCounted o o' g g s (record { s = s'; count = 1 }) (defaultDeclOf list tree scope (treeAt levels tree at) (s .counter))
   default-bare m e q g {s} d w =
       gives-as (gives-kept g w d)
       (ap single (sym (fn-silent (treeAt levels tree at) (s .counter)))
       ∙ (ap (λ (b : Bool). ifM b (pure nil) (λ n. single (defaultFn (treeAt levels tree at) n)) (s .counter)) (sym q ∙ e) ∙ fn-is (s .counter) m))
 
   -- an In
-  pub default-other : (markAt tree p0 ≡ mark "Cx" → ⊥) → (markAt tree p0 ≡ mark "Fx" → ⊥) → {o o' : List ℕ} (g : List ℕ) {s s' : State} → s .reported ≤ top → Keeps o o' s s' (treeAt levels tree at)
-      → Gives o o' g g s (record { s = s'; count = 1 }) (defaultDeclOf list tree scope (treeAt levels tree at) (s .counter))
+  pub default-other : (markAt tree p0 ≡ mark "Cx" → ⊥) → (markAt tree p0 ≡ mark "Fx" → ⊥) → {o o' : List ℕ} (g : List ℕ) {s s' : State} → s .reported ≤ highest → Keeps o o' s s' (treeAt levels tree at)
+      → MakesCounted o o' g g s (record { s = s'; count = 1 }) (defaultDeclOf list tree scope (treeAt levels tree at) (s .counter))
   unfolding exportDefaultDecl
   default-other m k g {s} d w =
       gives-as (gives-kept g w d) (ap (λ (r : Rec). pure (one r) (s .counter)) (sym (whole (treeAt levels tree at))) ∙ default-by (s .counter) xOther (default-kind (markAt tree p0) m k))

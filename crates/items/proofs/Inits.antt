@@ -18,7 +18,7 @@ use Rattle.definition.specs.Transform.{allTextsFit}
 use Rattle.definition.proofs.Children.{tree-is, children, first-one, others, readAll-more, readAll-none}
 use Rattle.definition.proofs.Kids.{is-mark, not-mark, mark-is, kids-are, has}
 use Rattle.records.specs.Whole.{Whole}
-use Rattle.records.specs.Wrote.{top}
+use Rattle.records.specs.Wrote.{highest}
 use Rattle.swc_helpers.proofs.Made.{is-whole}
 use Rattle.typing.specs.declared.State.{State}
 use Rattle.typing.proofs.Fits.{all-join, all-one}
@@ -317,7 +317,7 @@ pub record Members (levels : ℕ) (tree : List ℕ) (at n : ℕ) (o0 o : List �
   pub put : KeepsAll o0 o s0 s made
 
 module _ (levels : ℕ) (tree : List ℕ) (at n : ℕ) where
-  pub members-start : AllAccepted levels tree n at → (o : List ℕ) (s : State) → s .written ≤ top → Members levels tree at n o o s s n at
+  pub members-start : AllAccepted levels tree n at → (o : List ℕ) (s : State) → s .written ≤ highest → Members levels tree at n o o s s n at
   unfolding encodes allTextsFit
   members-start a o s h = record { kids = a; size = refl; same = refl; made = nil; sum = refl; put = puts-none o s h }
 

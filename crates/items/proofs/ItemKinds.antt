@@ -20,14 +20,14 @@ use Rattle.definition.proofs.Kids.{mark-is, has}
 use Rattle.definition.proofs.Places.{count-small as head-count-small}
 use Rattle.records.specs.declared.Head.{Head as Fields}
 use Rattle.records.specs.Fields.{fieldsAt}
-use Rattle.records.specs.Wrote.{top as highest}
+use Rattle.records.specs.Wrote.{highest}
 use Rattle.records.proofs.Whole.{slice-bytes}
 use Rattle.prescan.specs.declared.Scope.{Scope}
 use Rattle.prescan.specs.Scope.{Skips}
 use Rattle.typing.specs.declared.State.{State}
 use Rattle.typing.specs.declared.Counted.{Counted}
 use Rattle.typing.specs.Did.{Ready}
-use Rattle.typing.specs.Below.{Gives}
+use Rattle.typing.specs.Below.{MakesCounted}
 use Rattle.parts.specs.Makes.{Keeps}
 use Rattle.typing.proofs.Whole.{gives-as}
 use Rattle.parts.proofs.Kids.{One, Two, kids-one, kids-two}
@@ -201,5 +201,5 @@ is-fn m = go (eqb m (mark "Cd")) refl
 abbrev pub Kept : ℕ → Type 0
 Kept m = (m ≡ mark "Im") ⊎ (m ≡ mark "Op")
 
-pub kept-gives : {o o' : List ℕ} (g : List ℕ) {s : State} {r : Counted} {t : Rec} {y : Out Recs} → (r .count ≡ 1) × Keeps o o' s (r .s) t → s .reported ≤ highest → pure (one t) (s .counter) ≡ y → Gives o o' g g s r y
+pub kept-gives : {o o' : List ℕ} (g : List ℕ) {s : State} {r : Counted} {t : Rec} {y : Out Recs} → (r .count ≡ 1) × Keeps o o' s (r .s) t → s .reported ≤ highest → pure (one t) (s .counter) ≡ y → MakesCounted o o' g g s r y
 kept-gives g w d e = gives-as (record { many = w .0; step = gives-one (makes-keeps g (w .1) d) .step }) e

@@ -13,12 +13,12 @@ use Rattle.definition.specs.Counting.{records}
 use Rattle.definition.proofs.Children.{first-one, others, readAll-more, readAll-none}
 use Rattle.definition.proofs.Counting.{exprToTsType-within}
 use Rattle.definition.proofs.CountingItems.{item-within}
-use Rattle.records.specs.Wrote.{top as highest}
+use Rattle.records.specs.Wrote.{highest}
 use Rattle.prescan.specs.declared.Scope.{Scope}
 use Rattle.typing.specs.declared.State.{State}
 use Rattle.typing.specs.declared.Counted.{Counted}
 use Rattle.typing.specs.Did.{idsOf}
-use Rattle.typing.specs.Below.{Gives}
+use Rattle.typing.specs.Below.{MakesCounted}
 use Rattle.typing.proofs.Counter.{records-within}
 use Rattle.typing.proofs.Props.{gives-none}
 use Rattle.typing.proofs.Loops.{join-nil, count-join}
@@ -107,7 +107,7 @@ pub record Itemizing (list tree : List ℕ) (scope : Scope) (top : Bool) (levels
   pub kids : AllAccepted levels tree k c
   pub low : s .counter ≤ c
   pub done : Out Recs
-  pub gives : Gives o0 o g0 g s0 (record { s = s; count = many }) done
+  pub gives : MakesCounted o0 o g0 g s0 (record { s = s; count = many }) done
   pub sum : itemsOf list tree scope top (recordsAt levels tree n at) (s0 .counter) ≡ both done (itemsOf list tree scope top (recordsAt levels tree k c) (s .counter))
   pub few : many + 2 * k < 131072
 
@@ -119,8 +119,8 @@ module _ (list tree : List ℕ) (scope : Scope) (top : Bool) (levels n at : ℕ)
     pub itemizing-first : 0 < k → AcceptedAt levels tree c
     itemizing-first h = first-one levels tree k c (l .kids) h
 
-    module _ {o' g' : List ℕ} {made : Counted} {here : Scope} (end : ℕ) (e : here ≡ scopeAt scope levels c end) (w : Gives o o' g g' s made (itemOf list tree here top (treeAt levels tree c) (s .counter))) where
-      here-gives : Gives o o' g g' s made (itemOf list tree scope top (treeAt levels tree c) (s .counter))
+    module _ {o' g' : List ℕ} {made : Counted} {here : Scope} (end : ℕ) (e : here ≡ scopeAt scope levels c end) (w : MakesCounted o o' g g' s made (itemOf list tree here top (treeAt levels tree c) (s .counter))) where
+      here-gives : MakesCounted o o' g g' s made (itemOf list tree scope top (treeAt levels tree c) (s .counter))
       here-gives = gives-as w (item-same scope levels c end list tree top (treeAt levels tree c) (s .counter) e)
 
       -- the count stays small
@@ -146,7 +146,7 @@ module _ (list tree : List ℕ) (scope : Scope) (top : Bool) (levels n at : ℕ)
             few = omega (arith, l .few, itemizing-more);
           })
 
-    pub itemizing-done : k ≤ 0 → Gives o0 o g0 g s0 (record { s = s; count = many }) (itemsOf list tree scope top (recordsAt levels tree n at) (s0 .counter))
+    pub itemizing-done : k ≤ 0 → MakesCounted o0 o g0 g s0 (record { s = s; count = many }) (itemsOf list tree scope top (recordsAt levels tree n at) (s0 .counter))
     unfolding transformModuleItems
     itemizing-done h =
         gives-as (l .gives)

@@ -15,12 +15,12 @@ use Rattle.definition.proofs.Children.{tree-is}
 use Rattle.definition.proofs.Kids.{head-is, mark-is, text-length}
 use Rattle.records.specs.declared.Head.{Head as Fields}
 use Rattle.records.specs.Fields.{fieldsAt}
-use Rattle.records.specs.Wrote.{top as highest, sat}
+use Rattle.records.specs.Wrote.{highest, sat}
 use Rattle.prescan.specs.declared.Scope.{Scope}
 use Rattle.typing.specs.declared.State.{State}
 use Rattle.typing.specs.declared.Counted.{Counted}
-use Rattle.typing.specs.Did.{Puts, movedTo}
-use Rattle.typing.specs.Below.{Gives}
+use Rattle.typing.specs.Did.{Writes, movedTo}
+use Rattle.typing.specs.Below.{MakesCounted}
 use Rattle.typing.proofs.Loops.{rest}
 use Rattle.parts.specs.Makes.{frontBytes, Keeps, KeepsAll, Makes, MakesAll}
 use Rattle.parts.proofs.Kept.{head-short, front-flags}
@@ -76,7 +76,7 @@ module _ (list tree : List ℕ) (scope : Scope) (levels at : ℕ) {p0 p1 p2 : �
 
 pub body-made : (list tree : List ℕ) (scope : Scope) (levels at flags : ℕ) → AcceptedAt levels tree at → ((i : ℕ) → mir.Val.Fits w8 (getD tree i 0)) → {p0 p1 p2 : ℕ} → Two levels tree at p0 p1 p2
     → {o o1 o2 o3 o4 g g' : List ℕ} {s s1 s2 s3 s4 : State} {h : Fields} → h ≡ fieldsAt tree at → s .reported ≤ highest
-    → Puts o o1 s s1 (frontBytes (withFlags (headAt tree at) flags) (h .count)) true → Keeps o1 o2 s1 s2 (treeAt (levels - 1) tree p0)
+    → Writes o o1 s s1 (frontBytes (withFlags (headAt tree at) flags) (h .count)) true → Keeps o1 o2 s1 s2 (treeAt (levels - 1) tree p0)
     → Makes o2 o3 g g' s2 s3 (bodyOf list tree scope (treeAt (levels - 1) tree p1) (s2 .counter)) → KeepsAll o3 o4 s3 s4 (rest levels tree (h .count - 2) p2)
     → Makes o o4 g g' s s4 (withBody list tree scope flags (treeAt levels tree at) (s .counter))
 body-made list tree scope levels at flags a known u {s = s} e d v b c z =
@@ -89,22 +89,22 @@ text-size : (levels : ℕ) (tree : List ℕ) (at : ℕ) → AcceptedAt levels tr
 unfolding headAt
 text-size levels tree at a = text-length levels tree at a
 
-front-same : (tree : List ℕ) (at k : ℕ) {o o' : List ℕ} {s s' : State} {h : Fields} → h ≡ fieldsAt tree at → Puts o o' s s' (frontBytes (withFlags (headAt tree at) (h .flags)) k) true → Puts o o' s s' (frontBytes (headAt tree at) k) true
+front-same : (tree : List ℕ) (at k : ℕ) {o o' : List ℕ} {s s' : State} {h : Fields} → h ≡ fieldsAt tree at → Writes o o' s s' (frontBytes (withFlags (headAt tree at) (h .flags)) k) true → Writes o o' s s' (frontBytes (headAt tree at) k) true
 unfolding headAt
 front-same tree at k e w = rw e at w
 
 -- an Nb: its front follows its items
 pub block-made : (list tree : List ℕ) (scope : Scope) (levels at : ℕ) → AcceptedAt levels tree at → ((i : ℕ) → mir.Val.Fits w8 (getD tree i 0)) → markAt tree at ≡ mark "Nb"
     → {o o1 o2 g g' : List ℕ} (s : State) {s2 : State} {made : Counted} {h : Fields} {b size q : ℕ} → h ≡ fieldsAt tree at → b ≡ bodyAt tree at → size ≡ headSize + lengthAt tree at → q ≡ sat (s .written) size
-    → Gives o o1 g g' (movedTo s q) made (itemsOf list tree scope false (recordsAt (levels - 1) tree (h .count) b) (s .counter)) → Puts o1 o2 s s2 (frontBytes (withFlags (headAt tree at) (h .flags)) (made .count)) true
+    → MakesCounted o o1 g g' (movedTo s q) made (itemsOf list tree scope false (recordsAt (levels - 1) tree (h .count) b) (s .counter)) → Writes o1 o2 s s2 (frontBytes (withFlags (headAt tree at) (h .flags)) (made .count)) true
     → Makes o o2 g g' s (made .s) (bodyOf list tree scope (treeAt levels tree at) (s .counter))
 block-made list tree scope levels at a known m {o} {o1} {o2} {g} {g'} s {s2} {made} {h} {b} {size} {q} e f z y w v =
     let H : Head = headAt tree at in
     let k : size ≡ headSize + length (H .text) = z ∙ ap (λ (n : ℕ). headSize + n) (sym (text-size levels tree at a)) in
     let items : Out Recs = itemsOf list tree scope false (rest levels tree (countAt tree at) (bodyAt tree at)) (s .counter) in
-    let w1 : Gives o o1 g g' (movedTo s q) made items = rw (e, f) at w in
+    let w1 : MakesCounted o o1 g g' (movedTo s q) made items = rw (e, f) at w in
     let w2 : MakesAll o o1 g g' (movedTo s (sat (s .written) (headSize + length (H .text)))) (made .s) items =
     subst (λ (q : ℕ). MakesAll o o1 g g' (movedTo s q) (made .s) items) (y ∙ ap (sat (s .written)) k) (record { step = w1 .step }) in
-    let v' : Puts o1 o2 s s2 (frontBytes H (made .count)) true = front-same tree at (made .count) e v in
+    let v' : Writes o1 o2 s s2 (frontBytes H (made .count)) true = front-same tree at (made .count) e v in
     makes-as (makes-front-last s H {y = items} w2 v' (w1 .many) (head-short levels tree at a known))
     (ap (λ (r : Rec). wrap (headOf r) (itemsOf list tree scope false (kidsOf r) (s .counter))) (sym (tree-is levels tree at a)) ∙ body-block list tree scope (treeAt levels tree at) (s .counter) (mark-is levels tree at ∙ m))

@@ -22,14 +22,14 @@ use Rattle.definition.proofs.Children.{others}
 use Rattle.definition.proofs.Kids.{head-is, mark-is, flags-is, has}
 use Rattle.records.specs.declared.Head.{Head as Fields}
 use Rattle.records.specs.Fields.{fieldsAt}
-use Rattle.records.specs.Wrote.{top as highest}
+use Rattle.records.specs.Wrote.{highest}
 use Rattle.prescan.specs.declared.Scope.{Scope}
 use Rattle.typing.specs.declared.State.{State}
 use Rattle.typing.specs.declared.Typed.{Typed}
 use Rattle.typing.specs.declared.Typed.the-variants.{Some, None}
 use Rattle.typing.specs.declared.Counted.{Counted}
-use Rattle.typing.specs.Did.{diagAt, Puts, Marks, Did, backTo}
-use Rattle.typing.specs.Below.{Gives}
+use Rattle.typing.specs.Did.{diagAt, Writes, Marks, MakesMaybe, backTo}
+use Rattle.typing.specs.Below.{MakesCounted}
 use Rattle.typing.proofs.ByPlace.{diag-is}
 use Rattle.typing.proofs.Loops.{rest}
 use Rattle.typing.proofs.Steps.{step-puts, step-marks, step-then, step-as, step-back, did-some, did-none, did-as, IsSome, IsNone, is-some, is-none}
@@ -225,14 +225,14 @@ members-silent flags r n =
     λ j. (some (withMembers flags r n .0), sym (ap (λ (o : Out Recs). o .1) z) j, sym (ap (λ (o : Out Recs). o .2) z) j)
 
 -- a declaration that was made, kept, or left out
-pub did-made : {o o' g g' : List ℕ} {s s' : State} {x : Out Rec} {y : Out (Option Rec)} → Makes o o' g g' s s' x → onValue some x ≡ y → Did o o' g g' s (Some s') y
+pub did-made : {o o' g g' : List ℕ} {s s' : State} {x : Out Rec} {y : Out (Option Rec)} → Makes o o' g g' s s' x → onValue some x ≡ y → MakesMaybe o o' g g' s (Some s') y
 did-made w e = did-as (did-some (w .step)) e
 
-pub did-kept : {o o' : List ℕ} (g : List ℕ) {s s' : State} {t : Rec} {y : Out (Option Rec)} → Keeps o o' s s' t → s .reported ≤ highest → pure (some t) (s .counter) ≡ y → Did o o' g g s (Some s') y
+pub did-kept : {o o' : List ℕ} (g : List ℕ) {s s' : State} {t : Rec} {y : Out (Option Rec)} → Keeps o o' s s' t → s .reported ≤ highest → pure (some t) (s .counter) ≡ y → MakesMaybe o o' g g s (Some s') y
 did-kept g w d e = did-made (makes-keeps g w d) e
 
 pub did-marked : (o : List ℕ) {g g' : List ℕ} {s s' : State} {y : Out (Option Rec)} (levels : ℕ) (tree : List ℕ) (at : ℕ) → Marks g g' s s' (diagAt tree at (mark "d5")) → s .written ≤ highest
-    → (none, diag "d5" (headOf (treeAt levels tree at)) ∷ [], s .counter) ≡ y → Did o o g g' s (None s') y
+    → (none, diag "d5" (headOf (treeAt levels tree at)) ∷ [], s .counter) ≡ y → MakesMaybe o o g g' s (None s') y
 did-marked o {s = s} levels tree at w p e = did-as (did-none (step-marks o w p)) (ap (λ (d : Diag). (none, d ∷ [], s .counter)) (diag-is "d5" levels tree at) ∙ e)
 
 -- ---- an Ed
@@ -279,12 +279,12 @@ module _ (list tree : List ℕ) (scope : Scope) (top : Bool) (levels at : ℕ) {
     export-stays n q = sym (ap (λ (b : Bool). ifM b (pure nil) exportMade n) (sym e ∙ q)) ∙ export-is n
 
     module _ (q : b ≡ false) {o o1 o2 g g' : List ℕ} {s s1 : State} {t : Typed} (d : s .reported ≤ highest) {h : Fields} (f : h ≡ fieldsAt tree at)
-        (v : Puts o o1 s s1 (frontBytes (withFlags (headAt tree at) (h .flags)) (h .count)) true) (w : Did o1 o2 g g' s1 t (declOf list tree scope top (treeAt (levels - 1) tree p0) (s1 .counter))) where
+        (v : Writes o o1 s s1 (frontBytes (withFlags (headAt tree at) (h .flags)) (h .count)) true) (w : MakesMaybe o1 o2 g g' s1 t (declOf list tree scope top (treeAt (levels - 1) tree p0) (s1 .counter))) where
       export-now : exportMade (s1 .counter) ≡ exportOf list tree scope top (treeAt levels tree at) (s .counter)
       export-now = ap exportMade (puts-counter v) ∙ export-stays (s .counter) q
 
       pub export-some : AcceptedAt levels tree at → ((i : ℕ) → mir.Val.Fits w8 (getD tree i 0)) → {o3 : List ℕ} {made next : State} → t ≡ Some made → KeepsAll o2 o3 made next (rest levels tree (h .count - 1) p1)
-          → Gives o o3 g g' s (record { s = next; count = 1 }) (exportOf list tree scope top (treeAt levels tree at) (s .counter))
+          → MakesCounted o o3 g g' s (record { s = next; count = 1 }) (exportOf list tree scope top (treeAt levels tree at) (s .counter))
       export-some a known z c =
           let i : IsSome o1 o2 g g' s1 _ (declOf list tree scope top (treeAt (levels - 1) tree p0) (s1 .counter)) = is-some w z in
           let x : Out (Option Rec) = declOf list tree scope top (treeAt (levels - 1) tree p0) (s1 .counter) in
@@ -294,22 +294,22 @@ module _ (list tree : List ℕ) (scope : Scope) (top : Bool) (levels at : ℕ) {
           (ap (λ (y : Option Rec). given y (nil, x .1 ++ (diag "d1" (headAt tree at) ∷ []), x .2) (λ d. (one (rec (headAt tree at) (cons d ops)), x .1, x .2))) (sym (i .same)) ∙ export-now)
 
       pub export-none : {failed back : State} {g'' : List ℕ} {r : Counted} → t ≡ None failed → s .written ≤ highest → back ≡ backTo s failed → Marks g' g'' back (r .s) (diagAt tree at (mark "d1")) → r .count ≡ 0
-          → Gives o o2 g g'' s r (exportOf list tree scope top (treeAt levels tree at) (s .counter))
+          → MakesCounted o o2 g g'' s r (exportOf list tree scope top (treeAt levels tree at) (s .counter))
       unfolding headAt encodes allTextsFit
       export-none {failed} {back} {g''} {r} z p y m k =
           let x : Out (Option Rec) = declOf list tree scope top (treeAt (levels - 1) tree p0) (s1 .counter) in
           let i : IsNone o1 o2 g g' s1 failed x = is-none w z in
           let m' : Marks g' g'' (backTo s failed) (r .s) (diagAt tree at (mark "d1")) = subst (λ (b : State). Marks g' g'' b (r .s) (diagAt tree at (mark "d1"))) y m in
           let all = step-then (step-back p (step-then (step-puts g v d) (i .step))) (step-marks o2 m' p) in
-          let made : Gives o o2 g g'' s r (nil, x .1 ++ (diagAt tree at (mark "d1") ∷ []), x .2) = record { many = k; step = step-as all refl refl (i .step .counter) refl } in
+          let made : MakesCounted o o2 g g'' s r (nil, x .1 ++ (diagAt tree at (mark "d1") ∷ []), x .2) = record { many = k; step = step-as all refl refl (i .step .counter) refl } in
           gives-as made
           (ap (λ (y : Option Rec). given y (nil, x .1 ++ (diag "d1" (headAt tree at) ∷ []), x .2) (λ d. (one (rec (headAt tree at) (cons d (rest levels tree (countAt tree at - 1) p1))), x .1, x .2))) (sym (i .same)) ∙ export-now)
 
 -- ---- a statement, once its declaration has become another, or none
 
-module _ (list tree : List ℕ) (scope : Scope) (top : Bool) (levels at : ℕ) {o o' g g' : List ℕ} {s : State} {t : Typed} (w : Did o o' g g' s t (declOf list tree scope top (treeAt levels tree at) (s .counter)))
+module _ (list tree : List ℕ) (scope : Scope) (top : Bool) (levels at : ℕ) {o o' g g' : List ℕ} {s : State} {t : Typed} (w : MakesMaybe o o' g g' s t (declOf list tree scope top (treeAt levels tree at) (s .counter)))
     (e : stmtWith (headOf (treeAt levels tree at)) (declOf list tree scope top (treeAt levels tree at) (s .counter)) ≡ stmtOf list tree scope top (treeAt levels tree at) (s .counter)) where
-  pub stmt-some : {next : State} → t ≡ Some next → Gives o o' g g' s (record { s = next; count = 1 }) (stmtOf list tree scope top (treeAt levels tree at) (s .counter))
+  pub stmt-some : {next : State} → t ≡ Some next → MakesCounted o o' g g' s (record { s = next; count = 1 }) (stmtOf list tree scope top (treeAt levels tree at) (s .counter))
   stmt-some {next} z =
       let x : Out (Option Rec) = declOf list tree scope top (treeAt levels tree at) (s .counter) in
       let i : IsSome o o' g g' s next x = is-some w z in
@@ -317,13 +317,13 @@ module _ (list tree : List ℕ) (scope : Scope) (top : Bool) (levels at : ℕ) {
       (ap (λ (y : Option Rec). given y (nil, x .1 ++ (diag "d1" (headOf (treeAt levels tree at)) ∷ []), x .2) (λ d. (one d, x .1, x .2))) (sym (i .same)) ∙ e)
 
   pub stmt-none : {failed : State} {g'' : List ℕ} {r : Counted} → t ≡ None failed → Marks g' g'' failed (r .s) (diagAt tree at (mark "d1")) → r .count ≡ 0
-      → Gives o o' g g'' s r (stmtOf list tree scope top (treeAt levels tree at) (s .counter))
+      → MakesCounted o o' g g'' s r (stmtOf list tree scope top (treeAt levels tree at) (s .counter))
   unfolding encodes allTextsFit
   stmt-none {failed} {g''} {r} z m k =
       let x : Out (Option Rec) = declOf list tree scope top (treeAt levels tree at) (s .counter) in
       let i : IsNone o o' g g' s failed x = is-none w z in
       let p : failed .written ≤ highest = (let y = i .step .ran .atp in omega arith) in
-      let made : Gives o o' g g'' s r (nil, x .1 ++ (diagAt tree at (mark "d1") ∷ []), x .2) = record { many = k; step = step-as (step-then (i .step) (step-marks o' m p)) refl refl (i .step .counter) refl } in
+      let made : MakesCounted o o' g g'' s r (nil, x .1 ++ (diagAt tree at (mark "d1") ∷ []), x .2) = record { many = k; step = step-as (step-then (i .step) (step-marks o' m p)) refl refl (i .step .counter) refl } in
       gives-as made
       (ap (λ (d : Diag). (nil, x .1 ++ (d ∷ []), x .2)) (diag-is "d1" levels tree at)
       ∙ (ap (λ (y : Option Rec). given y (nil, x .1 ++ (diag "d1" (headOf (treeAt levels tree at)) ∷ []), x .2) (λ d. (one d, x .1, x .2))) (sym (i .same)) ∙ e))

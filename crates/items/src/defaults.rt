@@ -8,7 +8,7 @@ ghost use Rattle.definition.specs.Record.{dummySp, ident, kidsOf, setKid};
 ghost use Rattle.definition.specs.Names.{genUniqueName};
 ghost use Rattle.records.specs.Wrote.{Put};
 ghost use Rattle.typing.specs.Did.{Ready};
-ghost use Rattle.typing.specs.Below.{Gives};
+ghost use Rattle.typing.specs.Below.{MakesCounted};
 ghost use Rattle.parts.specs.Makes.{Keeps};
 ghost use Rattle.items.specs.Steps.{constFront, defaultFn, defaultDeclOf, defaultExprOf};
 use crate::decls::bodiless;
@@ -54,7 +54,7 @@ fn default_class(
     requires { ⌜ Ready levels (now tree) at (s .counter) scope × (markAt (now tree) at ≡ mark "Xd") ⌝ }
     requires { ⌜ markAt (now tree) (bodyAt (now tree) at) ≡ mark "Cx" ⌝ }
     ensures { λ r. ⌜
-        Gives (now (out .entry)) (now (out .exit)) (now (diagnostics .entry)) (now (diagnostics .exit)) s r
+        MakesCounted (now (out .entry)) (now (out .exit)) (now (diagnostics .entry)) (now (diagnostics .exit)) s r
         (defaultDeclOf (now (list .entry)) (now (tree .entry)) scope (treeAt levels (now (tree .entry)) at) (s .counter))
         ⌝ }
 {
@@ -105,7 +105,7 @@ pub fn export_default_decl(
 ) -> Counted
     requires { ⌜ Ready levels (now tree) at (s .counter) scope × (markAt (now tree) at ≡ mark "Xd") ⌝ }
     ensures { λ r. ⌜
-        Gives (now (out .entry)) (now (out .exit)) (now (diagnostics .entry)) (now (diagnostics .exit)) s r
+        MakesCounted (now (out .entry)) (now (out .exit)) (now (diagnostics .entry)) (now (diagnostics .exit)) s r
         (defaultDeclOf (now (list .entry)) (now (tree .entry)) scope (treeAt levels (now (tree .entry)) at) (s .counter))
         ⌝ }
 {
@@ -171,7 +171,7 @@ pub fn export_default_expr(
 ) -> Counted
     requires { ⌜ Ready levels (now tree) at (s .counter) scope × (markAt (now tree) at ≡ mark "Xe") ⌝ }
     ensures { λ r. ⌜
-        Gives (now (out .entry)) (now (out .exit)) (now (diagnostics .entry)) (now (diagnostics .exit)) s r
+        MakesCounted (now (out .entry)) (now (out .exit)) (now (diagnostics .entry)) (now (diagnostics .exit)) s r
         (defaultExprOf (now (tree .entry)) scope (treeAt levels (now (tree .entry)) at) (s .counter))
         ⌝ }
 {

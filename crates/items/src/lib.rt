@@ -8,8 +8,8 @@ ghost use Rattle.definition.specs.Tree.{headSize, markAt, headAt, treeAt};
 ghost use Rattle.definition.specs.Grammar.{mark};
 ghost use Rattle.definition.specs.Children.{AcceptedAt};
 ghost use Rattle.definition.specs.Record.{listed};
-ghost use Rattle.typing.specs.Did.{Ready, Did};
-ghost use Rattle.typing.specs.Below.{Gives};
+ghost use Rattle.typing.specs.Did.{Ready, MakesMaybe};
+ghost use Rattle.typing.specs.Below.{MakesCounted};
 ghost use Rattle.parts.specs.Makes.{Keeps, Makes};
 ghost use Rattle.classes.specs.Typings.{ReadyAll};
 ghost use Rattle.items.specs.Steps.{recordsAt, withBody, declOf, stmtOf, exportOf, itemOf, itemsOf, bodyOf, scopeAt};
@@ -107,7 +107,7 @@ pub fn transform_module_items(
 ) -> Counted
     requires { ⌜ ReadyAll levels (now tree) n at (s .counter) scope × (n < 65536) ⌝ }
     ensures { λ r. ⌜
-        Gives (now (out .entry)) (now (out .exit)) (now (diagnostics .entry)) (now (diagnostics .exit)) s r
+        MakesCounted (now (out .entry)) (now (out .exit)) (now (diagnostics .entry)) (now (diagnostics .exit)) s r
         (itemsOf (now (list .entry)) (now (tree .entry)) scope top (recordsAt levels (now (tree .entry)) n at) (s .counter))
         ⌝ }
 {
@@ -151,7 +151,7 @@ fn transform_module_item(
 ) -> Counted
     requires { ⌜ Ready levels (now tree) at (s .counter) scope ⌝ }
     ensures { λ r. ⌜
-        Gives (now (out .entry)) (now (out .exit)) (now (diagnostics .entry)) (now (diagnostics .exit)) s r
+        MakesCounted (now (out .entry)) (now (out .exit)) (now (diagnostics .entry)) (now (diagnostics .exit)) s r
         (itemOf (now (list .entry)) (now (tree .entry)) scope top (treeAt levels (now (tree .entry)) at) (s .counter))
         ⌝ }
 {
@@ -179,7 +179,7 @@ fn export_decl(
 ) -> Counted
     requires { ⌜ Ready levels (now tree) at (s .counter) scope × (markAt (now tree) at ≡ mark "Ed") ⌝ }
     ensures { λ r. ⌜
-        Gives (now (out .entry)) (now (out .exit)) (now (diagnostics .entry)) (now (diagnostics .exit)) s r
+        MakesCounted (now (out .entry)) (now (out .exit)) (now (diagnostics .entry)) (now (diagnostics .exit)) s r
         (exportOf (now (list .entry)) (now (tree .entry)) scope top (treeAt levels (now (tree .entry)) at) (s .counter))
         ⌝ }
 {
@@ -223,7 +223,7 @@ fn transform_module_stmt(
 ) -> Counted
     requires { ⌜ Ready levels (now tree) at (s .counter) scope ⌝ }
     ensures { λ r. ⌜
-        Gives (now (out .entry)) (now (out .exit)) (now (diagnostics .entry)) (now (diagnostics .exit)) s r
+        MakesCounted (now (out .entry)) (now (out .exit)) (now (diagnostics .entry)) (now (diagnostics .exit)) s r
         (stmtOf (now (list .entry)) (now (tree .entry)) scope top (treeAt levels (now (tree .entry)) at) (s .counter))
         ⌝ }
 {
@@ -263,7 +263,7 @@ fn decl_to_type_decl(
 ) -> Typed
     requires { ⌜ Ready levels (now tree) at (s .counter) scope ⌝ }
     ensures { λ r. ⌜
-        Did (now (out .entry)) (now (out .exit)) (now (diagnostics .entry)) (now (diagnostics .exit)) s r
+        MakesMaybe (now (out .entry)) (now (out .exit)) (now (diagnostics .entry)) (now (diagnostics .exit)) s r
         (declOf (now (list .entry)) (now (tree .entry)) scope top (treeAt levels (now (tree .entry)) at) (s .counter))
         ⌝ }
 {

@@ -11,7 +11,7 @@ use Rattle.definition.specs.Grammar.{mark}
 use Rattle.definition.specs.Record.{made, ident, one}
 use Rattle.records.specs.declared.Range.{Range}
 use Rattle.records.specs.Fields.{fieldBytes, span, madeFields}
-use Rattle.records.specs.Wrote.{top, sat, Put}
+use Rattle.records.specs.Wrote.{highest, sat, Put}
 use Rattle.records.proofs.Stores.{sets-append, sets-out}
 
 -- ---- writes
@@ -21,9 +21,9 @@ put-byte p x e h = record { bytes = e; position = h }
 
 -- where positions stop there is no room
 sets-sat : (b : List ℕ) (p n : ℕ) (F : List ℕ) → length b < 2 ^ 64 → sets b (sat p n) F ≡ sets b (p + n) F
-sets-sat b p n F h = go (decLe (p + n) top)
+sets-sat b p n F h = go (decLe (p + n) highest)
   where
-    go : Dec (p + n ≤ top) → sets b (sat p n) F ≡ sets b (p + n) F
+    go : Dec (p + n ≤ highest) → sets b (sat p n) F ≡ sets b (p + n) F
     go (yes l) = ap (λ (k : ℕ). sets b k F) (omega arith)
     go (no l) = sets-out b (sat p n) F (omega arith) ∙ sym (sets-out b (p + n) F (omega arith))
 

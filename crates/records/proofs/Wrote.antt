@@ -8,7 +8,7 @@ use native.Mathlib.Omega.{arith}
 use lib.ListN.{length, getD, length-append, List·getD-append}
 use lib.Seq.{sets, length-sets, getD-append-add, ext-getD}
 use Rattle.definition.proofs.Places.{below-or-not}
-use Rattle.records.specs.Wrote.{top, sat, Wrote, Put, Ran}
+use Rattle.records.specs.Wrote.{highest, sat, Wrote, Put, Ran}
 use Rattle.records.proofs.Stores.{sets-below, sets-above, sets-in}
 
 getD-second : (E F : List ℕ) (i : ℕ) → length E ≤ i → getD (E ++ F) i 0 ≡ getD F (i - length E) 0
@@ -63,7 +63,7 @@ wrote-front {a} {b} {K} p H w =
     }
 
 -- on a slice that E just fills, the slice is E
-pub wrote-exact : {a b E : List ℕ} → Wrote a b 0 E → length a ≡ length E → length E < top → b ≡ E
+pub wrote-exact : {a b E : List ℕ} → Wrote a b 0 E → length a ≡ length E → length E < highest → b ≡ E
 wrote-exact {a} {b} {E} w h k =
     ext-getD 0 b E (w .same ∙ h) (λ i l.
     let s = w .same in
@@ -78,14 +78,14 @@ put-then {b = b} {c = c} {F = F} v w = wrote-then (put-wrote v) (subst (λ (x : 
 
 -- ---- two slices
 
-pub ran-none : (o g : List ℕ) (p d : ℕ) → p ≤ top → d ≤ top → Ran o o g g p d p d [] []
+pub ran-none : (o g : List ℕ) (p d : ℕ) → p ≤ highest → d ≤ highest → Ran o o g g p d p d [] []
 ran-none o g p d h k = record { out = wrote-none o p; dia = wrote-none g d; atp = omega arith; atd = omega arith }
 
 -- only the output is written, or only the diagnostics
-pub ran-out : {o o' : List ℕ} (g : List ℕ) {p d p' : ℕ} {E : List ℕ} → Wrote o o' p E → p' ≡ sat p (length E) → d ≤ top → Ran o o' g g p d p' d E []
+pub ran-out : {o o' : List ℕ} (g : List ℕ) {p d p' : ℕ} {E : List ℕ} → Wrote o o' p E → p' ≡ sat p (length E) → d ≤ highest → Ran o o' g g p d p' d E []
 ran-out g {d = d} w e k = record { out = w; dia = wrote-none g d; atp = e; atd = omega arith }
 
-pub ran-dia : (o : List ℕ) {g g' : List ℕ} {p d d' : ℕ} {D : List ℕ} → Wrote g g' d D → d' ≡ sat d (length D) → p ≤ top → Ran o o g g' p d p d' [] D
+pub ran-dia : (o : List ℕ) {g g' : List ℕ} {p d d' : ℕ} {D : List ℕ} → Wrote g g' d D → d' ≡ sat d (length D) → p ≤ highest → Ran o o g g' p d p d' [] D
 ran-dia o {p = p} w e k = record { out = wrote-none o p; dia = w; atp = omega arith; atd = e }
 
 pub ran-then : {o o' o'' g g' g'' : List ℕ} {p d p' d' p'' d'' : ℕ} {E D F G : List ℕ}
@@ -99,10 +99,10 @@ ran-then {o' = o'} {o'' = o''} {g' = g'} {g'' = g''} {E = E} {D = D} {F = F} {G 
     }
 
 -- the output is given up: its position goes back to p, from where it was, or from k behind p
-pub ran-back : {o o' g g' : List ℕ} {p d p' d' : ℕ} {E D : List ℕ} → p ≤ top → Ran o o' g g' p d p' d' E D → Ran o o' g g' p d p d' [] D
+pub ran-back : {o o' g g' : List ℕ} {p d p' d' : ℕ} {E D : List ℕ} → p ≤ highest → Ran o o' g g' p d p' d' E D → Ran o o' g g' p d p d' [] D
 ran-back h r = record { out = wrote-drop (r .out); dia = r .dia; atp = omega arith; atd = r .atd }
 
-pub ran-lower : {o o' g g' : List ℕ} (p k : ℕ) {d p' d' : ℕ} {E D : List ℕ} → p ≤ top → Ran o o' g g' (sat p k) d p' d' E D → Ran o o' g g' p d p d' [] D
+pub ran-lower : {o o' g g' : List ℕ} (p k : ℕ) {d p' d' : ℕ} {E D : List ℕ} → p ≤ highest → Ran o o' g g' (sat p k) d p' d' E D → Ran o o' g g' p d p d' [] D
 ran-lower p k h r = record {
   out = record { same = r .out .same; keep = λ i l m. r .out .keep i (omega arith) m; new = λ i l m n. absurd (omega arith) };
   dia = r .dia;

@@ -6,19 +6,19 @@ use lib.ListN.{length, getD}
 use lib.Seq.{sets}
 
 -- the largest position
-abbrev pub top : ℕ
-top = 2 ^ 64 - 1
+abbrev pub highest : ℕ
+highest = 2 ^ 64 - 1
 
 -- the position n past p
 abbrev pub sat : ℕ → ℕ → ℕ
-sat p n = min (p + n) top
+sat p n = min (p + n) highest
 
 -- `before` became `after` by writing E from p on, as far as there is room: the same length; below p as before; at p the bytes of E. What stands
 -- behind them is left open, so that a part that was given up can be written over
 pub record Wrote (before after : List ℕ) (p : ℕ) (E : List ℕ) : Type 0 where
   pub same : length after ≡ length before
-  pub keep : (i : ℕ) → i < p → i < top → getD after i 0 ≡ getD before i 0
-  pub new : (i : ℕ) → i < length E → p + i < length before → p + i < top → getD after (p + i) 0 ≡ getD E i 0
+  pub keep : (i : ℕ) → i < p → i < highest → getD after i 0 ≡ getD before i 0
+  pub new : (i : ℕ) → i < length E → p + i < length before → p + i < highest → getD after (p + i) 0 ≡ getD E i 0
 
 -- what a writer of E at p does and returns: nothing but E is written, and the position behind it is returned
 pub record Put (before after : List ℕ) (p : ℕ) (E : List ℕ) (next : ℕ) : Type 0 where

@@ -51,7 +51,7 @@ const DIAGNOSTIC_START: usize = 2;
 const DIAGNOSTIC_END: usize = 6;
 
 // The largest position.
-const TOP: usize = 0xffff_ffff_ffff_ffff;
+const HIGHEST: usize = 0xffff_ffff_ffff_ffff;
 
 // "start and end (4 each; what `range()` gives ..)".
 pub struct Range {
@@ -196,7 +196,7 @@ pub fn record_at(tree: &[u8], at: usize, levels: usize) -> &[u8]
 pub fn advance(p: usize, n: usize) -> usize
     ensures { λ r. ⌜ r ≡ sat p n ⌝ }
 {
-    if n <= TOP - p { p + n } else { TOP }
+    if n <= HIGHEST - p { p + n } else { HIGHEST }
 }
 
 // One byte at p, dropped past the end.

@@ -22,8 +22,8 @@ use Rattle.records.proofs.Whole.{slice-bytes}
 use Rattle.prescan.specs.declared.Scope.{Scope}
 use Rattle.typing.specs.declared.State.{State}
 use Rattle.typing.specs.declared.Counted.{Counted}
-use Rattle.typing.specs.Did.{idsOf, Puts, movedTo}
-use Rattle.typing.specs.Below.{Gives}
+use Rattle.typing.specs.Did.{idsOf, Writes, movedTo}
+use Rattle.typing.specs.Below.{MakesCounted}
 use Rattle.parts.specs.Makes.{frontBytes, Makes}
 use Rattle.parts.proofs.Makes.{makes-front-last}
 use Rattle.parts.proofs.Kept.{head-short}
@@ -67,13 +67,13 @@ module _ (tree : List ℕ) (a : AcceptedAt deepest tree 0) (known : (i : ℕ) �
 
   module _ (list : List ℕ) (ctx : ℕ) {o o1 o2 g g2 : List ℕ} {b b2 s2 : State} {h : Fields} {first size p : ℕ} {made : Counted} where
     pub module-made : h ≡ fieldsAt tree 0 → first ≡ bodyAt tree 0 → b ≡ start → size ≡ headSize + lengthAt tree 0 → p ≡ sat 0 size
-        → Gives o o1 g g2 (movedTo b p) made (itemsOf list tree (outside ctx tree) true (recordsAt (deepest - 1) tree (h .count) first) (b .counter))
-        → b2 ≡ start → Puts o1 o2 b2 s2 (frontBytes (withFlags (headAt tree 0) (h .flags)) (made .count)) true
+        → MakesCounted o o1 g g2 (movedTo b p) made (itemsOf list tree (outside ctx tree) true (recordsAt (deepest - 1) tree (h .count) first) (b .counter))
+        → b2 ≡ start → Writes o1 o2 b2 s2 (frontBytes (withFlags (headAt tree 0) (h .flags)) (made .count)) true
         → Makes o o2 g g2 start (made .s) (transformed list ctx tree)
     unfolding transform transformBy treeAt headAt idsOf
     module-made e f q l m w r v =
         let k : h .count ≡ countAt tree 0 = ap (λ (x : Fields). x .count) e in
         let at : p ≡ sat 0 (headSize + length (headAt tree 0 .text)) = m ∙ ap (sat 0) (l ∙ ap (λ (n : ℕ). headSize + n) (sym (text-length deepest tree 0 a))) in
-        let items : Gives o o1 g g2 (movedTo start (sat 0 (headSize + length (headAt tree 0 .text)))) made (itemsOf list tree (outside ctx tree) true (recordsAt (deepest - 1) tree (countAt tree 0) (bodyAt tree 0)) 0) = rw (k, f, q, at) at w in
-        let front : Puts o1 o2 start s2 (frontBytes (headAt tree 0) (made .count)) true = rw (r, ap (λ (x : Fields). x .flags) e) at v in
+        let items : MakesCounted o o1 g g2 (movedTo start (sat 0 (headSize + length (headAt tree 0 .text)))) made (itemsOf list tree (outside ctx tree) true (recordsAt (deepest - 1) tree (countAt tree 0) (bodyAt tree 0)) 0) = rw (k, f, q, at) at w in
+        let front : Writes o1 o2 start s2 (frontBytes (headAt tree 0) (made .count)) true = rw (r, ap (λ (x : Fields). x .flags) e) at v in
         makes-front-last start (headAt tree 0) (record { step = items .step }) front (items .many) (head-short deepest tree 0 a known)

@@ -26,17 +26,17 @@ use Rattle.definition.proofs.Children.{itself, end-after, end-inside}
 use Rattle.definition.proofs.Counting.{counter-low, counter-high}
 use Rattle.definition.proofs.Kids.{Child, mark-is, head-is, text-is, text-length, left-of, id-text, member-one}
 use Rattle.records.specs.Fields.{span, rangeAt}
-use Rattle.records.specs.Wrote.{top, sat, Put, Ran}
+use Rattle.records.specs.Wrote.{highest, sat, Put, Ran}
 use Rattle.swc_helpers.proofs.Made.{encode-two}
 use Rattle.prescan.specs.declared.Scope.{Scope}
 use Rattle.typing.specs.declared.State.{State}
 use Rattle.typing.specs.declared.Typed.{Typed}
 use Rattle.typing.specs.declared.Typed.the-variants.{Some, None}
 use Rattle.typing.specs.declared.Counted.{Counted}
-use Rattle.typing.specs.Did.{Ready, idsOf, mutableMode, typeOf, diagAt, Marks, Step, Did, Gave, movedTo, backTo}
+use Rattle.typing.specs.Did.{Ready, idsOf, mutableMode, typeOf, diagAt, Marks, Step, MakesMaybe, MakesAtMostOne, movedTo, backTo}
 use Rattle.typing.specs.Parts.{bindingFront, uniqueFront}
 use Rattle.typing.specs.Moved.{Unnamed}
-use Rattle.typing.specs.Below.{paramOf, paramType, patType, Gives, countedOf}
+use Rattle.typing.specs.Below.{paramOf, paramType, patType, MakesCounted, countedOf}
 use Rattle.typing.proofs.Steps.{and-true, step-none, step-put, step-then, step-as, step-back, step-lower, step-marks, IsSome, IsNone, did-some, did-none, Front}
 use Rattle.typing.proofs.Fits.{name-fits, text-short}
 use Rattle.typing.proofs.Counter.{records-within}
@@ -135,14 +135,14 @@ module _ (tree : List ℕ) (scope : Scope) (levels at n : ℕ) where
 
 -- ---- what the code does for each
 
-pub gave-keep : {o o' : List ℕ} (g : List ℕ) (s : State) {q : ℕ} {r : Rec} {x : Out Recs} → s .reported ≤ top → textsFit r ≡ true → Put o o' (s .written) (encode r) q → x ≡ (one r, [], s .counter)
-    → Gave o o' g g s (Some (movedTo s q)) x
+pub gave-keep : {o o' : List ℕ} (g : List ℕ) (s : State) {q : ℕ} {r : Rec} {x : Out Recs} → s .reported ≤ highest → textsFit r ≡ true → Put o o' (s .written) (encode r) q → x ≡ (one r, [], s .counter)
+    → MakesAtMostOne o o' g g s (Some (movedTo s q)) x
 gave-keep g s {r = r} h f w e = rw e (record { value = some r; same = refl; did = did-some (step-as (step-put g s w h) refl refl refl (sym f)) })
 
-pub gave-none : (o g : List ℕ) (s : State) {x : Out Recs} → s .written ≤ top → s .reported ≤ top → x ≡ (nil, [], s .counter) → Gave o o g g s (None s) x
+pub gave-none : (o g : List ℕ) (s : State) {x : Out Recs} → s .written ≤ highest → s .reported ≤ highest → x ≡ (nil, [], s .counter) → MakesAtMostOne o o g g s (None s) x
 gave-none o g s h k e = rw e (record { value = none; same = refl; did = did-none (step-none o g s h k) })
 
-pub gave-mark : (o : List ℕ) {g g' : List ℕ} (s : State) {s' : State} {d : Diag} {x : Out Recs} → s .written ≤ top → Marks g g' s s' d → x ≡ (nil, d ∷ [], s .counter) → Gave o o g g' s (None s') x
+pub gave-mark : (o : List ℕ) {g g' : List ℕ} (s : State) {s' : State} {d : Diag} {x : Out Recs} → s .written ≤ highest → Marks g g' s s' d → x ≡ (nil, d ∷ [], s .counter) → MakesAtMostOne o o g g' s (None s') x
 gave-mark o s h w e = rw e (record { value = none; same = refl; did = did-none (step-marks o w h) })
 
 -- the front of a parameter
@@ -158,20 +158,20 @@ unfolding textsFit allTextsFit
 binding-fits h name ty e = sym (ap (λ (b : Bool). b && (textsFit ty && true)) e ∙ and-true (textsFit ty))
 
 -- a default that has no type
-pub gave-left-out : {o o1 o2 g g2 : List ℕ} (s : State) {s2 : State} {y : Out (Option Rec)} {x : Out Recs} {q : ℕ} {F : List ℕ} → s .written ≤ top → s .reported ≤ top → Put o o1 (s .written) F q
-    → IsNone o1 o2 g g2 (movedTo s q) s2 y → x ≡ (nil, y .1, y .2) → Gave o o2 g g2 s (None (backTo s s2)) x
+pub gave-left-out : {o o1 o2 g g2 : List ℕ} (s : State) {s2 : State} {y : Out (Option Rec)} {x : Out Recs} {q : ℕ} {F : List ℕ} → s .written ≤ highest → s .reported ≤ highest → Put o o1 (s .written) F q
+    → IsNone o1 o2 g g2 (movedTo s q) s2 y → x ≡ (nil, y .1, y .2) → MakesAtMostOne o o2 g g2 s (None (backTo s s2)) x
 gave-left-out {g = g} s h k v w e = rw e (record { value = none; same = refl; did = did-none (step-back h (step-then (step-put g s v k) (w .step))) })
 
-pub gave-skipped : {o o2 g g2 : List ℕ} (s : State) {s2 : State} {y : Out (Option Rec)} {x : Out Recs} {q : ℕ} (k : ℕ) → s .written ≤ top → q ≡ sat (s .written) k → IsNone o o2 g g2 (movedTo s q) s2 y
-    → x ≡ (nil, y .1, y .2) → Gave o o2 g g2 s (None (backTo s s2)) x
+pub gave-skipped : {o o2 g g2 : List ℕ} (s : State) {s2 : State} {y : Out (Option Rec)} {x : Out Recs} {q : ℕ} (k : ℕ) → s .written ≤ highest → q ≡ sat (s .written) k → IsNone o o2 g g2 (movedTo s q) s2 y
+    → x ≡ (nil, y .1, y .2) → MakesAtMostOne o o2 g g2 s (None (backTo s s2)) x
 gave-skipped {o} {o2} {g} {g2} s {s2} {y} k h z w e =
     let u : Step o o2 g g2 (movedTo s (sat (s .written) k)) s2 [] (y .1) (y .2) true = rw z at (w .step) in
     rw e (record { value = none; same = refl; did = did-none (step-lower s k h u) })
 
 module _ (tree : List ℕ) (levels at : ℕ) {o o1 o2 g g2 : List ℕ} (s : State) {s2 : State} {y : Out (Option Rec)} {x : Out Recs} where
-  pub gave-named : {q : ℕ} (name : List ℕ) → s .reported ≤ top → textsFit (identAt (headOf (treeAt levels tree at)) name) ≡ true → Put o o1 (s .written) (bindingFront (span (rangeAt tree at)) name) q
+  pub gave-named : {q : ℕ} (name : List ℕ) → s .reported ≤ highest → textsFit (identAt (headOf (treeAt levels tree at)) name) ≡ true → Put o o1 (s .written) (bindingFront (span (rangeAt tree at)) name) q
       → IsSome o1 o2 g g2 (movedTo s q) s2 y → x ≡ given (y .0) (nil, y .1, y .2) (λ ty. (one (bindingIdent (headOf (treeAt levels tree at)) name ty), y .1, y .2))
-      → Gave o o2 g g2 s (Some s2) x
+      → MakesAtMostOne o o2 g g2 s (Some s2) x
   gave-named name k f v w e =
       let ty : Rec = w .type in
       rw (e, w .same) (record {
@@ -206,7 +206,7 @@ unnamed-step {o} {o1} {o2} {g} {g1} s {made} {r} {E} {ds} {n} {at} {f} w u =
 pub gave-unnamed : (tree : List ℕ) (levels at : ℕ) {o o1 o2 g g1 : List ℕ} (s : State) {made r : State} {q : ℕ} {y : Out (Option Rec)} {x : Out Recs} → q ≡ sat (s .written) (uniqueFront (s .counter + 1))
     → IsSome o o1 g g1 (movedTo s q) made y → Unnamed o1 o2 s made r (span (rangeAt tree at))
     → x ≡ given (y .0) (nil, y .1, y .2) (λ ty. (one (bindingIdent (headOf (treeAt levels tree at)) (genUniqueName (y .2 + 1)) ty), y .1, y .2 + 1))
-    → Gave o o2 g g1 s (Some r) x
+    → MakesAtMostOne o o2 g g1 s (Some r) x
 gave-unnamed tree levels at {o} {o1} {o2} {g} {g1} s {made} {r} {q} {y} z w u e =
     let ty : Rec = w .type in
     let f : textsFit (identAt (headOf (treeAt levels tree at)) (genUniqueName (y .2 + 1))) ≡ true =
@@ -221,8 +221,8 @@ gave-unnamed tree levels at {o} {o1} {o2} {g} {g1} s {made} {r} {q} {y} z w u e 
     })
 
 -- the same state, as a call returns it
-pub gave-at : {o o' g g' : List ℕ} {s r s' : State} {x : Out Recs} → r ≡ s' → Gave o o' g g' s (None s') x → Gave o o' g g' s (None r) x
-gave-at {o} {o'} {g} {g'} {s} {x = x} e w = subst (λ (q : State). Gave o o' g g' s (None q) x) (sym e) w
+pub gave-at : {o o' g g' : List ℕ} {s r s' : State} {x : Out Recs} → r ≡ s' → MakesAtMostOne o o' g g' s (None s') x → MakesAtMostOne o o' g g' s (None r) x
+gave-at {o} {o'} {g} {g'} {s} {x = x} e w = subst (λ (q : State). MakesAtMostOne o o' g g' s (None q) x) (sym e) w
 
 -- the name of a Bd fits
 pub named-fits : (levels : ℕ) (tree : List ℕ) (at : ℕ) → AcceptedAt levels tree at → markAt tree at ≡ mark "Ag" → markAt tree (bodyAt tree at) ≡ mark "Bd" → ((i : ℕ) → mir.Val.Fits w8 (getD tree i 0))

@@ -53,7 +53,7 @@ typeOf tree m levels at n = readonlyIf (m .frozen) (exprToTsType (idsOf tree) (m
 -- ---- what was done
 
 -- only E was written, where `s` stood in the output; f says whether its texts fit
-pub record Puts (o o' : List ℕ) (s s' : State) (E : List ℕ) (f : Bool) : Type 0 where
+pub record Writes (o o' : List ℕ) (s s' : State) (E : List ℕ) (f : Bool) : Type 0 where
   pub put : Put o o' (s .written) E (s' .written)
   pub same : s' ≡ record { written = s' .written; reported = s .reported; counter = s .counter; fits = s .fits && f }
 
@@ -85,16 +85,16 @@ fitOf none = true
 fitOf (some t) = textsFit t
 
 -- a typing that gives x: whether there is a type, what was written, and where it stands behind that
-pub record Did (o o' g g' : List ℕ) (s : State) (r : Typed) (x : Out (Option Rec)) : Type 0 where
+pub record MakesMaybe (o o' g g' : List ℕ) (s : State) (r : Typed) (x : Out (Option Rec)) : Type 0 where
   pub after : State
   pub answer : r ≡ answerOf (x .0) after
   pub step : Step o o' g g' s after (bytesOf (x .0)) (x .1) (x .2) (fitOf (x .0))
 
 -- the same where the definition gives no record or one
-pub record Gave (o o' g g' : List ℕ) (s : State) (r : Typed) (x : Out Recs) : Type 0 where
+pub record MakesAtMostOne (o o' g g' : List ℕ) (s : State) (r : Typed) (x : Out Recs) : Type 0 where
   pub value : Option Rec
   pub same : x .0 ≡ given value nil one
-  pub did : Did o o' g g' s r (value, x .1, x .2)
+  pub did : MakesMaybe o o' g g' s r (value, x .1, x .2)
 
 -- a type t, or any and the diagnostic e
 pub record Filled (o o' g g' : List ℕ) (t : Typed) (r : State) (e : Diag) : Type 0 where

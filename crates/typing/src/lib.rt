@@ -6,9 +6,9 @@ ghost use Prim.Native.Nat.{_+_, _≤_};
 ghost use lib.ListN.{length};
 ghost use Rattle.definition.specs.Tree.{headSize, markAt, bodyAt};
 ghost use Rattle.definition.specs.Grammar.{mark};
-ghost use Rattle.typing.specs.Did.{Ready, mutableMode, typeOf, diagAt, backTo, typedAs, Marks, Did, Gave, Filled};
+ghost use Rattle.typing.specs.Did.{Ready, mutableMode, typeOf, diagAt, backTo, typedAs, Marks, MakesMaybe, MakesAtMostOne, Filled};
 ghost use Rattle.typing.specs.Below.{tupleType, elementType, restType, memberType, paramType, functionMark, paramsFrom, functionOf, patType};
-ghost use Rattle.typing.specs.Below.{Gives, countedOf, DidAll};
+ghost use Rattle.typing.specs.Below.{MakesCounted, countedOf, DidAll};
 use crate::leaves::array_ident;
 use crate::leaves::as_type;
 use crate::leaves::ident_to_ts_type;
@@ -201,7 +201,7 @@ fn shorthand(
 ) -> Counted
     requires { ⌜ Ready levels (now tree) at (s .counter) (mode .scope) × (markAt (now tree) at ≡ mark "Sh") ⌝ }
     ensures { λ r. ⌜
-        Gives (now (out .entry)) (now (out .exit)) (now (diagnostics .entry)) (now (diagnostics .exit)) s r
+        MakesCounted (now (out .entry)) (now (out .exit)) (now (diagnostics .entry)) (now (diagnostics .exit)) s r
         (memberType (now (tree .entry)) mode levels at (s .counter))
         ⌝ }
 {
@@ -250,7 +250,7 @@ pub fn expr_to_ts_type(
 ) -> Typed
     requires { ⌜ Ready levels (now tree) at (s .counter) (mode .scope) ⌝ }
     ensures { λ r. ⌜
-        Did (now (out .entry)) (now (out .exit)) (now (diagnostics .entry)) (now (diagnostics .exit)) s r
+        MakesMaybe (now (out .entry)) (now (out .exit)) (now (diagnostics .entry)) (now (diagnostics .exit)) s r
         (typeOf (now (tree .entry)) mode levels at (s .counter))
         ⌝ }
 {
@@ -295,7 +295,7 @@ fn array_type(
 ) -> Typed
     requires { ⌜ Ready levels (now tree) at (s .counter) (mode .scope) × (markAt (now tree) at ≡ mark "Ar") ⌝ }
     ensures { λ r. ⌜
-        Did (now (out .entry)) (now (out .exit)) (now (diagnostics .entry)) (now (diagnostics .exit)) s r
+        MakesMaybe (now (out .entry)) (now (out .exit)) (now (diagnostics .entry)) (now (diagnostics .exit)) s r
         (typeOf (now (tree .entry)) mode levels at (s .counter))
         ⌝ }
 {
@@ -322,7 +322,7 @@ fn tuple_type(
 ) -> Typed
     requires { ⌜ Ready levels (now tree) at (s .counter) (mode .scope) ⌝ }
     ensures { λ r. ⌜
-        Did (now (out .entry)) (now (out .exit)) (now (diagnostics .entry)) (now (diagnostics .exit)) s r
+        MakesMaybe (now (out .entry)) (now (out .exit)) (now (diagnostics .entry)) (now (diagnostics .exit)) s r
         (tupleType (now (tree .entry)) mode levels at (s .counter))
         ⌝ }
 {
@@ -430,7 +430,7 @@ fn rest_type(
 ) -> Typed
     requires { ⌜ Ready levels (now tree) at (s .counter) (mode .scope) ⌝ }
     ensures { λ r. ⌜
-        Did (now (out .entry)) (now (out .exit)) (now (diagnostics .entry)) (now (diagnostics .exit)) s r
+        MakesMaybe (now (out .entry)) (now (out .exit)) (now (diagnostics .entry)) (now (diagnostics .exit)) s r
         (restType (now (tree .entry)) mode levels at (s .counter))
         ⌝ }
 {
@@ -458,7 +458,7 @@ fn object_type(
 ) -> Typed
     requires { ⌜ Ready levels (now tree) at (s .counter) (mode .scope) × (markAt (now tree) at ≡ mark "Ob") ⌝ }
     ensures { λ r. ⌜
-        Did (now (out .entry)) (now (out .exit)) (now (diagnostics .entry)) (now (diagnostics .exit)) s r
+        MakesMaybe (now (out .entry)) (now (out .exit)) (now (diagnostics .entry)) (now (diagnostics .exit)) s r
         (typeOf (now (tree .entry)) mode levels at (s .counter))
         ⌝ }
 {
@@ -495,7 +495,7 @@ fn property_type(
 ) -> Counted
     requires { ⌜ Ready levels (now tree) at (s .counter) (mode .scope) ⌝ }
     ensures { λ r. ⌜
-        Gives (now (out .entry)) (now (out .exit)) (now (diagnostics .entry)) (now (diagnostics .exit)) s r
+        MakesCounted (now (out .entry)) (now (out .exit)) (now (diagnostics .entry)) (now (diagnostics .exit)) s r
         (memberType (now (tree .entry)) mode levels at (s .counter))
         ⌝ }
 {
@@ -520,7 +520,7 @@ fn key_value(
 ) -> Counted
     requires { ⌜ Ready levels (now tree) at (s .counter) (mode .scope) × (markAt (now tree) at ≡ mark "Kv") ⌝ }
     ensures { λ r. ⌜
-        Gives (now (out .entry)) (now (out .exit)) (now (diagnostics .entry)) (now (diagnostics .exit)) s r
+        MakesCounted (now (out .entry)) (now (out .exit)) (now (diagnostics .entry)) (now (diagnostics .exit)) s r
         (memberType (now (tree .entry)) mode levels at (s .counter))
         ⌝ }
 {
@@ -547,7 +547,7 @@ fn call_type(
 ) -> Typed
     requires { ⌜ Ready levels (now tree) at (s .counter) (mode .scope) × (markAt (now tree) at ≡ mark "Ca") ⌝ }
     ensures { λ r. ⌜
-        Did (now (out .entry)) (now (out .exit)) (now (diagnostics .entry)) (now (diagnostics .exit)) s r
+        MakesMaybe (now (out .entry)) (now (out .exit)) (now (diagnostics .entry)) (now (diagnostics .exit)) s r
         (typeOf (now (tree .entry)) mode levels at (s .counter))
         ⌝ }
 {
@@ -580,7 +580,7 @@ fn function_type(
 ) -> Typed
     requires { ⌜ Ready levels (now tree) at (s .counter) scope × (markAt (now tree) at ≡ functionMark function) ⌝ }
     ensures { λ r. ⌜
-        Did (now (out .entry)) (now (out .exit)) (now (diagnostics .entry)) (now (diagnostics .exit)) s r
+        MakesMaybe (now (out .entry)) (now (out .exit)) (now (diagnostics .entry)) (now (diagnostics .exit)) s r
         (functionOf (now (tree .entry)) (scope .unresolved) function levels at (s .counter))
         ⌝ }
 {
@@ -629,7 +629,7 @@ fn param_type(
 ) -> Counted
     requires { ⌜ Ready levels (now tree) at (s .counter) scope ⌝ }
     ensures { λ r. ⌜
-        Gives (now (out .entry)) (now (out .exit)) (now (diagnostics .entry)) (now (diagnostics .exit)) s r
+        MakesCounted (now (out .entry)) (now (out .exit)) (now (diagnostics .entry)) (now (diagnostics .exit)) s r
         (paramType (now (tree .entry)) (scope .unresolved) function levels at (s .counter))
         ⌝ }
 {
@@ -655,7 +655,7 @@ pub fn pat_to_ts_fn_param(
 ) -> Typed
     requires { ⌜ Ready levels (now tree) at (s .counter) scope ⌝ }
     ensures { λ r. ⌜
-        Gave (now (out .entry)) (now (out .exit)) (now (diagnostics .entry)) (now (diagnostics .exit)) s r
+        MakesAtMostOne (now (out .entry)) (now (out .exit)) (now (diagnostics .entry)) (now (diagnostics .exit)) s r
         (patType (now (tree .entry)) (scope .unresolved) levels at (s .counter))
         ⌝ }
 {
@@ -693,7 +693,7 @@ fn named_param(
     requires { ⌜ Ready levels (now tree) at (s .counter) scope × (markAt (now tree) at ≡ mark "Ag") ⌝ }
     requires { ⌜ markAt (now tree) (bodyAt (now tree) at) ≡ mark "Bd" ⌝ }
     ensures { λ r. ⌜
-        Gave (now (out .entry)) (now (out .exit)) (now (diagnostics .entry)) (now (diagnostics .exit)) s r
+        MakesAtMostOne (now (out .entry)) (now (out .exit)) (now (diagnostics .entry)) (now (diagnostics .exit)) s r
         (patType (now (tree .entry)) (scope .unresolved) levels at (s .counter))
         ⌝ }
 {
@@ -727,7 +727,7 @@ fn unnamed_param(
     requires { ⌜ Ready levels (now tree) at (s .counter) scope × (markAt (now tree) at ≡ mark "Ag") ⌝ }
     requires { ⌜ (markAt (now tree) (bodyAt (now tree) at) ≡ mark "Bd" → ⊥) ⌝ }
     ensures { λ r. ⌜
-        Gave (now (out .entry)) (now (out .exit)) (now (diagnostics .entry)) (now (diagnostics .exit)) s r
+        MakesAtMostOne (now (out .entry)) (now (out .exit)) (now (diagnostics .entry)) (now (diagnostics .exit)) s r
         (patType (now (tree .entry)) (scope .unresolved) levels at (s .counter))
         ⌝ }
 {

@@ -16,7 +16,7 @@ use Rattle.classes.proofs.handle_function.Tie as tie
 use Rattle.classes.proofs.handle_function.Reads as reads
 use Rattle.classes.proofs.handle_function.Lts as lts
 use Rattle.classes.proofs.params.handle_func_params.Reads as handle-func-params-reads
-use Rattle.classes.proofs.put_return_type.Reads as put-return-type-reads
+use Rattle.classes.proofs.keep_return_type.Reads as keep-return-type-reads
 use Rattle.parts.proofs.keep.Reads as keep-reads
 use Rattle.parts.proofs.put_front.Reads as put-front-reads
 use Rattle.parts.proofs.put_gone.Reads as put-gone-reads
@@ -57,11 +57,11 @@ sub-keep c = omega (arith, level (c .before .before .before .before .before .bef
 keep-requires : tie.Need-keep-requires
 keep-requires c κs = kids-three _ _ _ (c .before .before .before .before .before .before .before .before .before .before .before .before .before .pre .0 .accepted) (has (mark "Fu") _ _ _ (c .before .before .before .before .before .before .before .before .before .before .before .before .before .pre .0 .accepted) (c .before .before .before .before .before .before .before .before .before .before .before .before .before .pre .1)) (c .before .before .before .before .before .before .before .before .body-at .ensures) refl refl refl .first
 
-sub-put-return-type : tie.Need-sub-put-return-type
-sub-put-return-type c = omega (arith, level (c .before .before .before .before .before .before .before .before .before .before .before .before .before .before .before .before .pre .0 .accepted))
+sub-keep-return-type : tie.Need-sub-keep-return-type
+sub-keep-return-type c = omega (arith, level (c .before .before .before .before .before .before .before .before .before .before .before .before .before .before .before .before .pre .0 .accepted))
 
-put-return-type-requires : tie.Need-put-return-type-requires
-put-return-type-requires c κs = kids-three _ _ _ (c .before .before .before .before .before .before .before .before .before .before .before .before .before .before .before .before .before .pre .0 .accepted) (has (mark "Fu") _ _ _ (c .before .before .before .before .before .before .before .before .before .before .before .before .before .before .before .before .before .pre .0 .accepted) (c .before .before .before .before .before .before .before .before .before .before .before .before .before .before .before .before .before .pre .1)) (c .before .before .before .before .before .before .before .before .before .before .before .before .body-at .ensures) (c .before .before .before .before .before .before .before .before .before .before .before .record-end .ensures) refl refl .second
+keep-return-type-requires : tie.Need-keep-return-type-requires
+keep-return-type-requires c κs = kids-three _ _ _ (c .before .before .before .before .before .before .before .before .before .before .before .before .before .before .before .before .before .pre .0 .accepted) (has (mark "Fu") _ _ _ (c .before .before .before .before .before .before .before .before .before .before .before .before .before .before .before .before .before .pre .0 .accepted) (c .before .before .before .before .before .before .before .before .before .before .before .before .before .before .before .before .before .pre .1)) (c .before .before .before .before .before .before .before .before .before .before .before .before .body-at .ensures) (c .before .before .before .before .before .before .before .before .before .before .before .record-end .ensures) refl refl .second
 
 sub-put-gone : tie.Need-sub-put-gone
 sub-put-gone c = omega (arith, level (c .before .before .before .before .before .before .before .before .before .before .before .before .before .before .before .before .before .before .before .before .pre .0 .accepted))
@@ -76,13 +76,13 @@ sub-handle-func-params-2 : tie.Need-sub-handle-func-params-2
 sub-handle-func-params-2 c = omega (arith, level (c .before .before .before .before .before .before .before .before .before .before .before .before .before .before .before .before .before .before .before .before .before .before .before .before .before .pre .0 .accepted))
 
 handle-func-params-requires : tie.Need-handle-func-params-requires
-handle-func-params-requires c κs = let k = kids-three _ _ _ (c .before .before .before .before .before .before .before .before .before .before .before .before .before .before .before .before .before .before .before .before .before .before .before .before .before .before .before .pre .0 .accepted) (has (mark "Fu") _ _ _ (c .before .before .before .before .before .before .before .before .before .before .before .before .before .before .before .before .before .before .before .before .before .before .before .before .before .before .before .pre .0 .accepted) (c .before .before .before .before .before .before .before .before .before .before .before .before .before .before .before .before .before .before .before .before .before .before .before .before .before .before .before .pre .1)) (c .before .before .before .before .before .before .before .before .before .before .before .before .before .before .before .before .before .before .before .before .before .before .body-at .ensures) (c .before .before .before .before .before .before .before .before .before .before .before .before .before .before .before .before .before .before .before .before .before .record-end .ensures) (c .before .before .before .before .before .before .before .before .before .before .before .before .before .before .before .before .before .before .before .before .record-end2 .ensures) (c .before .before .before .before .before .before .before .before .before .before .before .before .before .before .before .before .before .before .before .record-end3 .ensures) in ready-all (c .before .before .before .before .before .before .before .before .before .before .before .before .before .before .before .before .before .before .before .before .before .before .before .before .before .before .before .pre .0) (others-as _ _ (c .before .before .before .before .before .before .before .before .before .before .before .before .before .before .before .before .before .before .before .before .before .before .before .read-head .ensures) 3 (k .others)) (k .low3) (puts-counter (c .before .before .before .before .before .put-gone .ensures) ∙ (puts-counter (c .before .before .before .before .before .before .before .before .before .put-return-type .ensures) ∙ (puts-counter (c .before .before .before .before .before .before .before .before .before .before .before .before .before .keep .ensures) ∙ puts-counter (c .before .before .before .before .before .before .before .before .before .before .before .before .before .before .before .before .before .put-front .ensures))))
+handle-func-params-requires c κs = let k = kids-three _ _ _ (c .before .before .before .before .before .before .before .before .before .before .before .before .before .before .before .before .before .before .before .before .before .before .before .before .before .before .before .pre .0 .accepted) (has (mark "Fu") _ _ _ (c .before .before .before .before .before .before .before .before .before .before .before .before .before .before .before .before .before .before .before .before .before .before .before .before .before .before .before .pre .0 .accepted) (c .before .before .before .before .before .before .before .before .before .before .before .before .before .before .before .before .before .before .before .before .before .before .before .before .before .before .before .pre .1)) (c .before .before .before .before .before .before .before .before .before .before .before .before .before .before .before .before .before .before .before .before .before .before .body-at .ensures) (c .before .before .before .before .before .before .before .before .before .before .before .before .before .before .before .before .before .before .before .before .before .record-end .ensures) (c .before .before .before .before .before .before .before .before .before .before .before .before .before .before .before .before .before .before .before .before .record-end2 .ensures) (c .before .before .before .before .before .before .before .before .before .before .before .before .before .before .before .before .before .before .before .record-end3 .ensures) in ready-all (c .before .before .before .before .before .before .before .before .before .before .before .before .before .before .before .before .before .before .before .before .before .before .before .before .before .before .before .pre .0) (others-as _ _ (c .before .before .before .before .before .before .before .before .before .before .before .before .before .before .before .before .before .before .before .before .before .before .before .read-head .ensures) 3 (k .others)) (k .low3) (puts-counter (c .before .before .before .before .before .put-gone .ensures) ∙ (puts-counter (c .before .before .before .before .before .before .before .before .before .keep-return-type .ensures) ∙ (puts-counter (c .before .before .before .before .before .before .before .before .before .before .before .before .before .keep .ensures) ∙ puts-counter (c .before .before .before .before .before .before .before .before .before .before .before .before .before .before .before .before .before .put-front .ensures))))
 
 same-length-2 : tie.Need-same-length-2
 same-length-2 c = search needs
 
 returns : tie.Need-returns
-returns c = function-made (typingOf (c .before .before .before .before .before .before .before .before .before .before .before .before .before .before .before .before .before .before .before .before .before .before .before .before .before .before .before .before .before .before .before .before .args .tree .now) (c .before .before .before .before .before .before .before .before .before .before .before .before .before .before .before .before .before .before .before .before .before .before .before .before .before .before .before .before .before .before .before .before .args .scope)) (c .before .before .before .before .before .before .before .before .before .before .before .before .before .before .before .before .before .before .before .before .before .before .before .before .before .before .before .before .before .before .before .before .args .setter) (kids-three _ _ _ (c .before .before .before .before .before .before .before .before .before .before .before .before .before .before .before .before .before .before .before .before .before .before .before .before .before .before .before .before .before .before .before .before .pre .0 .accepted) (has (mark "Fu") _ _ _ (c .before .before .before .before .before .before .before .before .before .before .before .before .before .before .before .before .before .before .before .before .before .before .before .before .before .before .before .before .before .before .before .before .pre .0 .accepted) (c .before .before .before .before .before .before .before .before .before .before .before .before .before .before .before .before .before .before .before .before .before .before .before .before .before .before .before .before .before .before .before .before .pre .1)) (c .before .before .before .before .before .before .before .before .before .before .before .before .before .before .before .before .before .before .before .before .before .before .before .before .before .before .before .body-at .ensures) (c .before .before .before .before .before .before .before .before .before .before .before .before .before .before .before .before .before .before .before .before .before .before .before .before .before .before .record-end .ensures) (c .before .before .before .before .before .before .before .before .before .before .before .before .before .before .before .before .before .before .before .before .before .before .before .before .before .record-end2 .ensures) (c .before .before .before .before .before .before .before .before .before .before .before .before .before .before .before .before .before .before .before .before .before .before .before .before .record-end3 .ensures)) (c .before .before .before .before .before .before .before .before .before .before .before .before .before .before .before .before .before .before .before .before .before .before .before .before .before .before .before .before .before .before .before .before .pre .0 .accepted) (c .before .before .before .before .before .before .before .before .before .before .before .before .before .before .before .before .before .before .before .before .before .before .before .before .before .before .before .before .before .before .before .shared-slice-known .given) (c .before .before .before .before .before .before .before .before .before .before .before .before .before .before .before .before .before .before .before .before .before .before .before .before .before .before .before .before .read-head .ensures) (omega (arith, c .before .before .before .before .before .before .before .before .before .before .before .before .before .before .before .before .before .before .before .before .before .before .before .before .before .before .before .before .before .before .before .before .good)) (c .before .before .before .before .before .before .before .before .before .before .before .before .before .before .before .before .before .before .before .before .before .before .put-front .ensures) (c .before .before .before .before .before .before .before .before .before .before .before .before .before .before .before .before .before .before .keep .ensures) (c .before .before .before .before .before .before .before .before .before .before .before .before .before .before .put-return-type .ensures) (c .before .before .before .before .before .before .before .before .before .before .put-gone .ensures) (c .before .before .before .before .handle-func-params .ensures)
+returns c = function-made (typingOf (c .before .before .before .before .before .before .before .before .before .before .before .before .before .before .before .before .before .before .before .before .before .before .before .before .before .before .before .before .before .before .before .before .args .tree .now) (c .before .before .before .before .before .before .before .before .before .before .before .before .before .before .before .before .before .before .before .before .before .before .before .before .before .before .before .before .before .before .before .before .args .scope)) (c .before .before .before .before .before .before .before .before .before .before .before .before .before .before .before .before .before .before .before .before .before .before .before .before .before .before .before .before .before .before .before .before .args .setter) (kids-three _ _ _ (c .before .before .before .before .before .before .before .before .before .before .before .before .before .before .before .before .before .before .before .before .before .before .before .before .before .before .before .before .before .before .before .before .pre .0 .accepted) (has (mark "Fu") _ _ _ (c .before .before .before .before .before .before .before .before .before .before .before .before .before .before .before .before .before .before .before .before .before .before .before .before .before .before .before .before .before .before .before .before .pre .0 .accepted) (c .before .before .before .before .before .before .before .before .before .before .before .before .before .before .before .before .before .before .before .before .before .before .before .before .before .before .before .before .before .before .before .before .pre .1)) (c .before .before .before .before .before .before .before .before .before .before .before .before .before .before .before .before .before .before .before .before .before .before .before .before .before .before .before .body-at .ensures) (c .before .before .before .before .before .before .before .before .before .before .before .before .before .before .before .before .before .before .before .before .before .before .before .before .before .before .record-end .ensures) (c .before .before .before .before .before .before .before .before .before .before .before .before .before .before .before .before .before .before .before .before .before .before .before .before .before .record-end2 .ensures) (c .before .before .before .before .before .before .before .before .before .before .before .before .before .before .before .before .before .before .before .before .before .before .before .before .record-end3 .ensures)) (c .before .before .before .before .before .before .before .before .before .before .before .before .before .before .before .before .before .before .before .before .before .before .before .before .before .before .before .before .before .before .before .before .pre .0 .accepted) (c .before .before .before .before .before .before .before .before .before .before .before .before .before .before .before .before .before .before .before .before .before .before .before .before .before .before .before .before .before .before .before .shared-slice-known .given) (c .before .before .before .before .before .before .before .before .before .before .before .before .before .before .before .before .before .before .before .before .before .before .before .before .before .before .before .before .read-head .ensures) (omega (arith, c .before .before .before .before .before .before .before .before .before .before .before .before .before .before .before .before .before .before .before .before .before .before .before .before .before .before .before .before .before .before .before .before .good)) (c .before .before .before .before .before .before .before .before .before .before .before .before .before .before .before .before .before .before .before .before .before .before .put-front .ensures) (c .before .before .before .before .before .before .before .before .before .before .before .before .before .before .before .before .before .before .keep .ensures) (c .before .before .before .before .before .before .before .before .before .before .before .before .before .before .keep-return-type .ensures) (c .before .before .before .before .before .before .before .before .before .before .put-gone .ensures) (c .before .before .before .before .handle-func-params .ensures)
 
 same-length : tie.Need-same-length
 same-length c = returns c .step .ran .out .same
@@ -102,8 +102,8 @@ handle-function-spec =
     put-front-requires
     sub-keep
     keep-requires
-    sub-put-return-type
-    put-return-type-requires
+    sub-keep-return-type
+    keep-return-type-requires
     sub-put-gone
     put-gone-requires
     sub-handle-func-params
