@@ -12,7 +12,7 @@ use types.Run.{OneOf, miss}
 use denote.Enum.Declared.{tagOf}
 use Rattle.definition.specs.Tree.{Rec, markAt, treeAt}
 use Rattle.definition.specs.Grammar.{mark}
-use Rattle.definition.specs.Record.{markOf}
+use Rattle.definition.specs.Record.{markOf, textOf}
 use Rattle.definition.specs.Helpers.{Lit, lStr, lBool, lNull, lNum, lBigInt, lRegex, lJsxText, litKind}
 use Rattle.definition.specs.Typing.{minusBy}
 use Rattle.definition.proofs.Kids.{mark-is}
@@ -21,7 +21,7 @@ use Rattle.swc_helpers.specs.declared.literals.Literal.the-variants.{Str
 use Rattle.swc_helpers.proofs.literals.Literal.{the-type}
 use Rattle.swc_helpers.specs.declared.DeclMutabilityKind.{DeclMutabilityKind}
 use Rattle.swc_helpers.specs.declared.MaybeType.{MaybeType}
-use Rattle.swc_helpers.specs.Literal.{literalBy, literalOf, kindOf}
+use Rattle.swc_helpers.specs.Literal.{numberOf, literalBy, literalOf, kindOf}
 use Rattle.swc_helpers.specs.Found.{isConst, PutMaybe}
 
 -- ---- the type of a literal
@@ -88,9 +88,23 @@ other-minus Null r c h = refl
 other-minus Regex r c h = refl
 other-minus JsxText r c h = refl
 
+-- a number that was read is that of its text
+value-by : (k : Lit) (at : ℕ) (r : Rec) (v : Float) → literalBy k at r ≡ Num v → v ≡ numberOf (textOf r)
+unfolding literalBy
+value-by lNum at r v q = cc
+value-by lStr at r v q = absurd (let z : _≡_ {A = ℕ} 0 1 = cc in omega arith)
+value-by lBool at r v q = absurd (let z : _≡_ {A = ℕ} 0 1 = cc in omega arith)
+value-by lNull at r v q = absurd (let z : _≡_ {A = ℕ} 0 1 = cc in omega arith)
+value-by lBigInt at r v q = absurd (let z : _≡_ {A = ℕ} 0 1 = cc in omega arith)
+value-by lRegex at r v q = absurd (let z : _≡_ {A = ℕ} 0 1 = cc in omega arith)
+value-by lJsxText at r v q = absurd (let z : _≡_ {A = ℕ} 0 1 = cc in omega arith)
+
 module _ (levels : ℕ) (s : List ℕ) (at : ℕ) {lit : Literal} (f : lit ≡ literalOf at (treeAt levels s at)) where
   pub number-marked : {v : Float} → lit ≡ Num v → markAt s at ≡ mark "Nu"
   number-marked e = sym (mark-is levels s at) ∙ number-mark (markOf (treeAt levels s at)) (kind-is levels s at f e)
+
+  pub number-read : {v : Float} → lit ≡ Num v → v ≡ numberOf (textOf (treeAt levels s at))
+  number-read {v} e = value-by (litKind (markOf (treeAt levels s at))) at (treeAt levels s at) v (sym f ∙ e)
 
   pub big-marked : {x : ℕ} → lit ≡ BigInt x → markAt s at ≡ mark "Bi"
   big-marked e = sym (mark-is levels s at) ∙ big-mark (markOf (treeAt levels s at)) (kind-is levels s at f e)

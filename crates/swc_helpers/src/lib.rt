@@ -368,10 +368,16 @@ pub fn minus_lit_to_ts_type(
         ⌝ }
 {
     match literals::literal_at(tree, at, levels) {
-        Literal::Num(_) => match kind {
-            DeclMutabilityKind::Const => {
-                MaybeType::Typed(literals::negated_number(tree, at, levels, DUMMY_SP, out, p))
-            }
+        Literal::Num(value) => match kind {
+            DeclMutabilityKind::Const => MaybeType::Typed(literals::negated_number(
+                tree,
+                at,
+                levels,
+                value,
+                DUMMY_SP,
+                out,
+                p,
+            )),
             DeclMutabilityKind::Mutable => {
                 some_keyword(DUMMY_SP, TsKeywordTypeKind::TsNumberKeyword, out, p)
             }

@@ -144,14 +144,16 @@ pub fn negated_number(
     tree: &[u8],
     at: usize,
     levels: usize,
+    value: f64,
     range: Range,
     out: &mut [u8],
     p: usize,
 ) -> usize
-    requires { ⌜ AcceptedAt levels (now tree) at × (markAt (now tree) at ≡ mark "Nu") ⌝ }
+    requires { ⌜
+        (AcceptedAt levels (now tree) at × (markAt (now tree) at ≡ mark "Nu")) × (value ≡ numberOf (textOf (treeAt levels (now tree) at)))
+        ⌝ }
     ensures { λ r. ⌜ Put (now (out .entry)) (now (out .exit)) p (encode (tsLitType (span range) (respelled (treeAt levels (now (tree .entry)) at) (turned (textOf (treeAt levels (now (tree .entry)) at)))))) r ⌝ }
 {
-    let value = number_at(tree, at, levels);
     let bits = negated(value, bits_at(tree, at));
     let text = bytes_of(bits);
     let q = put_respelled(tree, at, range, out, p);

@@ -11,20 +11,17 @@ use borrow.Author.Needs.{needs}
 use Rattle.swc_helpers.proofs.literals.negated_number.Statement.{statement}
 use Rattle.swc_helpers.proofs.literals.negated_number.Tie as tie
 
-number-at-requires : tie.Need-number-at-requires
-number-at-requires c κs = search needs
-
 bits-at-requires : tie.Need-bits-at-requires
-bits-at-requires c κs = number-fits _ _ _ (c .before .before .before .pre .0) (c .before .before .before .pre .1)
+bits-at-requires c κs = number-fits _ _ _ (c .before .before .pre .0 .0) (c .before .before .pre .0 .1)
 
 negated-requires : tie.Need-negated-requires
-negated-requires c κs = c .before .number-at .ensures ∙ ap (ofBits binary64) (sym (c .bits-at .ensures ∙ number-is _ _ _ (c .before .before .before .before .pre .0) (c .before .before .before .before .pre .1)))
+negated-requires c κs = c .before .before .before .pre .1 ∙ ap (ofBits binary64) (sym (c .bits-at .ensures ∙ number-is _ _ _ (c .before .before .before .pre .0 .0) (c .before .before .before .pre .0 .1)))
 
 bytes-of-requires : tie.Need-bytes-of-requires
 bytes-of-requires c κs = search needs
 
 put-respelled-requires : tie.Need-put-respelled-requires
-put-respelled-requires c κs = body-fits _ _ _ (c .before .before .before .before .before .before .before .pre .0)
+put-respelled-requires c κs = body-fits _ _ _ (c .before .before .before .before .before .before .pre .0 .0)
 
 slice-aggregate-put-text : tie.Need-slice-aggregate-put-text
 slice-aggregate-put-text c = search needs
@@ -38,13 +35,12 @@ same-length c = search needs
 returns : tie.Need-returns
 returns c = put-as
     (put-put (omega arith) (c .before .before .before .before .before .before .before .put-respelled .ensures) (put-as (c .before .before .put-text .ensures) (c .before .before .before .before .before .before .before .before .before .bytes-of .ensures)))
-    (negated-is _ _ _ (c .before .before .before .before .before .before .before .before .before .before .before .before .before .before .before .pre .0) (c .before .before .before .before .before .before .before .before .before .before .before .before .before .before .before .pre .1) (span (c .before .before .before .before .before .before .before .before .before .before .before .before .before .before .before .args .range)) (slice-bytes _ (c .before .before .before .before .before .before .before .before .before .before .before .before .before .before .shared-slice-known .given)) _ (c .before .before .before .before .before .before .before .before .before .before .negated .ensures ∙ ap turnedBits (c .before .before .before .before .before .before .before .before .before .before .before .bits-at .ensures)))
+    (negated-is _ _ _ (c .before .before .before .before .before .before .before .before .before .before .before .before .before .before .pre .0 .0) (c .before .before .before .before .before .before .before .before .before .before .before .before .before .before .pre .0 .1) (span (c .before .before .before .before .before .before .before .before .before .before .before .before .before .before .args .range)) (slice-bytes _ (c .before .before .before .before .before .before .before .before .before .before .before .before .before .shared-slice-known .given)) _ (c .before .before .before .before .before .before .before .before .before .before .negated .ensures ∙ ap turnedBits (c .before .before .before .before .before .before .before .before .before .before .before .bits-at .ensures)))
 
 pub negated-number-spec : {M : Type 1} → statement M
 negated-number-spec =
     tie.close
     (tie.spec
-    number-at-requires
     bits-at-requires
     negated-requires
     bytes-of-requires
