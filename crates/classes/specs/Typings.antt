@@ -4,14 +4,13 @@ use mathlib.Core.Bool.{Bool, true, false, cond}
 use mathlib.Core.Option.{Option, none, some}
 use mathlib.Core.Path.{_≡_}
 use Prim.Native.Nat.{ℕ, _≤_}
-use Rattle.definition.specs.Check.{deepest}
 use Rattle.definition.specs.Children.{AcceptedAt, AllAccepted}
 use Rattle.definition.specs.Tree.{Rec, encode}
 use Rattle.definition.specs.Record.{gone, Typing}
 use Rattle.definition.specs.Transform.{textsFit}
 use Rattle.definition.specs.Typing.{exprToTsType}
 use Rattle.prescan.specs.declared.Scope.{Scope}
-use Rattle.prescan.specs.Scope.{Skips}
+use Rattle.prescan.specs.Table.{Indexed}
 use Rattle.typing.specs.declared.State.{State}
 use Rattle.typing.specs.declared.Typed.{Typed}
 use Rattle.typing.specs.Did.{idsOf, answerOf, bytesOf, fitOf, Writes}
@@ -20,12 +19,12 @@ use Rattle.typing.specs.Did.{idsOf, answerOf, bytesOf, fitOf, Writes}
 abbrev pub typingOf : List ℕ → Scope → Typing
 typingOf tree scope = exprToTsType (idsOf tree) (scope .unresolved)
 
--- the n records from `at` on, of an accepted tree, with `levels` levels left for each; no more names were made than bytes stand before them
-pub record ReadyAll (levels : ℕ) (tree : List ℕ) (n at names : ℕ) (scope : Scope) : Type 0 where
+-- the n records from `at` on, of an accepted tree, with `levels` levels left for each; no more names were made than bytes stand before
+-- them, and the index is the tree's
+pub record ReadyAll (levels : ℕ) (tree : List ℕ) (n at names : ℕ) (index : List ℕ) : Type 0 where
   pub accepted : AllAccepted levels tree n at
-  pub root : AcceptedAt deepest tree 0
   pub low : names ≤ at
-  pub skips : Skips tree scope
+  pub indexed : Indexed tree index
 
 -- the return type of a method, of a setter or another
 abbrev pub returnPart : Bool → Rec → Rec

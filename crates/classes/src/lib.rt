@@ -95,13 +95,14 @@ pub fn handle_function(
     tree: &[u8],
     at: usize,
     levels: usize,
+    index: &[u32],
     scope: Scope,
     setter: bool,
     out: &mut [u8],
     diagnostics: &mut [u8],
     s: State,
 ) -> State
-    requires { ⌜ Ready levels (now tree) at (s .counter) scope × (markAt (now tree) at ≡ mark "Fu") ⌝ }
+    requires { ⌜ Ready levels (now tree) at (s .counter) (now index) × (markAt (now tree) at ≡ mark "Fu") ⌝ }
     ensures { λ r. ⌜
         Makes (now (out .entry)) (now (out .exit)) (now (diagnostics .entry)) (now (diagnostics .exit)) s r
         (handleFunction (typingOf (now (tree .entry)) scope) setter (treeAt levels (now (tree .entry)) at) (s .counter))
@@ -121,6 +122,7 @@ pub fn handle_function(
         params,
         head.count - 3,
         levels - 1,
+        index,
         scope,
         out,
         diagnostics,
@@ -133,12 +135,13 @@ fn constructor(
     tree: &[u8],
     at: usize,
     levels: usize,
+    index: &[u32],
     scope: Scope,
     out: &mut [u8],
     diagnostics: &mut [u8],
     s: State,
 ) -> Counted
-    requires { ⌜ Ready levels (now tree) at (s .counter) scope × (markAt (now tree) at ≡ mark "Co") ⌝ }
+    requires { ⌜ Ready levels (now tree) at (s .counter) (now index) × (markAt (now tree) at ≡ mark "Co") ⌝ }
     ensures { λ r. ⌜
         MakesCounted (now (out .entry)) (now (out .exit)) (now (diagnostics .entry)) (now (diagnostics .exit)) s r
         (constructor (typingOf (now (tree .entry)) scope) (treeAt levels (now (tree .entry)) at) (s .counter))
@@ -154,6 +157,7 @@ fn constructor(
         params,
         head.count - 1,
         levels - 1,
+        index,
         scope,
         out,
         diagnostics,
@@ -167,12 +171,13 @@ fn method(
     tree: &[u8],
     at: usize,
     levels: usize,
+    index: &[u32],
     scope: Scope,
     out: &mut [u8],
     diagnostics: &mut [u8],
     s: State,
 ) -> Counted
-    requires { ⌜ Ready levels (now tree) at (s .counter) scope × (markAt (now tree) at ≡ mark "Me") ⌝ }
+    requires { ⌜ Ready levels (now tree) at (s .counter) (now index) × (markAt (now tree) at ≡ mark "Me") ⌝ }
     ensures { λ r. ⌜
         MakesCounted (now (out .entry)) (now (out .exit)) (now (diagnostics .entry)) (now (diagnostics .exit)) s r
         (method (typingOf (now (tree .entry)) scope) (treeAt levels (now (tree .entry)) at)
@@ -193,6 +198,7 @@ fn method(
         tree,
         function,
         levels - 1,
+        index,
         scope,
         setter,
         out,
@@ -209,13 +215,14 @@ fn prop_type(
     at: usize,
     value: usize,
     levels: usize,
+    index: &[u32],
     scope: Scope,
     out: &mut [u8],
     diagnostics: &mut [u8],
     s: State,
 ) -> State
     requires { ⌜ AcceptedAt levels (now tree) at ⌝ }
-    requires { ⌜ Ready levels (now tree) value (s .counter) scope ⌝ }
+    requires { ⌜ Ready levels (now tree) value (s .counter) (now index) ⌝ }
     ensures { λ r. ⌜
         Makes (now (out .entry)) (now (out .exit)) (now (diagnostics .entry)) (now (diagnostics .exit)) s r
         (propType (typingOf (now (tree .entry)) scope) (treeAt levels (now (tree .entry)) value) (treeAt levels (now (tree .entry)) at) (s .counter))
@@ -228,7 +235,7 @@ fn prop_type(
         return keep(tree, at, levels, out, s);
     }
     let mode = typing::mutable(scope);
-    match typing::expr_to_ts_type(tree, value, levels, mode, out, diagnostics, s) {
+    match typing::expr_to_ts_type(tree, value, levels, index, mode, out, diagnostics, s) {
         Typed::Some(made) => made,
         Typed::None(failed) => put_any(DUMMY_SP, out, failed),
     }
@@ -239,12 +246,13 @@ fn class_prop(
     tree: &[u8],
     at: usize,
     levels: usize,
+    index: &[u32],
     scope: Scope,
     out: &mut [u8],
     diagnostics: &mut [u8],
     s: State,
 ) -> Counted
-    requires { ⌜ Ready levels (now tree) at (s .counter) scope × (markAt (now tree) at ≡ mark "Cp") ⌝ }
+    requires { ⌜ Ready levels (now tree) at (s .counter) (now index) × (markAt (now tree) at ≡ mark "Cp") ⌝ }
     ensures { λ r. ⌜
         MakesCounted (now (out .entry)) (now (out .exit)) (now (diagnostics .entry)) (now (diagnostics .exit)) s r
         (classProp (typingOf (now (tree .entry)) scope) (treeAt levels (now (tree .entry)) at)
@@ -268,6 +276,7 @@ fn class_prop(
         type_ann,
         value,
         levels - 1,
+        index,
         scope,
         out,
         diagnostics,
@@ -283,13 +292,14 @@ fn class_member(
     tree: &[u8],
     at: usize,
     levels: usize,
+    index: &[u32],
     scope: Scope,
     list: &[u8],
     out: &mut [u8],
     diagnostics: &mut [u8],
     s: State,
 ) -> Counted
-    requires { ⌜ Ready levels (now tree) at (s .counter) scope ⌝ }
+    requires { ⌜ Ready levels (now tree) at (s .counter) (now index) ⌝ }
     ensures { λ r. ⌜
         MakesCounted (now (out .entry)) (now (out .exit)) (now (diagnostics .entry)) (now (diagnostics .exit)) s r
         (member (now (list .entry)) (scope .unresolved) (typingOf (now (tree .entry)) scope) (treeAt levels (now (tree .entry)) at) (s .counter))
@@ -300,15 +310,15 @@ fn class_member(
             if is_impl_with_overloads(list, tree, at) {
                 return Counted { s, count: 0 };
             }
-            constructor(tree, at, levels, scope, out, diagnostics, s)
+            constructor(tree, at, levels, index, scope, out, diagnostics, s)
         }
         ME => {
             if is_impl_with_overloads(list, tree, at) {
                 return Counted { s, count: 0 };
             }
-            method(tree, at, levels, scope, out, diagnostics, s)
+            method(tree, at, levels, index, scope, out, diagnostics, s)
         }
-        CP => class_prop(tree, at, levels, scope, out, diagnostics, s),
+        CP => class_prop(tree, at, levels, index, scope, out, diagnostics, s),
         DM => Counted { s, count: 0 },
         _ => {
             let next = keep(tree, at, levels, out, s);
@@ -322,13 +332,14 @@ pub fn class_body_to_type(
     tree: &[u8],
     at: usize,
     levels: usize,
+    index: &[u32],
     scope: Scope,
     list: &[u8],
     out: &mut [u8],
     diagnostics: &mut [u8],
     s: State,
 ) -> State
-    requires { ⌜ Ready levels (now tree) at (s .counter) scope × (markAt (now tree) at ≡ mark "Cl") ⌝ }
+    requires { ⌜ Ready levels (now tree) at (s .counter) (now index) × (markAt (now tree) at ≡ mark "Cl") ⌝ }
     ensures { λ r. ⌜
         Makes (now (out .entry)) (now (out .exit)) (now (diagnostics .entry)) (now (diagnostics .exit)) s r
         (class (now (list .entry)) (scope .unresolved) (typingOf (now (tree .entry)) scope) (treeAt levels (now (tree .entry)) at) (s .counter))
@@ -343,7 +354,17 @@ pub fn class_body_to_type(
     let mut next = keep(tree, type_params, levels - 1, out, start);
     let mut count = 1;
     while 0 < n {
-        let made = class_member(tree, child, levels - 1, scope, list, out, diagnostics, next);
+        let made = class_member(
+            tree,
+            child,
+            levels - 1,
+            index,
+            scope,
+            list,
+            out,
+            diagnostics,
+            next,
+        );
         next = made.s;
         count += made.count;
         child = record_end(tree, child, levels - 1);

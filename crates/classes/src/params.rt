@@ -39,19 +39,20 @@ fn infer_expr_fallback_any(
     tree: &[u8],
     at: usize,
     levels: usize,
+    index: &[u32],
     scope: Scope,
     out: &mut [u8],
     diagnostics: &mut [u8],
     s: State,
 ) -> State
-    requires { ⌜ Ready levels (now tree) at (s .counter) scope ⌝ }
+    requires { ⌜ Ready levels (now tree) at (s .counter) (now index) ⌝ }
     ensures { λ r. ⌜
         Makes (now (out .entry)) (now (out .exit)) (now (diagnostics .entry)) (now (diagnostics .exit)) s r
         (inferExprFallbackAny (typingOf (now (tree .entry)) scope) (treeAt levels (now (tree .entry)) at) (s .counter))
         ⌝ }
 {
     let mode = typing::mutable(scope);
-    let t = typing::expr_to_ts_type(tree, at, levels, mode, out, diagnostics, s);
+    let t = typing::expr_to_ts_type(tree, at, levels, index, mode, out, diagnostics, s);
     typing::or_any(tree, at, D2, t, out, diagnostics)
 }
 
@@ -90,13 +91,14 @@ fn type_or_infer(
     ty: usize,
     right: usize,
     levels: usize,
+    index: &[u32],
     scope: Scope,
     out: &mut [u8],
     diagnostics: &mut [u8],
     s: State,
 ) -> State
     requires { ⌜ AcceptedAt (levels - 1) (now tree) ty ⌝ }
-    requires { ⌜ Ready levels (now tree) right (s .counter) scope ⌝ }
+    requires { ⌜ Ready levels (now tree) right (s .counter) (now index) ⌝ }
     ensures { λ r. ⌜
         Makes (now (out .entry)) (now (out .exit)) (now (diagnostics .entry)) (now (diagnostics .exit)) s r
         (typeOr (inferExprFallbackAny (typingOf (now (tree .entry)) scope) (treeAt levels (now (tree .entry)) right))
@@ -106,7 +108,7 @@ fn type_or_infer(
     if mark_at(tree, ty) != NO {
         return keep(tree, ty, levels - 1, out, s);
     }
-    infer_expr_fallback_any(tree, right, levels, scope, out, diagnostics, s)
+    infer_expr_fallback_any(tree, right, levels, index, scope, out, diagnostics, s)
 }
 
 // `handle_func_param_assign`, the arm for `Pat::Ident`: the Bd at `at`, whose Id becomes optional; its default is at `right`.
@@ -115,13 +117,14 @@ fn optional_ident(
     at: usize,
     right: usize,
     levels: usize,
+    index: &[u32],
     scope: Scope,
     out: &mut [u8],
     diagnostics: &mut [u8],
     s: State,
 ) -> State
     requires { ⌜ AcceptedAt levels (now tree) at × (markAt (now tree) at ≡ mark "Bd") ⌝ }
-    requires { ⌜ Ready levels (now tree) right (s .counter) scope ⌝ }
+    requires { ⌜ Ready levels (now tree) right (s .counter) (now index) ⌝ }
     ensures { λ r. ⌜
         Makes (now (out .entry)) (now (out .exit)) (now (diagnostics .entry)) (now (diagnostics .exit)) s r
         (handleFuncParamAssign (typingOf (now (tree .entry)) scope) pIdent (treeAt levels (now (tree .entry)) at)
@@ -139,6 +142,7 @@ fn optional_ident(
         type_ann,
         right,
         levels,
+        index,
         scope,
         out,
         diagnostics,
@@ -153,6 +157,7 @@ fn optional_box(
     at: usize,
     right: usize,
     levels: usize,
+    index: &[u32],
     scope: Scope,
     out: &mut [u8],
     diagnostics: &mut [u8],
@@ -160,7 +165,7 @@ fn optional_box(
 ) -> State
     requires { ⌜ AcceptedAt levels (now tree) at ⌝ }
     requires { ⌜ (markAt (now tree) at ≡ mark "Pb") ⊎ (markAt (now tree) at ≡ mark "Po") ⌝ }
-    requires { ⌜ Ready levels (now tree) right (s .counter) scope ⌝ }
+    requires { ⌜ Ready levels (now tree) right (s .counter) (now index) ⌝ }
     ensures { λ r. ⌜
         Makes (now (out .entry)) (now (out .exit)) (now (diagnostics .entry)) (now (diagnostics .exit)) s r
         (handleFuncParamAssign (typingOf (now (tree .entry)) scope) pBox (treeAt levels (now (tree .entry)) at)
@@ -177,6 +182,7 @@ fn optional_box(
         type_ann,
         right,
         levels,
+        index,
         scope,
         out,
         diagnostics,
@@ -190,12 +196,13 @@ fn handle_func_param_assign(
     tree: &[u8],
     at: usize,
     levels: usize,
+    index: &[u32],
     scope: Scope,
     out: &mut [u8],
     diagnostics: &mut [u8],
     s: State,
 ) -> State
-    requires { ⌜ Ready levels (now tree) at (s .counter) scope × (markAt (now tree) at ≡ mark "Ag") ⌝ }
+    requires { ⌜ Ready levels (now tree) at (s .counter) (now index) × (markAt (now tree) at ≡ mark "Ag") ⌝ }
     ensures { λ r. ⌜
         Makes (now (out .entry)) (now (out .exit)) (now (diagnostics .entry)) (now (diagnostics .exit)) s r
         (handlePatternBy (typingOf (now (tree .entry)) scope) pAssign (treeAt levels (now (tree .entry)) at) (s .counter))
@@ -204,8 +211,28 @@ fn handle_func_param_assign(
     let pattern = body_at(tree, at);
     let right = record_end(tree, pattern, levels - 1);
     match mark_at(tree, pattern) {
-        BD => optional_ident(tree, pattern, right, levels - 1, scope, out, diagnostics, s),
-        PB | PO => optional_box(tree, pattern, right, levels - 1, scope, out, diagnostics, s),
+        BD => optional_ident(
+            tree,
+            pattern,
+            right,
+            levels - 1,
+            index,
+            scope,
+            out,
+            diagnostics,
+            s,
+        ),
+        PB | PO => optional_box(
+            tree,
+            pattern,
+            right,
+            levels - 1,
+            index,
+            scope,
+            out,
+            diagnostics,
+            s,
+        ),
         _ => keep(tree, at, levels, out, s),
     }
 }
@@ -215,12 +242,13 @@ fn handle_pattern(
     tree: &[u8],
     at: usize,
     levels: usize,
+    index: &[u32],
     scope: Scope,
     out: &mut [u8],
     diagnostics: &mut [u8],
     s: State,
 ) -> State
-    requires { ⌜ Ready levels (now tree) at (s .counter) scope ⌝ }
+    requires { ⌜ Ready levels (now tree) at (s .counter) (now index) ⌝ }
     ensures { λ r. ⌜
         Makes (now (out .entry)) (now (out .exit)) (now (diagnostics .entry)) (now (diagnostics .exit)) s r
         (handlePattern (typingOf (now (tree .entry)) scope) (treeAt levels (now (tree .entry)) at) (s .counter))
@@ -228,7 +256,7 @@ fn handle_pattern(
 {
     match mark_at(tree, at) {
         BD => handle_func_param_ident(tree, at, levels, out, diagnostics, s),
-        AG => handle_func_param_assign(tree, at, levels, scope, out, diagnostics, s),
+        AG => handle_func_param_assign(tree, at, levels, index, scope, out, diagnostics, s),
         _ => keep(tree, at, levels, out, s),
     }
 }
@@ -238,12 +266,13 @@ fn handle_func_param(
     tree: &[u8],
     at: usize,
     levels: usize,
+    index: &[u32],
     scope: Scope,
     out: &mut [u8],
     diagnostics: &mut [u8],
     s: State,
 ) -> State
-    requires { ⌜ Ready levels (now tree) at (s .counter) scope ⌝ }
+    requires { ⌜ Ready levels (now tree) at (s .counter) (now index) ⌝ }
     ensures { λ r. ⌜
         Makes (now (out .entry)) (now (out .exit)) (now (diagnostics .entry)) (now (diagnostics .exit)) s r
         (handleFuncParam (typingOf (now (tree .entry)) scope) (treeAt levels (now (tree .entry)) at) (s .counter))
@@ -255,7 +284,16 @@ fn handle_func_param(
             let pattern = body_at(tree, at);
             let rest = record_end(tree, pattern, levels - 1);
             let front = put_front(tree, at, levels, head.flags, head.count, out, s);
-            let next = handle_pattern(tree, pattern, levels - 1, scope, out, diagnostics, front);
+            let next = handle_pattern(
+                tree,
+                pattern,
+                levels - 1,
+                index,
+                scope,
+                out,
+                diagnostics,
+                front,
+            );
             keep_all(tree, rest, head.count - 1, levels - 1, out, next)
         }
         _ => keep(tree, at, levels, out, s),
@@ -268,12 +306,13 @@ pub fn handle_func_params(
     at: usize,
     n: usize,
     levels: usize,
+    index: &[u32],
     scope: Scope,
     out: &mut [u8],
     diagnostics: &mut [u8],
     s: State,
 ) -> State
-    requires { ⌜ ReadyAll levels (now tree) n at (s .counter) scope ⌝ }
+    requires { ⌜ ReadyAll levels (now tree) n at (s .counter) (now index) ⌝ }
     ensures { λ r. ⌜
         MakesAll (now (out .entry)) (now (out .exit)) (now (diagnostics .entry)) (now (diagnostics .exit)) s r
         (each (λ i. handleFuncParam (typingOf (now (tree .entry)) scope)) 0
@@ -284,7 +323,7 @@ pub fn handle_func_params(
     let mut k = n;
     let mut param = at;
     while 0 < k {
-        next = handle_func_param(tree, param, levels, scope, out, diagnostics, next);
+        next = handle_func_param(tree, param, levels, index, scope, out, diagnostics, next);
         param = record_end(tree, param, levels);
         k -= 1;
     }
@@ -297,17 +336,18 @@ pub fn handle_ts_param_props(
     at: usize,
     n: usize,
     levels: usize,
+    index: &[u32],
     scope: Scope,
     out: &mut [u8],
     diagnostics: &mut [u8],
     s: State,
 ) -> State
-    requires { ⌜ ReadyAll levels (now tree) n at (s .counter) scope ⌝ }
+    requires { ⌜ ReadyAll levels (now tree) n at (s .counter) (now index) ⌝ }
     ensures { λ r. ⌜
         MakesAll (now (out .entry)) (now (out .exit)) (now (diagnostics .entry)) (now (diagnostics .exit)) s r
         (each (λ i. handleFuncParam (typingOf (now (tree .entry)) scope)) 0
         (readAll (treeAt levels (now (tree .entry))) (endAt levels (now (tree .entry))) n at) (s .counter))
         ⌝ }
 {
-    handle_func_params(tree, at, n, levels, scope, out, diagnostics, s)
+    handle_func_params(tree, at, n, levels, index, scope, out, diagnostics, s)
 }

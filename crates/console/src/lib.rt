@@ -1,8 +1,9 @@
 // What the programs share: what they read from standard input, what they print, and the buffers that they lend.
 ghost use mathlib.Core.Bool.{true};
 ghost use mathlib.Core.Path.{_≡_};
+ghost use Prim.Native.Nat.{_≤_};
 ghost use lib.ListN.{length, take};
-ghost use Rattle.definition.specs.Check.{deepest};
+ghost use Rattle.definition.specs.Check.{longestTree, deepest};
 ghost use Rattle.definition.specs.Children.{AcceptedAt};
 ghost use Rattle.io.specs.Counts.{Counts};
 use grammar::Checked;
@@ -151,7 +152,7 @@ pub fn print_refusal(refusal: Refusal, place: usize) {
 
 // The check's answer for a tree, a line; whether it is accepted.
 pub fn print_check(tree: &[u8]) -> bool
-    ensures { λ r. ⌜ (r ≡ true → AcceptedAt deepest (now (tree .entry)) 0) ⌝ }
+    ensures { λ r. ⌜ (r ≡ true → AcceptedAt deepest (now (tree .entry)) 0 × (length (now (tree .entry)) ≤ longestTree)) ⌝ }
 {
     match grammar::check_tree(tree, b"") {
         Checked::Fine(end) => {

@@ -39,10 +39,7 @@ use Rattle.classes.specs.Typings.{typingOf, ReadyAll}
 use Rattle.items.specs.Steps.{recordsAt, readonlyMode, patternOf}
 use Rattle.items.proofs.Begun.{makes-second}
 
--- ---- the modes and the children
-
-pub ready-mode : {levels : ℕ} {tree : List ℕ} {at n : ℕ} {scope : Scope} {m : Mode} → m ≡ readonlyMode scope → Ready levels tree at n scope → Ready levels tree at n (m .scope)
-ready-mode e r = rw e r
+-- ---- the children
 
 module _ (levels : ℕ) (s : List ℕ) (at : ℕ) (a : AcceptedAt levels s at) where
   pub vr-kids : markAt s at ≡ mark "Vr" → {p0 p1 p2 : ℕ} → p0 ≡ bodyAt s at → p1 ≡ endAt (levels - 1) s p0 → p2 ≡ endAt (levels - 1) s p1 → Two levels s at p0 p1 p2
@@ -164,7 +161,7 @@ module _ (tree : List ℕ) (scope : Scope) (levels : ℕ) where
   abbrev pub Declaring : ℕ → ℕ → List ℕ → List ℕ → List ℕ → List ℕ → State → State → ℕ → ℕ → Type 0
   Declaring n at o0 o g0 g s0 s k c = Making (declaratorStep tree scope) levels tree (remaining (declaratorStep tree scope) levels tree n at (s0 .counter)) o0 o g0 g s0 s k c
 
-  pub declaring-start : (o g : List ℕ) (s : State) {n at : ℕ} → ReadyAll levels tree n at (s .counter) scope → s .written ≤ highest → s .reported ≤ highest → Declaring n at o o g g s s n at
+  pub declaring-start : (o g : List ℕ) (s : State) {n at : ℕ} {index : List ℕ} → ReadyAll levels tree n at (s .counter) index → s .written ≤ highest → s .reported ≤ highest → Declaring n at o o g g s s n at
   declaring-start o g s r h k = making-start (declaratorStep tree scope) levels tree o g s (r .accepted) (r .low) h k
 
   module _ (n at : ℕ) {o0 o g0 g : List ℕ} {s0 s : State} {k c : ℕ} (l : Declaring n at o0 o g0 g s0 s k c) where
@@ -187,8 +184,8 @@ module _ (tree : List ℕ) (scope : Scope) (levels : ℕ) where
     declaring-diagnostics = making-diagnostics (declaratorStep tree scope) levels tree l
 
 -- what is asked of one of them, and of the children of a record
-pub one-ready : {levels : ℕ} {tree : List ℕ} {n at m : ℕ} {scope : Scope} → ReadyAll levels tree n at m scope → {c k : ℕ} → AcceptedAt levels tree c → k ≤ c → Ready levels tree c k scope
-one-ready r a h = record { accepted = a; root = r .root; low = h; skips = r .skips }
+pub one-ready : {levels : ℕ} {tree : List ℕ} {n at m : ℕ} {index : List ℕ} → ReadyAll levels tree n at m index → {c k : ℕ} → AcceptedAt levels tree c → k ≤ c → Ready levels tree c k index
+one-ready r a h = record { accepted = a; low = h; indexed = r .indexed }
 
-pub kids-ready : {levels : ℕ} {tree : List ℕ} {at n : ℕ} {scope : Scope} → Ready levels tree at n scope → {h : Fields} {b m : ℕ} → h ≡ fieldsAt tree at → b ≡ bodyAt tree at → m ≡ n → ReadyAll (levels - 1) tree (h .count) b m scope
-kids-ready {levels} {tree} {at} r e f g = record { accepted = rw (e, f) (children levels tree at (r .accepted)); root = r .root; low = omega (arith, r .low, f, g); skips = r .skips }
+pub kids-ready : {levels : ℕ} {tree : List ℕ} {at n : ℕ} {index : List ℕ} → Ready levels tree at n index → {h : Fields} {b m : ℕ} → h ≡ fieldsAt tree at → b ≡ bodyAt tree at → m ≡ n → ReadyAll (levels - 1) tree (h .count) b m index
+kids-ready {levels} {tree} {at} r e f g = record { accepted = rw (e, f) (children levels tree at (r .accepted)); low = omega (arith, r .low, f, g); indexed = r .indexed }

@@ -215,7 +215,7 @@ module _ (tree : List ℕ) (scope : Scope) (levels at : ℕ) {p0 p1 : ℕ} (u : 
       ∙ (ap (onValue (defaultTyped (headOf t) (kidsOf t) (suc (s .counter)))) (type-is m s e) ∙ typed-is (s .counter) n))
 
 -- what its typing asks
-pub expr-ready : {levels : ℕ} {tree : List ℕ} {at n : ℕ} {scope : Scope} → Ready levels tree at n scope → {p0 p1 : ℕ} → One levels tree at p0 p1 → p0 ≡ bodyAt tree at → Ready (levels - 1) tree p0 (n + 1) scope
+pub expr-ready : {levels : ℕ} {tree : List ℕ} {at n : ℕ} {index : List ℕ} → Ready levels tree at n index → {p0 p1 : ℕ} → One levels tree at p0 p1 → p0 ≡ bodyAt tree at → Ready (levels - 1) tree p0 (n + 1) index
 expr-ready r u e = ready-at r (u .first) (omega (arith, r .low, e))
 
 -- ---- an Xd

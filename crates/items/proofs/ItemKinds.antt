@@ -23,7 +23,6 @@ use Rattle.records.specs.Fields.{fieldsAt}
 use Rattle.records.specs.Wrote.{highest}
 use Rattle.records.proofs.Whole.{slice-bytes}
 use Rattle.prescan.specs.declared.Scope.{Scope}
-use Rattle.prescan.specs.Scope.{Skips}
 use Rattle.typing.specs.declared.State.{State}
 use Rattle.typing.specs.declared.Counted.{Counted}
 use Rattle.typing.specs.Did.{Ready}
@@ -33,39 +32,7 @@ use Rattle.typing.proofs.Whole.{gives-as}
 use Rattle.parts.proofs.Kids.{One, Two, kids-one, kids-two}
 use Rattle.parts.proofs.Makes.{makes-keeps, gives-one}
 use Rattle.classes.specs.Typings.{ReadyAll}
-use Rattle.items.specs.Steps.{itemOf, scopeAt}
-
--- ---- the scope of an item
-
-module _ (scope : Scope) (levels at end : ℕ) where
-  pub scope-own : levels ≡ deepest - 1 → record { unresolved = scope .unresolved; item = at; end = end } ≡ scopeAt scope levels at end
-  scope-own e = rw (eq-eqb levels (deepest - 1) e)
-
-  pub scope-same : (levels ≡ deepest - 1 → ⊥) → scope ≡ scopeAt scope levels at end
-  scope-same e = rw (ne-eqb levels (deepest - 1) e)
-
-  scope-context : scopeAt scope levels at end .unresolved ≡ scope .unresolved
-  scope-context = go (eqb levels (deepest - 1))
-    where
-      go : (b : Bool) → cond b (record { unresolved = scope .unresolved; item = at; end = end }) scope .unresolved ≡ scope .unresolved
-      go true = refl
-      go false = refl
-
-  scope-skips : (tree : List ℕ) → Skips tree scope → end ≡ endAt levels tree at → Skips tree (scopeAt scope levels at end)
-  scope-skips tree s e = go (eqb levels (deepest - 1)) refl
-    where
-      go : (b : Bool) → eqb levels (deepest - 1) ≡ b → Skips tree (cond b (record { unresolved = scope .unresolved; item = at; end = end }) scope)
-      go true q = e ∙ ap (λ (k : ℕ). endAt k tree at) (eqb-true levels (deepest - 1) q)
-      go false q = s
-
-  -- what an item is asked in its scope, and what it gives there
-  pub item-ready : {tree : List ℕ} {n c m : ℕ} → ReadyAll levels tree n c m scope → AcceptedAt levels tree at → {k : ℕ} → k ≤ at → end ≡ endAt levels tree at → {here : Scope} → here ≡ scopeAt scope levels at end → Ready levels tree at k here
-  item-ready {tree} r a h e f = rw f (record { accepted = a; root = r .root; low = h; skips = scope-skips tree (r .skips) e })
-
-  pub item-same : (list tree : List ℕ) (top : Bool) (r : Rec) (n : ℕ) {here : Scope} → here ≡ scopeAt scope levels at end → itemOf list tree here top r n ≡ itemOf list tree scope top r n
-  item-same list tree top r n e =
-      ap (λ (here : Scope). itemOf list tree here top r n) e
-      ∙ ap (λ (ctx : ℕ). itemOf list tree (record { unresolved = ctx; item = scope .item; end = scope .end }) top r n) scope-context
+use Rattle.items.specs.Steps.{itemOf}
 
 -- ---- the children
 

@@ -27,8 +27,7 @@ use Rattle.typing.proofs.Objects.{few-if}
 use Rattle.parts.proofs.Each.{both, both-assoc, gives-all}
 use Rattle.parts.proofs.Makes.{all-join}
 use Rattle.classes.specs.Typings.{typingOf, ReadyAll}
-use Rattle.items.specs.Steps.{recordsAt, itemOf, itemsOf, scopeAt}
-use Rattle.items.proofs.ItemKinds.{item-same}
+use Rattle.items.specs.Steps.{recordsAt, itemOf, itemsOf}
 
 -- ---- an item gives at most two records
 
@@ -112,22 +111,19 @@ pub record Itemizing (list tree : List ℕ) (scope : Scope) (top : Bool) (levels
   pub few : many + 2 * k < 131072
 
 module _ (list tree : List ℕ) (scope : Scope) (top : Bool) (levels n at : ℕ) where
-  pub itemizing-start : (o g : List ℕ) (s : State) → ReadyAll levels tree n at (s .counter) scope → n < 65536 → s .written ≤ highest → s .reported ≤ highest → Itemizing list tree scope top levels n at o o g g s s n at 0
+  pub itemizing-start : (o g : List ℕ) (s : State) → {index : List ℕ} → ReadyAll levels tree n at (s .counter) index → n < 65536 → s .written ≤ highest → s .reported ≤ highest → Itemizing list tree scope top levels n at o o g g s s n at 0
   itemizing-start o g s r h p d = record { kids = r .accepted; low = r .low; done = (nil, [], s .counter); gives = gives-none o g s p d refl; sum = refl; few = omega arith }
 
   module _ {o0 o g0 g : List ℕ} {s0 s : State} {k c many : ℕ} (l : Itemizing list tree scope top levels n at o0 o g0 g s0 s k c many) where
     pub itemizing-first : 0 < k → AcceptedAt levels tree c
     itemizing-first h = first-one levels tree k c (l .kids) h
 
-    module _ {o' g' : List ℕ} {made : Counted} {here : Scope} (end : ℕ) (e : here ≡ scopeAt scope levels c end) (w : MakesCounted o o' g g' s made (itemOf list tree here top (treeAt levels tree c) (s .counter))) where
-      here-gives : MakesCounted o o' g g' s made (itemOf list tree scope top (treeAt levels tree c) (s .counter))
-      here-gives = gives-as w (item-same scope levels c end list tree top (treeAt levels tree c) (s .counter) e)
-
+    module _ {o' g' : List ℕ} {made : Counted} (w : MakesCounted o o' g g' s made (itemOf list tree scope top (treeAt levels tree c) (s .counter))) where
       -- the count stays small
       pub itemizing-more : made .count ≤ 2
-      itemizing-more = omega (arith, few-item list (scope .unresolved) (typingOf tree scope) (treeAt levels tree c) top (s .counter), here-gives .many)
+      itemizing-more = omega (arith, few-item list (scope .unresolved) (typingOf tree scope) (treeAt levels tree c) top (s .counter), w .many)
 
-      pub itemizing-turn : 0 < k → end ≡ endAt levels tree c → Itemizing list tree scope top levels n at o0 o' g0 g' s0 (made .s) (k - 1) end (many + made .count)
+      pub itemizing-turn : {end : ℕ} → 0 < k → end ≡ endAt levels tree c → Itemizing list tree scope top levels n at o0 o' g0 g' s0 (made .s) (k - 1) end (many + made .count)
       unfolding transformModuleItems
       itemizing-turn h f =
           let x : Out Recs = itemOf list tree scope top (treeAt levels tree c) (s .counter) in
@@ -137,12 +133,12 @@ module _ (list tree : List ℕ) (scope : Scope) (top : Bool) (levels n at : ℕ)
           item-within (typingOf tree scope) (exprToTsType-within (idsOf tree) (scope .unresolved)) list (scope .unresolved) (treeAt levels tree c) top (s .counter) .high in
           rw f (record {
             kids = others levels tree k c (l .kids) h;
-            low = omega (arith, here-gives .step .counter, high, l .low, records-within levels tree c a);
+            low = omega (arith, w .step .counter, high, l .low, records-within levels tree c a);
             done = both (l .done) x;
-            gives = record { many = omega (arith, l .gives .many, here-gives .many, count-join (l .done .0) (x .0)); step = all-join (gives-all (l .gives)) (gives-all here-gives) .step };
+            gives = record { many = omega (arith, l .gives .many, w .many, count-join (l .done .0) (x .0)); step = all-join (gives-all (l .gives)) (gives-all w) .step };
             sum = l .sum
                 ∙ (ap (λ (ks : Recs). both (l .done) (itemsOf list tree scope top ks (s .counter))) (readAll-more (treeAt levels tree) (endAt levels tree) k c h)
-                ∙ (both-assoc (l .done) x (itemsOf list tree scope top rs (x .2)) ∙ ap (λ (m : ℕ). both (both (l .done) x) (itemsOf list tree scope top rs m)) (sym (here-gives .step .counter))));
+                ∙ (both-assoc (l .done) x (itemsOf list tree scope top rs (x .2)) ∙ ap (λ (m : ℕ). both (both (l .done) x) (itemsOf list tree scope top rs m)) (sym (w .step .counter))));
             few = omega (arith, l .few, itemizing-more);
           })
 

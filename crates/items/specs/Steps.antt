@@ -3,11 +3,9 @@ use mathlib.Core.List.{List, [], _++_}
 use mathlib.Core.Bool.{Bool, true, false, cond}
 use mathlib.Core.Option.{Option}
 use Prim.Native.Nat.{ℕ, _-_}
-use lib.Dec.{eqb}
 use Rattle.definition.specs.Tree.{Rec, Recs, headBytes, encode, endAt, readAll, treeAt}
 use Rattle.definition.specs.Record.{headOf, kidsOf, markOf, dummySp, fresh, ident, withFlags, kid, Out, wrap, each, atKid, second}
 use Rattle.definition.specs.Classes.{handleFunction, class}
-use Rattle.definition.specs.Check.{deepest}
 use Rattle.definition.specs.Names.{genUniqueName}
 use Rattle.definition.specs.Enums.{enumMember}
 use Rattle.definition.specs.Items.{declKind, defaultKind, declaratorPattern, declarator, withoutBody, declToTypeDecl, transformModuleStmt, exportDefaultDecl, exportDefaultExpr, transformModuleItems, transformModuleItem, exported, nsParts, transformTsNsBody}
@@ -57,10 +55,6 @@ constFront i =
     headBytes (fresh "Vd" 3 []) 1 ++ (headBytes (fresh "Vr" 0 []) 2 ++ (headBytes (fresh "Bd" 0 []) 2 ++ encode (ident dummySp (genUniqueName i))))
 
 -- ---- items
-
--- the scope of an item that begins at `at` and ends at `end`, with `levels` levels left for it
-abbrev pub scopeAt : Scope → ℕ → ℕ → ℕ → Scope
-scopeAt scope levels at end = cond (eqb levels (deepest - 1)) (record { unresolved = scope .unresolved; item = at; end = end }) scope
 
 module _ (list tree : List ℕ) (scope : Scope) where
   abbrev pub withBody : ℕ → Rec → ℕ → Out Rec

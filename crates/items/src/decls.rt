@@ -42,13 +42,14 @@ pub fn with_class(
     at: usize,
     levels: usize,
     flags: Flags,
+    index: &[u32],
     scope: Scope,
     list: &[u8],
     out: &mut [u8],
     diagnostics: &mut [u8],
     s: State,
 ) -> State
-    requires { ⌜ Ready levels (now tree) at (s .counter) scope ⌝ }
+    requires { ⌜ Ready levels (now tree) at (s .counter) (now index) ⌝ }
     requires { ⌜ (markAt (now tree) at ≡ mark "Cd") ⊎ (markAt (now tree) at ≡ mark "Cx") ⌝ }
     ensures { λ r. ⌜
         Makes (now (out .entry)) (now (out .exit)) (now (diagnostics .entry)) (now (diagnostics .exit)) s r
@@ -65,6 +66,7 @@ pub fn with_class(
         tree,
         class,
         levels - 1,
+        index,
         scope,
         list,
         out,
@@ -80,12 +82,13 @@ pub fn with_function(
     at: usize,
     levels: usize,
     flags: Flags,
+    index: &[u32],
     scope: Scope,
     out: &mut [u8],
     diagnostics: &mut [u8],
     s: State,
 ) -> State
-    requires { ⌜ Ready levels (now tree) at (s .counter) scope × (markAt (now tree) at ≡ mark "Fd") ⌝ }
+    requires { ⌜ Ready levels (now tree) at (s .counter) (now index) × (markAt (now tree) at ≡ mark "Fd") ⌝ }
     ensures { λ r. ⌜
         Makes (now (out .entry)) (now (out .exit)) (now (diagnostics .entry)) (now (diagnostics .exit)) s r
         (withFunction (now (tree .entry)) scope flags (treeAt levels (now (tree .entry)) at) (s .counter))
@@ -101,6 +104,7 @@ pub fn with_function(
         tree,
         function,
         levels - 1,
+        index,
         scope,
         false,
         out,
@@ -116,12 +120,13 @@ pub fn with_declarators(
     at: usize,
     levels: usize,
     flags: Flags,
+    index: &[u32],
     scope: Scope,
     out: &mut [u8],
     diagnostics: &mut [u8],
     s: State,
 ) -> State
-    requires { ⌜ Ready levels (now tree) at (s .counter) scope ⌝ }
+    requires { ⌜ Ready levels (now tree) at (s .counter) (now index) ⌝ }
     ensures { λ r. ⌜
         Makes (now (out .entry)) (now (out .exit)) (now (diagnostics .entry)) (now (diagnostics .exit)) s r
         (withDeclarators (now (tree .entry)) scope flags (treeAt levels (now (tree .entry)) at) (s .counter))
@@ -135,6 +140,7 @@ pub fn with_declarators(
         first,
         head.count,
         levels - 1,
+        index,
         scope,
         out,
         diagnostics,

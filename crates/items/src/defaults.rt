@@ -45,13 +45,14 @@ fn default_class(
     tree: &[u8],
     at: usize,
     levels: usize,
+    index: &[u32],
     scope: Scope,
     list: &[u8],
     out: &mut [u8],
     diagnostics: &mut [u8],
     s: State,
 ) -> Counted
-    requires { ⌜ Ready levels (now tree) at (s .counter) scope × (markAt (now tree) at ≡ mark "Xd") ⌝ }
+    requires { ⌜ Ready levels (now tree) at (s .counter) (now index) × (markAt (now tree) at ≡ mark "Xd") ⌝ }
     requires { ⌜ markAt (now tree) (bodyAt (now tree) at) ≡ mark "Cx" ⌝ }
     ensures { λ r. ⌜
         MakesCounted (now (out .entry)) (now (out .exit)) (now (diagnostics .entry)) (now (diagnostics .exit)) s r
@@ -68,6 +69,7 @@ fn default_class(
         class,
         levels - 1,
         flags,
+        index,
         scope,
         list,
         out,
@@ -97,20 +99,21 @@ pub fn export_default_decl(
     tree: &[u8],
     at: usize,
     levels: usize,
+    index: &[u32],
     scope: Scope,
     list: &[u8],
     out: &mut [u8],
     diagnostics: &mut [u8],
     s: State,
 ) -> Counted
-    requires { ⌜ Ready levels (now tree) at (s .counter) scope × (markAt (now tree) at ≡ mark "Xd") ⌝ }
+    requires { ⌜ Ready levels (now tree) at (s .counter) (now index) × (markAt (now tree) at ≡ mark "Xd") ⌝ }
     ensures { λ r. ⌜
         MakesCounted (now (out .entry)) (now (out .exit)) (now (diagnostics .entry)) (now (diagnostics .exit)) s r
         (defaultDeclOf (now (list .entry)) (now (tree .entry)) scope (treeAt levels (now (tree .entry)) at) (s .counter))
         ⌝ }
 {
     match mark_at(tree, body_at(tree, at)) {
-        CX => default_class(tree, at, levels, scope, list, out, diagnostics, s),
+        CX => default_class(tree, at, levels, index, scope, list, out, diagnostics, s),
         FX => {
             if is_impl_with_overloads(list, tree, at) {
                 return Counted { s, count: 0 };
@@ -164,12 +167,13 @@ pub fn export_default_expr(
     tree: &[u8],
     at: usize,
     levels: usize,
+    index: &[u32],
     scope: Scope,
     out: &mut [u8],
     diagnostics: &mut [u8],
     s: State,
 ) -> Counted
-    requires { ⌜ Ready levels (now tree) at (s .counter) scope × (markAt (now tree) at ≡ mark "Xe") ⌝ }
+    requires { ⌜ Ready levels (now tree) at (s .counter) (now index) × (markAt (now tree) at ≡ mark "Xe") ⌝ }
     ensures { λ r. ⌜
         MakesCounted (now (out .entry)) (now (out .exit)) (now (diagnostics .entry)) (now (diagnostics .exit)) s r
         (defaultExprOf (now (tree .entry)) scope (treeAt levels (now (tree .entry)) at) (s .counter))
@@ -189,6 +193,7 @@ pub fn export_default_expr(
         tree,
         expr,
         levels - 1,
+        index,
         readonly(scope),
         out,
         diagnostics,

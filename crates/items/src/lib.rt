@@ -12,7 +12,7 @@ ghost use Rattle.typing.specs.Did.{Ready, MakesMaybe};
 ghost use Rattle.typing.specs.Below.{MakesCounted};
 ghost use Rattle.parts.specs.Makes.{Keeps, Makes};
 ghost use Rattle.classes.specs.Typings.{ReadyAll};
-ghost use Rattle.items.specs.Steps.{recordsAt, withBody, declOf, stmtOf, exportOf, itemOf, itemsOf, bodyOf, scopeAt};
+ghost use Rattle.items.specs.Steps.{recordsAt, withBody, declOf, stmtOf, exportOf, itemOf, itemsOf, bodyOf};
 use crate::decls::declared;
 use crate::decls::with_class;
 use crate::decls::with_declarators;
@@ -27,7 +27,6 @@ use parts::keep_all;
 use parts::put_front;
 use prescan::Scope;
 use reader::next_at;
-use records::DEEPEST;
 use records::body_at;
 use records::flags::Flags;
 use records::mark_at;
@@ -58,20 +57,6 @@ mod defaults;
 mod enums;
 mod vars;
 
-// The scope of the item from `at` to `end`: an item of the module has its own, one of a namespace that of the item in which it stands.
-fn item_scope(scope: Scope, levels: usize, at: usize, end: usize) -> Scope
-    ensures { λ r. ⌜ r ≡ scopeAt scope levels at end ⌝ }
-{
-    if levels == DEEPEST - 1 {
-        return Scope {
-            unresolved: scope.unresolved,
-            item: at,
-            end,
-        };
-    }
-    scope
-}
-
 // A record that is kept, as the only one.
 fn kept(tree: &[u8], at: usize, levels: usize, out: &mut [u8], s: State) -> Counted
     requires { ⌜ AcceptedAt levels (now tree) at ⌝ }
@@ -98,6 +83,7 @@ pub fn transform_module_items(
     at: usize,
     n: usize,
     levels: usize,
+    index: &[u32],
     scope: Scope,
     list: &[u8],
     top: bool,
@@ -105,7 +91,7 @@ pub fn transform_module_items(
     diagnostics: &mut [u8],
     s: State,
 ) -> Counted
-    requires { ⌜ ReadyAll levels (now tree) n at (s .counter) scope × (n < 65536) ⌝ }
+    requires { ⌜ ReadyAll levels (now tree) n at (s .counter) (now index) × (n < 65536) ⌝ }
     ensures { λ r. ⌜
         MakesCounted (now (out .entry)) (now (out .exit)) (now (diagnostics .entry)) (now (diagnostics .exit)) s r
         (itemsOf (now (list .entry)) (now (tree .entry)) scope top (recordsAt levels (now (tree .entry)) n at) (s .counter))
@@ -116,13 +102,12 @@ pub fn transform_module_items(
     let mut item = at;
     let mut count = 0;
     while 0 < k {
-        let end = next_at(tree, item, levels);
-        let here = item_scope(scope, levels, item, end);
         let made = transform_module_item(
             tree,
             item,
             levels,
-            here,
+            index,
+            scope,
             list,
             top,
             out,
@@ -131,7 +116,7 @@ pub fn transform_module_items(
         );
         next = made.s;
         count += made.count;
-        item = end;
+        item = next_at(tree, item, levels);
         k -= 1;
     }
     Counted { s: next, count }
@@ -142,6 +127,7 @@ fn transform_module_item(
     tree: &[u8],
     at: usize,
     levels: usize,
+    index: &[u32],
     scope: Scope,
     list: &[u8],
     top: bool,
@@ -149,7 +135,7 @@ fn transform_module_item(
     diagnostics: &mut [u8],
     s: State,
 ) -> Counted
-    requires { ⌜ Ready levels (now tree) at (s .counter) scope ⌝ }
+    requires { ⌜ Ready levels (now tree) at (s .counter) (now index) ⌝ }
     ensures { λ r. ⌜
         MakesCounted (now (out .entry)) (now (out .exit)) (now (diagnostics .entry)) (now (diagnostics .exit)) s r
         (itemOf (now (list .entry)) (now (tree .entry)) scope top (treeAt levels (now (tree .entry)) at) (s .counter))
@@ -158,10 +144,32 @@ fn transform_module_item(
     match mark_at(tree, at) {
         IM | OP => kept(tree, at, levels, out, s),
         ST => Counted { s, count: 0 },
-        ED => export_decl(tree, at, levels, scope, list, top, out, diagnostics, s),
-        XD => export_default_decl(tree, at, levels, scope, list, out, diagnostics, s),
-        XE => export_default_expr(tree, at, levels, scope, out, diagnostics, s),
-        _ => transform_module_stmt(tree, at, levels, scope, list, top, out, diagnostics, s),
+        ED => export_decl(
+            tree,
+            at,
+            levels,
+            index,
+            scope,
+            list,
+            top,
+            out,
+            diagnostics,
+            s,
+        ),
+        XD => export_default_decl(tree, at, levels, index, scope, list, out, diagnostics, s),
+        XE => export_default_expr(tree, at, levels, index, scope, out, diagnostics, s),
+        _ => transform_module_stmt(
+            tree,
+            at,
+            levels,
+            index,
+            scope,
+            list,
+            top,
+            out,
+            diagnostics,
+            s,
+        ),
     }
 }
 
@@ -170,6 +178,7 @@ fn export_decl(
     tree: &[u8],
     at: usize,
     levels: usize,
+    index: &[u32],
     scope: Scope,
     list: &[u8],
     top: bool,
@@ -177,7 +186,7 @@ fn export_decl(
     diagnostics: &mut [u8],
     s: State,
 ) -> Counted
-    requires { ⌜ Ready levels (now tree) at (s .counter) scope × (markAt (now tree) at ≡ mark "Ed") ⌝ }
+    requires { ⌜ Ready levels (now tree) at (s .counter) (now index) × (markAt (now tree) at ≡ mark "Ed") ⌝ }
     ensures { λ r. ⌜
         MakesCounted (now (out .entry)) (now (out .exit)) (now (diagnostics .entry)) (now (diagnostics .exit)) s r
         (exportOf (now (list .entry)) (now (tree .entry)) scope top (treeAt levels (now (tree .entry)) at) (s .counter))
@@ -194,6 +203,7 @@ fn export_decl(
         tree,
         decl,
         levels - 1,
+        index,
         scope,
         list,
         top,
@@ -214,6 +224,7 @@ fn transform_module_stmt(
     tree: &[u8],
     at: usize,
     levels: usize,
+    index: &[u32],
     scope: Scope,
     list: &[u8],
     top: bool,
@@ -221,7 +232,7 @@ fn transform_module_stmt(
     diagnostics: &mut [u8],
     s: State,
 ) -> Counted
-    requires { ⌜ Ready levels (now tree) at (s .counter) scope ⌝ }
+    requires { ⌜ Ready levels (now tree) at (s .counter) (now index) ⌝ }
     ensures { λ r. ⌜
         MakesCounted (now (out .entry)) (now (out .exit)) (now (diagnostics .entry)) (now (diagnostics .exit)) s r
         (stmtOf (now (list .entry)) (now (tree .entry)) scope top (treeAt levels (now (tree .entry)) at) (s .counter))
@@ -235,6 +246,7 @@ fn transform_module_stmt(
             tree,
             at,
             levels,
+            index,
             scope,
             list,
             top,
@@ -254,6 +266,7 @@ fn decl_to_type_decl(
     tree: &[u8],
     at: usize,
     levels: usize,
+    index: &[u32],
     scope: Scope,
     list: &[u8],
     top: bool,
@@ -261,7 +274,7 @@ fn decl_to_type_decl(
     diagnostics: &mut [u8],
     s: State,
 ) -> Typed
-    requires { ⌜ Ready levels (now tree) at (s .counter) scope ⌝ }
+    requires { ⌜ Ready levels (now tree) at (s .counter) (now index) ⌝ }
     ensures { λ r. ⌜
         MakesMaybe (now (out .entry)) (now (out .exit)) (now (diagnostics .entry)) (now (diagnostics .exit)) s r
         (declOf (now (list .entry)) (now (tree .entry)) scope top (treeAt levels (now (tree .entry)) at) (s .counter))
@@ -269,11 +282,53 @@ fn decl_to_type_decl(
 {
     let flags = declared(read_head(tree, at).flags, top);
     match mark_at(tree, at) {
-        CD => Typed::Some(with_class(tree, at, levels, flags, scope, list, out, diagnostics, s)),
-        FD => Typed::Some(with_function(tree, at, levels, flags, scope, out, diagnostics, s)),
-        VD => Typed::Some(with_declarators(tree, at, levels, flags, scope, out, diagnostics, s)),
+        CD => Typed::Some(with_class(
+            tree,
+            at,
+            levels,
+            flags,
+            index,
+            scope,
+            list,
+            out,
+            diagnostics,
+            s,
+        )),
+        FD => Typed::Some(with_function(
+            tree,
+            at,
+            levels,
+            flags,
+            index,
+            scope,
+            out,
+            diagnostics,
+            s,
+        )),
+        VD => Typed::Some(with_declarators(
+            tree,
+            at,
+            levels,
+            flags,
+            index,
+            scope,
+            out,
+            diagnostics,
+            s,
+        )),
         EN => Typed::Some(with_members(tree, at, levels, flags, out, s)),
-        NS => Typed::Some(with_body(tree, at, levels, flags, scope, list, out, diagnostics, s)),
+        NS => Typed::Some(with_body(
+            tree,
+            at,
+            levels,
+            flags,
+            index,
+            scope,
+            list,
+            out,
+            diagnostics,
+            s,
+        )),
         US => Typed::None(typing::mark_diagnostic(tree, at, D5, diagnostics, s)),
         _ => Typed::Some(keep(tree, at, levels, out, s)),
     }
@@ -285,13 +340,14 @@ fn with_body(
     at: usize,
     levels: usize,
     flags: Flags,
+    index: &[u32],
     scope: Scope,
     list: &[u8],
     out: &mut [u8],
     diagnostics: &mut [u8],
     s: State,
 ) -> State
-    requires { ⌜ Ready levels (now tree) at (s .counter) scope × (markAt (now tree) at ≡ mark "Ns") ⌝ }
+    requires { ⌜ Ready levels (now tree) at (s .counter) (now index) × (markAt (now tree) at ≡ mark "Ns") ⌝ }
     ensures { λ r. ⌜
         Makes (now (out .entry)) (now (out .exit)) (now (diagnostics .entry)) (now (diagnostics .exit)) s r
         (withBody (now (list .entry)) (now (tree .entry)) scope flags (treeAt levels (now (tree .entry)) at) (s .counter))
@@ -303,7 +359,17 @@ fn with_body(
     let rest = record_end(tree, body, levels - 1);
     let front = put_front(tree, at, levels, flags, head.count, out, s);
     let named = keep(tree, name, levels - 1, out, front);
-    let next = transform_ts_ns_body(tree, body, levels - 1, scope, list, out, diagnostics, named);
+    let next = transform_ts_ns_body(
+        tree,
+        body,
+        levels - 1,
+        index,
+        scope,
+        list,
+        out,
+        diagnostics,
+        named,
+    );
     keep_all(tree, rest, head.count - 2, levels - 1, out, next)
 }
 
@@ -312,24 +378,35 @@ fn transform_ts_ns_body(
     tree: &[u8],
     at: usize,
     levels: usize,
+    index: &[u32],
     scope: Scope,
     list: &[u8],
     out: &mut [u8],
     diagnostics: &mut [u8],
     s: State,
 ) -> State
-    requires { ⌜ Ready levels (now tree) at (s .counter) scope ⌝ }
+    requires { ⌜ Ready levels (now tree) at (s .counter) (now index) ⌝ }
     ensures { λ r. ⌜
         Makes (now (out .entry)) (now (out .exit)) (now (diagnostics .entry)) (now (diagnostics .exit)) s r
         (bodyOf (now (list .entry)) (now (tree .entry)) scope (treeAt levels (now (tree .entry)) at) (s .counter))
         ⌝ }
 {
     match mark_at(tree, at) {
-        NB => ns_block(tree, at, levels, scope, list, out, diagnostics, s),
+        NB => ns_block(tree, at, levels, index, scope, list, out, diagnostics, s),
         ND => {
             let name = body_at(tree, at);
             let body = record_end(tree, name, levels - 1);
-            transform_ts_ns_body(tree, body, levels - 1, scope, list, out, diagnostics, s)
+            transform_ts_ns_body(
+                tree,
+                body,
+                levels - 1,
+                index,
+                scope,
+                list,
+                out,
+                diagnostics,
+                s,
+            )
         }
         _ => keep(tree, at, levels, out, s),
     }
@@ -340,13 +417,14 @@ fn ns_block(
     tree: &[u8],
     at: usize,
     levels: usize,
+    index: &[u32],
     scope: Scope,
     list: &[u8],
     out: &mut [u8],
     diagnostics: &mut [u8],
     s: State,
 ) -> State
-    requires { ⌜ Ready levels (now tree) at (s .counter) scope × (markAt (now tree) at ≡ mark "Nb") ⌝ }
+    requires { ⌜ Ready levels (now tree) at (s .counter) (now index) × (markAt (now tree) at ≡ mark "Nb") ⌝ }
     ensures { λ r. ⌜
         Makes (now (out .entry)) (now (out .exit)) (now (diagnostics .entry)) (now (diagnostics .exit)) s r
         (bodyOf (now (list .entry)) (now (tree .entry)) scope (treeAt levels (now (tree .entry)) at) (s .counter))
@@ -361,6 +439,7 @@ fn ns_block(
         first,
         head.count,
         levels - 1,
+        index,
         scope,
         list,
         false,

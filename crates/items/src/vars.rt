@@ -47,13 +47,14 @@ fn declarator_type(
     at: usize,
     init: usize,
     levels: usize,
+    index: &[u32],
     scope: Scope,
     out: &mut [u8],
     diagnostics: &mut [u8],
     s: State,
 ) -> State
     requires { ⌜ AcceptedAt levels (now tree) at ⌝ }
-    requires { ⌜ Ready levels (now tree) init (s .counter) scope ⌝ }
+    requires { ⌜ Ready levels (now tree) init (s .counter) (now index) ⌝ }
     ensures { λ r. ⌜
         Makes (now (out .entry)) (now (out .exit)) (now (diagnostics .entry)) (now (diagnostics .exit)) s r
         (declaratorType (typingOf (now (tree .entry)) scope) (headAt (now (tree .entry)) at) (treeAt levels (now (tree .entry)) init) (s .counter))
@@ -63,7 +64,16 @@ fn declarator_type(
         let next = put_any(DUMMY_SP, out, s);
         return typing::mark_diagnostic(tree, at, D2, diagnostics, next);
     }
-    let t = typing::expr_to_ts_type(tree, init, levels, readonly(scope), out, diagnostics, s);
+    let t = typing::expr_to_ts_type(
+        tree,
+        init,
+        levels,
+        index,
+        readonly(scope),
+        out,
+        diagnostics,
+        s,
+    );
     typing::or_any(tree, at, D2, t, out, diagnostics)
 }
 
@@ -73,13 +83,14 @@ fn declarator_ident(
     at: usize,
     init: usize,
     levels: usize,
+    index: &[u32],
     scope: Scope,
     out: &mut [u8],
     diagnostics: &mut [u8],
     s: State,
 ) -> State
     requires { ⌜ AcceptedAt levels (now tree) at × (markAt (now tree) at ≡ mark "Bd") ⌝ }
-    requires { ⌜ Ready levels (now tree) init (s .counter) scope ⌝ }
+    requires { ⌜ Ready levels (now tree) init (s .counter) (now index) ⌝ }
     ensures { λ r. ⌜
         Makes (now (out .entry)) (now (out .exit)) (now (diagnostics .entry)) (now (diagnostics .exit)) s r
         (wrap (headOf (treeAt levels (now (tree .entry)) at))
@@ -96,7 +107,17 @@ fn declarator_ident(
     let rest = record_end(tree, type_ann, levels - 1);
     let front = put_front(tree, at, levels, head.flags, head.count, out, s);
     let named = keep(tree, ident, levels - 1, out, front);
-    let typed = declarator_type(tree, at, init, levels, scope, out, diagnostics, named);
+    let typed = declarator_type(
+        tree,
+        at,
+        init,
+        levels,
+        index,
+        scope,
+        out,
+        diagnostics,
+        named,
+    );
     keep_all(tree, rest, head.count - 2, levels - 1, out, typed)
 }
 
@@ -105,12 +126,13 @@ fn declarator_pattern(
     tree: &[u8],
     at: usize,
     levels: usize,
+    index: &[u32],
     scope: Scope,
     out: &mut [u8],
     diagnostics: &mut [u8],
     s: State,
 ) -> State
-    requires { ⌜ Ready levels (now tree) at (s .counter) scope × (markAt (now tree) at ≡ mark "Vr") ⌝ }
+    requires { ⌜ Ready levels (now tree) at (s .counter) (now index) × (markAt (now tree) at ≡ mark "Vr") ⌝ }
     ensures { λ r. ⌜
         Makes (now (out .entry)) (now (out .exit)) (now (diagnostics .entry)) (now (diagnostics .exit)) s r
         (patternOf (now (tree .entry)) scope (treeAt levels (now (tree .entry)) at) (s .counter))
@@ -122,7 +144,17 @@ fn declarator_pattern(
         return typing::mark_diagnostic(tree, at, D1, diagnostics, next);
     }
     let init = record_end(tree, pattern, levels - 1);
-    declarator_ident(tree, pattern, init, levels - 1, scope, out, diagnostics, s)
+    declarator_ident(
+        tree,
+        pattern,
+        init,
+        levels - 1,
+        index,
+        scope,
+        out,
+        diagnostics,
+        s,
+    )
 }
 
 // A Vr: "Every init goes"; an Op is left as it is.
@@ -130,12 +162,13 @@ fn declarator(
     tree: &[u8],
     at: usize,
     levels: usize,
+    index: &[u32],
     scope: Scope,
     out: &mut [u8],
     diagnostics: &mut [u8],
     s: State,
 ) -> State
-    requires { ⌜ Ready levels (now tree) at (s .counter) scope ⌝ }
+    requires { ⌜ Ready levels (now tree) at (s .counter) (now index) ⌝ }
     ensures { λ r. ⌜
         Makes (now (out .entry)) (now (out .exit)) (now (diagnostics .entry)) (now (diagnostics .exit)) s r
         (declarator (typingOf (now (tree .entry)) scope) (treeAt levels (now (tree .entry)) at) (s .counter))
@@ -149,7 +182,7 @@ fn declarator(
     let init = record_end(tree, pattern, levels - 1);
     let rest = record_end(tree, init, levels - 1);
     let front = put_front(tree, at, levels, head.flags, head.count, out, s);
-    let named = declarator_pattern(tree, at, levels, scope, out, diagnostics, front);
+    let named = declarator_pattern(tree, at, levels, index, scope, out, diagnostics, front);
     let bare = put_gone(tree, init, levels - 1, out, named);
     keep_all(tree, rest, head.count - 2, levels - 1, out, bare)
 }
@@ -160,12 +193,13 @@ pub fn declarators(
     at: usize,
     n: usize,
     levels: usize,
+    index: &[u32],
     scope: Scope,
     out: &mut [u8],
     diagnostics: &mut [u8],
     s: State,
 ) -> State
-    requires { ⌜ ReadyAll levels (now tree) n at (s .counter) scope ⌝ }
+    requires { ⌜ ReadyAll levels (now tree) n at (s .counter) (now index) ⌝ }
     ensures { λ r. ⌜
         MakesAll (now (out .entry)) (now (out .exit)) (now (diagnostics .entry)) (now (diagnostics .exit)) s r
         (each (λ i. declarator (typingOf (now (tree .entry)) scope)) 0 (recordsAt levels (now (tree .entry)) n at) (s .counter))
@@ -175,7 +209,7 @@ pub fn declarators(
     let mut k = n;
     let mut child = at;
     while 0 < k {
-        next = declarator(tree, child, levels, scope, out, diagnostics, next);
+        next = declarator(tree, child, levels, index, scope, out, diagnostics, next);
         child = record_end(tree, child, levels);
         k -= 1;
     }

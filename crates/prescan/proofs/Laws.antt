@@ -231,13 +231,10 @@ module _ {levels : ℕ} {s : List ℕ} {at : ℕ} (a : AcceptedAt levels s at) {
         unfolding grammar known slots place fixed
         ident-child = placed (first-in (levels - 1) s p (pattern-child .accepted) (mark "Bd") (sym wq ∙ f) refl "Id" refl) iq
 
-        named-by-ident : (q : Question) (name : List ℕ) → addDeclarator q name (treeAt levels s at) ≡
+        pub named-by-ident : (q : Question) (name : List ℕ) → addDeclarator q name (treeAt levels s at) ≡
             (named name (treeAt (levels - 1 - 1) s i) && addConst q (kid 1 (kidsOf (treeAt (levels - 1) s p))) (kid 1 (kidsOf (treeAt levels s at))))
         named-by-ident q name =
             declarator-by q name ∙ rw (eq-eqb m (mark "Vr") e, pattern-child .tree, mark-is (levels - 1) s p, sym wq, eq-eqb w (mark "Bd") f, ident-child .tree)
-
-        pub declarator-unnamed : (q : Question) (name : List ℕ) → named name (treeAt (levels - 1 - 1) s i) ≡ false → addDeclarator q name (treeAt levels s at) ≡ false
-        declarator-unnamed q name n = named-by-ident q name ∙ rw n
 
         module _ {t : ℕ} (tq : t ≡ endAt (levels - 1 - 1) s i) where
           -- its type, at t, behind the name
@@ -245,46 +242,6 @@ module _ {levels : ℕ} {s : List ℕ} {at : ℕ} (a : AcceptedAt levels s at) {
           unfolding grammar known slots place fixed
           type-child =
               placed (second-in (levels - 1) s p (pattern-child .accepted) (mark "Bd") (sym wq ∙ f) refl (optional type) refl) (tq ∙ ap (endAt (levels - 1 - 1) s) iq)
-
-          pub declarator-named : {v : ℕ} → v ≡ endAt (levels - 1) s p → (q : Question) (name : List ℕ) → named name (treeAt (levels - 1 - 1) s i) ≡ true →
-              addDeclarator q name (treeAt levels s at) ≡ addConst q (treeAt (levels - 1 - 1) s t) (treeAt (levels - 1) s v)
-          declarator-named vq q name n = named-by-ident q name ∙ rw (n, type-child .tree, init-child vq .tree)
-
--- ---- a search among siblings
-
--- with n of the records `whole` left, the first of them at c: they are accepted, and the answer F for all of them is the one for those left
-pub record Seek (F : Recs → Bool) (whole : Recs) (levels : ℕ) (s : List ℕ) (n c : ℕ) : Type 0 where
-  pub all : AllAccepted levels s n c
-  pub rest : F whole ≡ F (readAll (treeAt levels s) (endAt levels s) n c)
-
--- where none is left, none stands anywhere
-seek-elsewhere : {F : Recs → Bool} {whole : Recs} {levels : ℕ} {s : List ℕ} (n : ℕ) {c d : ℕ} → Seek F whole levels s n c → ((n ≡ 0 → ⊥) → d ≡ c) → Seek F whole levels s n d
-unfolding checkAll readAll
-seek-elsewhere zero {d = d} i q = record { all = record { slots = i .all .slots; past = d; checked = refl }; rest = i .rest }
-seek-elsewhere (suc n) i q = rw (q (λ z. omega arith)) i
-
-pub seek-start : (F : Recs → Bool) {levels : ℕ} {s : List ℕ} {at : ℕ} → AcceptedAt levels s at → {n c : ℕ} → n ≡ countAt s at → c ≡ bodyAt s at →
-    Seek F (kidsOf (treeAt levels s at)) (levels - 1) s n c
-seek-start F {levels} {s} {at} a nq cq = rw (nq, cq) (record { all = children levels s at a; rest = ap F (kids-are levels s at a) })
-
-module _ {F : Recs → Bool} {whole : Recs} {levels : ℕ} {s : List ℕ} {n c : ℕ} (i : Seek F whole levels s n c) where
-  pub seek-first : 0 < n → AcceptedAt levels s c
-  seek-first h = first-one levels s n c (i .all) h
-
-  pub seek-done : F nil ≡ false → n ≤ 0 → F whole ≡ false
-  seek-done z h = i .rest ∙ (ap F (readAll-none (treeAt levels s) (endAt levels s) n c h) ∙ z)
-
-  -- where F is f of some record
-  module _ (f : Rec → Bool) (step : (r : Rec) (rs : Recs) → F (cons r rs) ≡ (f r || F rs)) (h : 0 < n) where
-    turn : F whole ≡ (f (treeAt levels s c) || F (readAll (treeAt levels s) (endAt levels s) (n - 1) (endAt levels s c)))
-    turn = i .rest ∙ (ap F (readAll-more (treeAt levels s) (endAt levels s) n c h) ∙ step (treeAt levels s c) (readAll (treeAt levels s) (endAt levels s) (n - 1) (endAt levels s c)))
-
-    pub seek-here : f (treeAt levels s c) ≡ true → F whole ≡ true
-    seek-here e = turn ∙ rw e
-
-    -- the next stands at d, unless that was the last
-    pub seek-next : f (treeAt levels s c) ≡ false → {d : ℕ} → ((n ≡ 1 → ⊥) → d ≡ endAt levels s c) → Seek F whole levels s (n - 1) d
-    seek-next e dq = seek-elsewhere (n - 1) (record { all = others levels s n c (i .all) h; rest = turn ∙ rw e }) (λ more. dq (λ one. more (omega arith)))
 
 -- ---- the declarators of a const
 
@@ -343,12 +300,9 @@ module _ {levels : ℕ} {s : List ℕ} {at : ℕ} (a : AcceptedAt levels s at) {
         (λ (e : m ≡ mark "Fx"). first-in levels s at a (mark "Fx") (sym mq ∙ e) refl (optional "Id") refl)
         h) pq
 
-    fn-by : (q : Question) (name : List ℕ) → Fn m → addDecl q name (treeAt levels s at) ≡ (named name (treeAt (levels - 1) s p) && addFn q)
+    pub fn-by : (q : Question) (name : List ℕ) → Fn m → addDecl q name (treeAt levels s at) ≡ (named name (treeAt (levels - 1) s p) && addFn q)
     unfolding declaredKind addDeclBy
     fn-by q name h = decl-by q name dFn (⊎-elim (λ (e : m ≡ mark "Fd"). rw e) (λ (e : m ≡ mark "Fx"). rw e) h) ∙ rw (fn-ident h .tree)
-
-    pub decl-fn : (q : Question) (name : List ℕ) → Fn m → named name (treeAt (levels - 1) s p) ≡ true → addDecl q name (treeAt levels s at) ≡ addFn q
-    decl-fn q name h n = fn-by q name h ∙ rw n
 
     pub fn-unnamed : (q : Question) (name : List ℕ) → Fn m → named name (treeAt (levels - 1) s p) ≡ false → addDecl q name (treeAt levels s at) ≡ false
     fn-unnamed q name h n = fn-by q name h ∙ rw n
@@ -360,7 +314,7 @@ module _ {levels : ℕ} {s : List ℕ} {at : ℕ} (a : AcceptedAt levels s at) {
         (λ (e : m ≡ mark "Cx"). first-in levels s at a (mark "Cx") (sym mq ∙ e) refl (optional "Id") refl)
         h) pq
 
-    class-by : (q : Question) (name : List ℕ) → Class m →
+    pub class-by : (q : Question) (name : List ℕ) → Class m →
         addDecl q name (treeAt levels s at) ≡ (named name (treeAt (levels - 1) s p) && addClass q (kid 1 (kidsOf (treeAt levels s at))))
     unfolding declaredKind addDeclBy
     class-by q name h = decl-by q name dClass (⊎-elim (λ (e : m ≡ mark "Cd"). rw e) (λ (e : m ≡ mark "Cx"). rw e) h) ∙ rw (class-ident h .tree)
@@ -380,10 +334,6 @@ module _ {levels : ℕ} {s : List ℕ} {at : ℕ} (a : AcceptedAt levels s at) {
       pub class-mark : markAt s d ≡ mark "Cl"
       unfolding marks
       class-mark = member-one (markAt s d) (mark "Cl") (class-child .marks)
-
-      pub decl-class : (q : Question) (name : List ℕ) → named name (treeAt (levels - 1) s p) ≡ true →
-          addDecl q name (treeAt levels s at) ≡ addClass q (treeAt (levels - 1) s d)
-      decl-class q name n = class-by q name h ∙ rw (n, class-child .tree)
 
 -- ---- an item
 
@@ -412,17 +362,3 @@ module _ {levels : ℕ} {s : List ℕ} {at : ℕ} (a : AcceptedAt levels s at) {
     item-export q name =
         let b : (eqb m (mark "Ed") || eqb m (mark "Xd")) ≡ true = ⊎-elim (λ (e : m ≡ mark "Ed"). rw e) (λ (e : m ≡ mark "Xd"). rw e) h in
         item-by q name ∙ rw (b, export-child .tree)
-
--- ---- the items of the module
-
-module _ (q : Question) (name : List ℕ) where
-  abbrev pub Asks : Recs → Bool
-  Asks ks = asked q ks name
-
-  pub asks-step : (r : Rec) (rs : Recs) → Asks (cons r rs) ≡ (addItem q name r || Asks rs)
-  unfolding asked
-  asks-step r rs = refl
-
-  pub asks-none : Asks nil ≡ false
-  unfolding asked
-  asks-none = refl

@@ -1,16 +1,22 @@
-// `prescan_module_ids`: the three sets of module-level names, as questions put to the items of the module.
+// `prescan_module_ids`: the three sets of module-level names, as an index that is built once and asked by halving.
 ghost use mathlib.Core.Path.{_≡_};
-ghost use Prim.Native.Nat.{_-_};
+ghost use Prim.Native.Nat.{_*_, _-_, _<_, _≤_};
+ghost use lib.ListN.{length, take};
 ghost use Rattle.definition.specs.Tree.{markAt, textAt, endAt, treeAt};
 ghost use Rattle.definition.specs.Grammar.{mark};
 ghost use Rattle.definition.specs.Check.{deepest};
 ghost use Rattle.definition.specs.Children.{AcceptedAt};
 ghost use Rattle.definition.specs.Record.{kidsOf};
-ghost use Rattle.definition.specs.Prescan.{isArrayType, refersToArray, isArrayLitInit, addFn, addClass, addConst, named, addDeclarator, addDecl, addItem, asked};
-ghost use Rattle.records.specs.Whole.{Whole};
+ghost use Rattle.definition.specs.Prescan.{isArrayType, refersToArray, isArrayLitInit, addClass, addConst, addDeclarator, addDecl, addItem, asked};
+ghost use Rattle.index.specs.Index.{farthest};
 ghost use Rattle.prescan.specs.Question.{meant, addVar};
-ghost use Rattle.prescan.specs.Scope.{Skips};
+ghost use Rattle.prescan.specs.Table.{declarationSize, Room, Filled, Indexed};
+use index::ARRAY_TYPED;
+use index::NON_GENERIC_CLASS;
+use index::TYPEOF_SAFE;
+use records::CONTEXT_SIZE;
 use records::DEEPEST;
+use records::HEAD_SIZE;
 use records::body_at;
 use records::count_at;
 use records::flags::CONST;
@@ -43,6 +49,12 @@ use records::text::same_text;
 use records::text::symbol_at;
 use records::text_at;
 
+// The bytes that a declaration of a name takes at least: four records, and the context of the name.
+pub const DECLARATION_SIZE: usize = 4 * HEAD_SIZE + CONTEXT_SIZE;
+
+// How many names a table has room for that is enough for every tree.
+pub const MOST_NAMES: usize = 8192;
+
 // The sets of `PrescannedModuleIds`.
 pub enum Question {
     TypeofSafe,
@@ -50,12 +62,9 @@ pub enum Question {
     ArrayTyped,
 }
 
-// The unresolved context, and the item of the module in which the names stand: where it begins and where it ends, so that a walk over the items
-// needs not walk that one.
+// In which scope the names stand: the unresolved context.
 pub struct Scope {
     pub unresolved: u32,
-    pub item: usize,
-    pub end: usize,
 }
 
 // The arm of `is_array_type` for `TsTypeRef`, at the name: `Array` or `ReadonlyArray` in any context, "only its symbol counts".
@@ -102,28 +111,6 @@ pub fn is_array_lit_init(tree: &[u8], at: usize, levels: usize) -> bool
     }
 }
 
-// Whether the record at `at` is an Id with this text: names are equal when context and symbol are.
-fn named(tree: &[u8], at: usize, levels: usize, name: &[u8]) -> bool
-    requires { ⌜ AcceptedAt levels (now tree) at ⌝ }
-    ensures { λ r. ⌜ r ≡ named (now (name .entry)) (treeAt levels (now (tree .entry)) at) ⌝ }
-{
-    if mark_at(tree, at) != ID {
-        return false;
-    }
-    same_text(text_at(tree, at), name)
-}
-
-// `add_decl`, the arm for `Decl::Fn`: what a function of the name adds.
-fn add_fn(question: Question) -> bool
-    ensures { λ r. ⌜ r ≡ addFn (meant question) ⌝ }
-{
-    match question {
-        Question::TypeofSafe => true,
-        Question::NonGenericClass => false,
-        Question::ArrayTyped => false,
-    }
-}
-
 // `add_class`: what the Cl at `at` adds under its name.
 fn add_class(tree: &[u8], at: usize, levels: usize, question: Question) -> bool
     requires { ⌜ AcceptedAt levels (now tree) at ⌝ }
@@ -165,123 +152,125 @@ fn add_const(tree: &[u8], init: usize, levels: usize, ty: usize, question: Quest
 }
 
 // `add_decl`, in the arm for `Decl::Var`: a declarator of a const, `if let Pat::Ident(ident) = &declarator.name`.
-fn add_declarator(tree: &[u8], at: usize, levels: usize, name: &[u8], question: Question) -> bool
+fn enter_declarator(tree: &[u8], at: usize, levels: usize, table: &mut [u32], n: usize) -> usize
     requires { ⌜ AcceptedAt levels (now tree) at ⌝ }
-    ensures { λ r. ⌜ r ≡ addDeclarator (meant question) (now (name .entry)) (treeAt levels (now (tree .entry)) at) ⌝ }
+    requires { ⌜ Room (now tree) (now table) n at ⌝ }
+    ensures { λ r. ⌜ Filled (now (tree .entry)) (now (table .entry)) n (now (table .exit)) r (endAt levels (now (tree .entry)) at)
+        (λ q t. addDeclarator q t (treeAt levels (now (tree .entry)) at)) ⌝ }
 {
     if mark_at(tree, at) != VR {
-        return false;
+        return n;
     }
     let pattern = body_at(tree, at);
     if mark_at(tree, pattern) != BD {
-        return false;
+        return n;
     }
     let ident = body_at(tree, pattern);
     let below = levels - 1;
-    if named(tree, ident, below - 1, name) {
-        let ty = record_end(tree, ident, below - 1);
-        let init = record_end(tree, pattern, below);
-        return add_const(tree, init, below, ty, question);
-    }
-    false
-}
-
-// Where the record behind the one at `at` begins, which is the first of n; the last is not walked, since none stands behind it.
-fn next_one(tree: &[u8], at: usize, levels: usize, n: usize) -> usize
-    requires { ⌜ Whole levels (now tree) at ⌝ }
-    ensures { λ r. ⌜ ((n ≡ 1 → ⊥) → r ≡ endAt levels (now (tree .entry)) at) ⌝ }
-{
-    if n == 1 {
-        return at;
-    }
-    record_end(tree, at, levels)
-}
-
-// The same for an item of the module; the one in which the names stand is not walked either.
-fn next_item(tree: &[u8], at: usize, n: usize, scope: Scope) -> usize
-    requires { ⌜ Whole (deepest - 1) (now tree) at ⌝ }
-    requires { ⌜ Skips (now tree) scope ⌝ }
-    ensures { λ r. ⌜ ((n ≡ 1 → ⊥) → r ≡ endAt (deepest - 1) (now (tree .entry)) at) ⌝ }
-{
-    if at == scope.item {
-        return scope.end;
-    }
-    next_one(tree, at, DEEPEST - 1, n)
+    let ty = record_end(tree, ident, below - 1);
+    let init = record_end(tree, pattern, below);
+    let safe = add_const(tree, init, below, ty, Question::TypeofSafe);
+    let array = add_const(tree, init, below, ty, Question::ArrayTyped);
+    index::insert(tree, table, n, ident, safe, false, array)
 }
 
 // `add_decl`, the arm for `Decl::Var`: the declarators of a const.
-fn add_var(tree: &[u8], at: usize, levels: usize, name: &[u8], question: Question) -> bool
+fn enter_var(tree: &[u8], at: usize, levels: usize, table: &mut [u32], n: usize) -> usize
     requires { ⌜ AcceptedAt levels (now tree) at ⌝ }
-    ensures { λ r. ⌜ r ≡ addVar (meant question) (now (name .entry)) (treeAt levels (now (tree .entry)) at) ⌝ }
+    requires { ⌜ Room (now tree) (now table) n at ⌝ }
+    ensures { λ r. ⌜ Filled (now (tree .entry)) (now (table .entry)) n (now (table .exit)) r (endAt levels (now (tree .entry)) at)
+        (λ q t. addVar q t (treeAt levels (now (tree .entry)) at)) ⌝ }
 {
     let head = read_head(tree, at);
     if !has_flag(head.flags, CONST) {
-        return false;
+        return n;
     }
-    let mut n = head.count;
+    let mut filled = n;
+    let mut rest = head.count;
     let mut declarator = body_at(tree, at);
-    while 0 < n {
-        if add_declarator(tree, declarator, levels - 1, name, question) {
-            return true;
-        }
-        declarator = next_one(tree, declarator, levels - 1, n);
-        n -= 1;
+    while 0 < rest {
+        filled = enter_declarator(tree, declarator, levels - 1, table, filled);
+        declarator = record_end(tree, declarator, levels - 1);
+        rest -= 1;
     }
-    false
+    filled
 }
 
 // `add_decl`, and the arms of `prescan_module_ids` for `ExportDefaultDecl`: a function and a class expression stand beside their name too.
-fn add_decl(tree: &[u8], at: usize, levels: usize, name: &[u8], question: Question) -> bool
+fn enter_decl(tree: &[u8], at: usize, levels: usize, table: &mut [u32], n: usize) -> usize
     requires { ⌜ AcceptedAt levels (now tree) at ⌝ }
-    ensures { λ r. ⌜ r ≡ addDecl (meant question) (now (name .entry)) (treeAt levels (now (tree .entry)) at) ⌝ }
+    requires { ⌜ Room (now tree) (now table) n at ⌝ }
+    ensures { λ r. ⌜ Filled (now (tree .entry)) (now (table .entry)) n (now (table .exit)) r (endAt levels (now (tree .entry)) at)
+        (λ q t. addDecl q t (treeAt levels (now (tree .entry)) at)) ⌝ }
 {
     match mark_at(tree, at) {
         FD | FX => {
-            if named(tree, body_at(tree, at), levels - 1, name) {
-                return add_fn(question);
+            let ident = body_at(tree, at);
+            if mark_at(tree, ident) != ID {
+                return n;
             }
-            false
+            index::insert(tree, table, n, ident, true, false, false)
         }
         CD | CX => {
             let ident = body_at(tree, at);
-            if named(tree, ident, levels - 1, name) {
-                let class = record_end(tree, ident, levels - 1);
-                return add_class(tree, class, levels - 1, question);
+            if mark_at(tree, ident) != ID {
+                return n;
             }
-            false
+            let class = record_end(tree, ident, levels - 1);
+            let plain = add_class(tree, class, levels - 1, Question::NonGenericClass);
+            index::insert(tree, table, n, ident, true, plain, false)
         }
-        VD => add_var(tree, at, levels, name, question),
-        _ => false,
+        VD => enter_var(tree, at, levels, table, n),
+        _ => n,
     }
 }
 
 // An item of the module: a declaration, or what an `ExportDecl` (Ed) or an `ExportDefaultDecl` (Xd) holds.
-fn add_item(tree: &[u8], at: usize, levels: usize, name: &[u8], question: Question) -> bool
+fn enter_item(tree: &[u8], at: usize, levels: usize, table: &mut [u32], n: usize) -> usize
     requires { ⌜ AcceptedAt levels (now tree) at ⌝ }
-    ensures { λ r. ⌜ r ≡ addItem (meant question) (now (name .entry)) (treeAt levels (now (tree .entry)) at) ⌝ }
+    requires { ⌜ Room (now tree) (now table) n at ⌝ }
+    ensures { λ r. ⌜ Filled (now (tree .entry)) (now (table .entry)) n (now (table .exit)) r (endAt levels (now (tree .entry)) at)
+        (λ q t. addItem q t (treeAt levels (now (tree .entry)) at)) ⌝ }
 {
     match mark_at(tree, at) {
-        ED | XD => add_decl(tree, body_at(tree, at), levels - 1, name, question),
-        _ => add_decl(tree, at, levels, name, question),
+        ED | XD => enter_decl(tree, body_at(tree, at), levels - 1, table, n),
+        _ => enter_decl(tree, at, levels, table, n),
     }
 }
 
-// `prescan_module_ids`: whether some item of the module adds the name of the Id at `id`, its context and its symbol, to the set that is asked for.
-pub fn asked(tree: &[u8], id: usize, levels: usize, scope: Scope, question: Question) -> bool
-    requires { ⌜ AcceptedAt levels (now tree) id ⌝ }
+// `prescan_module_ids`: the names that the items of the module declare, in the front of the table; how many they are.
+pub fn index(tree: &[u8], table: &mut [u32]) -> usize
     requires { ⌜ AcceptedAt deepest (now tree) 0 ⌝ }
-    requires { ⌜ Skips (now tree) scope ⌝ }
+    requires { ⌜ length (now tree) ≤ declarationSize * length (now table) ⌝ }
+    requires { ⌜ length (now tree) < farthest ⌝ }
+    ensures { λ r. ⌜ Indexed (now (tree .entry)) (take r (now (table .exit))) × (r ≤ length (now (table .exit))) ⌝ }
+{
+    let mut filled: usize = 0;
+    let mut rest = count_at(tree, 0);
+    let mut item = body_at(tree, 0);
+    while 0 < rest {
+        filled = enter_item(tree, item, DEEPEST - 1, table, filled);
+        item = record_end(tree, item, DEEPEST - 1);
+        rest -= 1;
+    }
+    filled
+}
+
+// `prescan_module_ids`: whether some item of the module adds the name of the Id at `id`, its context and its symbol, to the set that is asked for.
+pub fn look_up(tree: &[u8], index: &[u32], id: usize, levels: usize, question: Question) -> bool
+    requires { ⌜ AcceptedAt levels (now tree) id ⌝ }
+    requires { ⌜ Indexed (now tree) (now index) ⌝ }
     ensures { λ r. ⌜ r ≡ asked (meant question) (kidsOf (treeAt deepest (now (tree .entry)) 0)) (textAt (now (tree .entry)) id) ⌝ }
 {
     let name = text_at(tree, id);
-    let mut n = count_at(tree, 0);
-    let mut item = body_at(tree, 0);
-    while 0 < n {
-        if add_item(tree, item, DEEPEST - 1, name, question) {
-            return true;
-        }
-        item = next_item(tree, item, n, scope);
-        n -= 1;
+    let n = index.len();
+    let p = index::place(tree, index, n, name);
+    if index::stands(tree, index, n, p, name) {
+        return match question {
+            Question::TypeofSafe => index::bit(index[p], TYPEOF_SAFE),
+            Question::NonGenericClass => index::bit(index[p], NON_GENERIC_CLASS),
+            Question::ArrayTyped => index::bit(index[p], ARRAY_TYPED),
+        };
     }
     false
 }

@@ -4,7 +4,7 @@ ghost use Rattle.definition.specs.Check.{deepest};
 ghost use Rattle.definition.specs.Children.{AcceptedAt};
 ghost use Rattle.definition.specs.Grammar.{mark};
 ghost use Rattle.definition.specs.Tree.{markAt};
-ghost use Rattle.prescan.specs.Scope.{Skips};
+ghost use Rattle.prescan.specs.Table.{Indexed};
 ghost use mathlib.Core.Path.{_≡_};
 use console::MOST;
 use console::UNRESOLVED;
@@ -13,8 +13,8 @@ use console::print;
 use console::print_hex;
 use console::print_number;
 use names::Key;
+use prescan::MOST_NAMES;
 use prescan::Question;
-use prescan::Scope;
 use records::DUMMY_SP;
 use records::marks::AR;
 use records::marks::AS;
@@ -223,16 +223,15 @@ fn show_call(tree: &[u8], at: usize, levels: usize)
 
 // ---- Identifiers: the three questions, and the types that are made of a name
 
-fn show_questions(tree: &[u8], at: usize, levels: usize, scope: Scope)
+fn show_questions(tree: &[u8], at: usize, levels: usize, index: &[u32])
     requires { ⌜ AcceptedAt levels (now tree) at ⌝ }
-    requires { ⌜ AcceptedAt deepest (now tree) 0 ⌝ }
-    requires { ⌜ Skips (now tree) scope ⌝ }
+    requires { ⌜ Indexed (now tree) (now index) ⌝ }
 {
-    let safe = prescan::asked(tree, at, levels, scope, Question::TypeofSafe);
+    let safe = prescan::look_up(tree, index, at, levels, Question::TypeofSafe);
     print_bool(at, b"typeof_safe", safe);
-    let class = prescan::asked(tree, at, levels, scope, Question::NonGenericClass);
+    let class = prescan::look_up(tree, index, at, levels, Question::NonGenericClass);
     print_bool(at, b"non_generic_class", class);
-    let array = prescan::asked(tree, at, levels, scope, Question::ArrayTyped);
+    let array = prescan::look_up(tree, index, at, levels, Question::ArrayTyped);
     print_bool(at, b"array_typed", array);
 }
 
@@ -281,12 +280,11 @@ fn show_rest(tree: &[u8], at: usize, levels: usize)
     print_written(&out, end);
 }
 
-fn show_identifier(tree: &[u8], at: usize, levels: usize, scope: Scope)
+fn show_identifier(tree: &[u8], at: usize, levels: usize, index: &[u32])
     requires { ⌜ AcceptedAt levels (now tree) at × (markAt (now tree) at ≡ mark "Id") ⌝ }
-    requires { ⌜ AcceptedAt deepest (now tree) 0 ⌝ }
-    requires { ⌜ Skips (now tree) scope ⌝ }
+    requires { ⌜ Indexed (now tree) (now index) ⌝ }
 {
-    show_questions(tree, at, levels, scope);
+    show_questions(tree, at, levels, index);
     show_type_ref(tree, at, levels);
     show_query(tree, at, levels);
     show_reference(tree, at, levels);
@@ -303,10 +301,9 @@ fn mark_of(tree: &[u8], at: usize, levels: usize) -> u16
 }
 
 // The lines of the record at `at`, by its mark.
-fn show_record(tree: &[u8], at: usize, levels: usize, scope: Scope)
+fn show_record(tree: &[u8], at: usize, levels: usize, index: &[u32])
     requires { ⌜ AcceptedAt levels (now tree) at ⌝ }
-    requires { ⌜ AcceptedAt deepest (now tree) 0 ⌝ }
-    requires { ⌜ Skips (now tree) scope ⌝ }
+    requires { ⌜ Indexed (now tree) (now index) ⌝ }
 {
     match mark_of(tree, at, levels) {
         KI | KC => show_key(tree, at, levels),
@@ -323,7 +320,7 @@ fn show_record(tree: &[u8], at: usize, levels: usize, scope: Scope)
         }
         ID => {
             show_expression(tree, at, levels);
-            show_identifier(tree, at, levels, scope);
+            show_identifier(tree, at, levels, index);
         }
         TE => {
             show_expression(tree, at, levels);
@@ -342,43 +339,38 @@ fn show_record(tree: &[u8], at: usize, levels: usize, scope: Scope)
 }
 
 // The lines of the record at `at` and of all below it.
-fn show_all(tree: &[u8], at: usize, levels: usize, scope: Scope)
+fn show_all(tree: &[u8], at: usize, levels: usize, index: &[u32])
     requires { ⌜ AcceptedAt levels (now tree) at ⌝ }
-    requires { ⌜ AcceptedAt deepest (now tree) 0 ⌝ }
-    requires { ⌜ Skips (now tree) scope ⌝ }
+    requires { ⌜ Indexed (now tree) (now index) ⌝ }
 {
-    show_record(tree, at, levels, scope);
+    show_record(tree, at, levels, index);
     let mut n = records::count_at(tree, at);
     let mut kid = records::body_at(tree, at);
     while 0 < n {
-        show_all(tree, kid, levels - 1, scope);
+        show_all(tree, kid, levels - 1, index);
         kid = records::record_end(tree, kid, levels - 1);
         n -= 1;
     }
 }
 
 // The lines of the items of a module; it has none itself.
-fn show_items(tree: &[u8])
-    requires { ⌜ AcceptedAt deepest (now tree) 0 ⌝ }
+fn show_items(tree: &[u8], index: &[u32])
+    requires { ⌜ AcceptedAt deepest (now tree) 0 × Indexed (now tree) (now index) ⌝ }
 {
     let mut n = records::count_at(tree, 0);
     let mut item = records::body_at(tree, 0);
     while 0 < n {
-        let end = records::record_end(tree, item, records::DEEPEST - 1);
-        let scope = Scope {
-            unresolved: UNRESOLVED,
-            item,
-            end,
-        };
-        show_all(tree, item, records::DEEPEST - 1, scope);
-        item = end;
+        show_all(tree, item, records::DEEPEST - 1, index);
+        item = records::record_end(tree, item, records::DEEPEST - 1);
         n -= 1;
     }
 }
 
 fn show_tree(tree: &[u8]) {
     if console::print_check(tree) {
-        show_items(tree);
+        let mut table = [0u32; MOST_NAMES];
+        let n = prescan::index(tree, &mut table);
+        show_items(tree, &table[..n]);
     }
 }
 

@@ -4,7 +4,7 @@
 ghost use mathlib.Core.Path.{_≡_};
 ghost use Rattle.definition.specs.Check.{deepest};
 ghost use Rattle.definition.specs.Children.{AcceptedAt};
-ghost use Rattle.prescan.specs.Scope.{Skips};
+ghost use Rattle.prescan.specs.Table.{Indexed};
 use console::MOST;
 use console::ROOM;
 use console::UNRESOLVED;
@@ -13,6 +13,7 @@ use console::print;
 use console::print_hex;
 use console::print_number;
 use console::unwritten;
+use prescan::MOST_NAMES;
 use prescan::Scope;
 use records::marks::XE;
 use typing::Mode;
@@ -80,37 +81,43 @@ fn type_whole(
     tree: &[u8],
     at: usize,
     levels: usize,
+    index: &[u32],
     mode: Mode,
     out: &mut [u8],
     diagnostics: &mut [u8],
 ) -> Typed
     requires { ⌜ AcceptedAt levels (now tree) at ⌝ }
-    requires { ⌜ AcceptedAt deepest (now tree) 0 ⌝ }
-    requires { ⌜ Skips (now tree) (mode .scope) ⌝ }
+    requires { ⌜ Indexed (now tree) (now index) ⌝ }
 {
-    typing::expr_to_ts_type(tree, at, levels, mode, out, diagnostics, start())
+    typing::expr_to_ts_type(tree, at, levels, index, mode, out, diagnostics, start())
 }
 
 // The dry run: there is no room for anything.
-fn dry_run(tree: &[u8], at: usize, levels: usize, mode: Mode) -> State
+fn dry_run(tree: &[u8], at: usize, levels: usize, index: &[u32], mode: Mode) -> State
     requires { ⌜ AcceptedAt levels (now tree) at ⌝ }
-    requires { ⌜ AcceptedAt deepest (now tree) 0 ⌝ }
-    requires { ⌜ Skips (now tree) (mode .scope) ⌝ }
+    requires { ⌜ Indexed (now tree) (now index) ⌝ }
 {
     let mut out = [0u8; 0];
     let mut diagnostics = [0u8; 0];
-    let typed = type_whole(tree, at, levels, mode, &mut out, &mut diagnostics);
+    let typed = type_whole(tree, at, levels, index, mode, &mut out, &mut diagnostics);
     show_label(at, mode);
     print(b" dry ");
     show_answer(typed)
 }
 
-fn run(tree: &[u8], at: usize, levels: usize, mode: Mode, out: &mut [u8], diagnostics: &mut [u8])
+fn run(
+    tree: &[u8],
+    at: usize,
+    levels: usize,
+    index: &[u32],
+    mode: Mode,
+    out: &mut [u8],
+    diagnostics: &mut [u8],
+)
     requires { ⌜ AcceptedAt levels (now tree) at ⌝ }
-    requires { ⌜ AcceptedAt deepest (now tree) 0 ⌝ }
-    requires { ⌜ Skips (now tree) (mode .scope) ⌝ }
+    requires { ⌜ Indexed (now tree) (now index) ⌝ }
 {
-    let typed = type_whole(tree, at, levels, mode, out, diagnostics);
+    let typed = type_whole(tree, at, levels, index, mode, out, diagnostics);
     show_label(at, mode);
     print(b" run ");
     show_answer(typed);
@@ -125,13 +132,13 @@ fn show_typing(
     tree: &[u8],
     at: usize,
     levels: usize,
+    index: &[u32],
     scope: Scope,
     as_const: bool,
     as_readonly: bool,
 )
     requires { ⌜ AcceptedAt levels (now tree) at ⌝ }
-    requires { ⌜ AcceptedAt deepest (now tree) 0 ⌝ }
-    requires { ⌜ Skips (now tree) scope ⌝ }
+    requires { ⌜ Indexed (now tree) (now index) ⌝ }
 {
     let mode = Mode {
         scope,
@@ -139,7 +146,7 @@ fn show_typing(
         as_readonly,
         frozen: false,
     };
-    let s = dry_run(tree, at, levels, mode);
+    let s = dry_run(tree, at, levels, index, mode);
     let p = s.written;
     let d = s.reported;
     if ROOM < p {
@@ -156,6 +163,7 @@ fn show_typing(
         tree,
         at,
         levels,
+        index,
         mode,
         front_mut(&mut out, p),
         front_mut(&mut diagnostics, d),
@@ -165,50 +173,47 @@ fn show_typing(
 // ---- Modules
 
 // The typings of the expression at `at`, in the four modes.
-fn show_typings(tree: &[u8], at: usize, levels: usize, scope: Scope)
+fn show_typings(tree: &[u8], at: usize, levels: usize, index: &[u32], scope: Scope)
     requires { ⌜ AcceptedAt levels (now tree) at ⌝ }
-    requires { ⌜ AcceptedAt deepest (now tree) 0 ⌝ }
-    requires { ⌜ Skips (now tree) scope ⌝ }
+    requires { ⌜ Indexed (now tree) (now index) ⌝ }
 {
-    show_typing(tree, at, levels, scope, false, false);
-    show_typing(tree, at, levels, scope, false, true);
-    show_typing(tree, at, levels, scope, true, false);
-    show_typing(tree, at, levels, scope, true, true);
+    show_typing(tree, at, levels, index, scope, false, false);
+    show_typing(tree, at, levels, index, scope, false, true);
+    show_typing(tree, at, levels, index, scope, true, false);
+    show_typing(tree, at, levels, index, scope, true, true);
 }
 
 // Those of the expression of an Xe; other items have none.
-fn show_item(tree: &[u8], at: usize, levels: usize, scope: Scope)
+fn show_item(tree: &[u8], at: usize, levels: usize, index: &[u32], scope: Scope)
     requires { ⌜ AcceptedAt levels (now tree) at ⌝ }
-    requires { ⌜ AcceptedAt deepest (now tree) 0 ⌝ }
-    requires { ⌜ Skips (now tree) scope ⌝ }
+    requires { ⌜ Indexed (now tree) (now index) ⌝ }
 {
     if records::mark_at(tree, at) != XE {
         return;
     }
-    show_typings(tree, records::body_at(tree, at), levels - 1, scope);
+    show_typings(tree, records::body_at(tree, at), levels - 1, index, scope);
 }
 
-fn show_items(tree: &[u8])
-    requires { ⌜ AcceptedAt deepest (now tree) 0 ⌝ }
+fn show_items(tree: &[u8], index: &[u32])
+    requires { ⌜ AcceptedAt deepest (now tree) 0 × Indexed (now tree) (now index) ⌝ }
 {
+    let scope = Scope {
+        unresolved: UNRESOLVED,
+    };
     let mut n = records::count_at(tree, 0);
     let mut item = records::body_at(tree, 0);
     while 0 < n {
-        let end = records::record_end(tree, item, records::DEEPEST - 1);
-        let scope = Scope {
-            unresolved: UNRESOLVED,
-            item,
-            end,
-        };
-        show_item(tree, item, records::DEEPEST - 1, scope);
-        item = end;
+        show_item(tree, item, records::DEEPEST - 1, index, scope);
+        item = records::record_end(tree, item, records::DEEPEST - 1);
         n -= 1;
     }
 }
 
 fn show_module(tree: &[u8]) {
     if console::print_check(tree) {
-        show_items(tree);
+        let mut table = [0u32; MOST_NAMES];
+        let n = prescan::index(tree, &mut table);
+        show_items(tree, &table[..n]);
     }
 }
 

@@ -5,10 +5,11 @@ use Prim.Native.Nat.{ℕ, _*_, _≤_}
 use native.Mathlib.Omega.{arith}
 use lib.ListN.{length, take}
 use lib.Seq.{length-take-le}
-use Rattle.definition.specs.Check.{fine, refused, deepest, checkTree}
+use Rattle.definition.specs.Check.{fine, refused, longestTree, deepest, checkTree}
 use Rattle.definition.specs.Children.{AcceptedAt}
 use Rattle.definition.specs.Transform.{done, callBy, call}
 use Rattle.definition.proofs.Calls.{Beyond, success-keeps}
+use Rattle.definition.proofs.Accepted.{accepted-tree}
 use Rattle.definition.proofs.Children.{root-accepted}
 use Rattle.grammar.specs.Answers.{number, checked}
 use Rattle.grammar.specs.declared.Refusal.{Refusal}
@@ -35,6 +36,9 @@ module _ (tree list : List ℕ) {f : Checked} (c : checked f ≡ checkTree tree 
 
     pub call-root : AcceptedAt deepest tree 0
     call-root = root-accepted tree list e tree-fine
+
+    pub call-short : length tree ≤ longestTree
+    call-short = accepted-tree tree list e tree-fine .0 .short
 
     pub call-accepted : (ctx : ℕ) (out diags : List ℕ) {r : Answer} {o g : List ℕ} → Gives (writtenOf list ctx tree out diags) r o g → Gives (call tree list ctx out diags) r o g
     unfolding call callBy

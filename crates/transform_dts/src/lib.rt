@@ -1,16 +1,21 @@
 // `transform` on a Module, for every two byte strings: the check, a dry run that says how long output and diagnostics are, and the run.
 ghost use mathlib.Core.Path.{_≡_};
-ghost use Rattle.definition.specs.Check.{deepest};
+ghost use Prim.Native.Nat.{_*_, _<_, _≤_};
+ghost use lib.ListN.{length};
+ghost use Rattle.definition.specs.Check.{longestTree, deepest};
 ghost use Rattle.definition.specs.Children.{AcceptedAt};
 ghost use Rattle.definition.specs.Transform.{call};
+ghost use Rattle.index.specs.Index.{farthest};
+ghost use Rattle.prescan.specs.Table.{declarationSize, Indexed};
 ghost use Rattle.parts.specs.Makes.{Makes};
 ghost use Rattle.transform_dts.specs.Answers.{start, transformed, writtenOf, Gives};
 use grammar::Checked;
 use grammar::Refusal;
+use prescan::DECLARATION_SIZE;
+use prescan::MOST_NAMES;
 use prescan::Scope;
 use records::DEEPEST;
 use records::DIAGNOSTIC_SIZE;
-use records::HEAD_SIZE;
 use typing::State;
 
 pub mod twice;
@@ -20,6 +25,11 @@ pub enum Answer {
     Done(usize, usize),
     Refused(Refusal, usize),
 }
+
+// How many names the tables of small trees have room for: a declaration takes DECLARATION_SIZE bytes at least.
+const FEW_NAMES: usize = 64;
+
+const MORE_NAMES: usize = 1024;
 
 // Where a run begins.
 fn begin() -> State
@@ -33,16 +43,16 @@ fn begin() -> State
     }
 }
 
-// `Program::Module`: a run over the Mo of an accepted tree; its front follows the items, with their number. Before the first item the scope is a
-// place behind the tree, where no item begins.
+// `Program::Module`: a run over the Mo of an accepted tree; its front follows the items, with their number.
 fn transform_module(
     tree: &[u8],
+    index: &[u32],
     list: &[u8],
     unresolved: u32,
     out: &mut [u8],
     diagnostics: &mut [u8],
 ) -> State
-    requires { ⌜ AcceptedAt deepest (now tree) 0 ⌝ }
+    requires { ⌜ AcceptedAt deepest (now tree) 0 × Indexed (now tree) (now index) ⌝ }
     ensures { λ r. ⌜
         Makes (now (out .entry)) (now (out .exit)) (now (diagnostics .entry)) (now (diagnostics .exit)) start r
         (transformed (now (list .entry)) unresolved (now (tree .entry)))
@@ -50,11 +60,7 @@ fn transform_module(
 {
     let head = records::read_head(tree, 0);
     let first = records::body_at(tree, 0);
-    let scope = Scope {
-        unresolved,
-        item: tree.len(),
-        end: tree.len() + HEAD_SIZE,
-    };
+    let scope = Scope { unresolved };
     let mut items = begin();
     items.written = records::advance(0, parts::front_size(tree, 0));
     let made = items::transform_module_items(
@@ -62,6 +68,7 @@ fn transform_module(
         first,
         head.count,
         DEEPEST - 1,
+        index,
         scope,
         list,
         true,
@@ -73,21 +80,29 @@ fn transform_module(
     made.s
 }
 
-// The call on an accepted tree: refusals 9 and 10 by the dry run, then the run, on exactly the room that it takes.
-fn accepted(
+// The call on an accepted tree, with its index: refusals 9 and 10 by the dry run, then the run, on exactly the room that it takes.
+fn dry_run_and_run(
     tree: &[u8],
+    index: &[u32],
     list: &[u8],
     unresolved: u32,
     out: &mut [u8],
     diagnostics: &mut [u8],
 ) -> Answer
-    requires { ⌜ AcceptedAt deepest (now tree) 0 ⌝ }
+    requires { ⌜ AcceptedAt deepest (now tree) 0 × Indexed (now tree) (now index) ⌝ }
     ensures { λ r. ⌜
         Gives (writtenOf (now (list .entry)) unresolved (now (tree .entry)) (now (out .entry)) (now (diagnostics .entry)))
         r (now (out .exit)) (now (diagnostics .exit))
         ⌝ }
 {
-    let dry = transform_module(tree, list, unresolved, &mut out[..0], &mut diagnostics[..0]);
+    let dry = transform_module(
+        tree,
+        index,
+        list,
+        unresolved,
+        &mut out[..0],
+        &mut diagnostics[..0],
+    );
     let fits = dry.fits;
     if !fits {
         return Answer::Refused(Refusal::OutputFull, 0);
@@ -100,12 +115,111 @@ fn accepted(
     }
     transform_module(
         tree,
+        index,
         list,
         unresolved,
         &mut out[..dry.written],
         &mut diagnostics[..dry.reported],
     );
     Answer::Done(dry.written, dry.reported / DIAGNOSTIC_SIZE)
+}
+
+// The same, with a table for the index.
+fn with_table(
+    tree: &[u8],
+    table: &mut [u32],
+    list: &[u8],
+    unresolved: u32,
+    out: &mut [u8],
+    diagnostics: &mut [u8],
+) -> Answer
+    requires { ⌜ AcceptedAt deepest (now tree) 0 ⌝ }
+    requires { ⌜ length (now tree) ≤ declarationSize * length (now table) ⌝ }
+    requires { ⌜ length (now tree) < farthest ⌝ }
+    ensures { λ r. ⌜
+        Gives (writtenOf (now (list .entry)) unresolved (now (tree .entry)) (now (out .entry)) (now (diagnostics .entry)))
+        r (now (out .exit)) (now (diagnostics .exit))
+        ⌝ }
+{
+    let n = prescan::index(tree, table);
+    dry_run_and_run(tree, &table[..n], list, unresolved, out, diagnostics)
+}
+
+// The same, with a table for the names of a small tree.
+fn few_names(
+    tree: &[u8],
+    list: &[u8],
+    unresolved: u32,
+    out: &mut [u8],
+    diagnostics: &mut [u8],
+) -> Answer
+    requires { ⌜ AcceptedAt deepest (now tree) 0 × (length (now tree) ≤ declarationSize * 64) ⌝ }
+    ensures { λ r. ⌜
+        Gives (writtenOf (now (list .entry)) unresolved (now (tree .entry)) (now (out .entry)) (now (diagnostics .entry)))
+        r (now (out .exit)) (now (diagnostics .exit))
+        ⌝ }
+{
+    let mut table = [0u32; FEW_NAMES];
+    with_table(tree, &mut table, list, unresolved, out, diagnostics)
+}
+
+// The same, with of a larger one.
+fn more_names(
+    tree: &[u8],
+    list: &[u8],
+    unresolved: u32,
+    out: &mut [u8],
+    diagnostics: &mut [u8],
+) -> Answer
+    requires { ⌜ AcceptedAt deepest (now tree) 0 × (length (now tree) ≤ declarationSize * 1024) ⌝ }
+    ensures { λ r. ⌜
+        Gives (writtenOf (now (list .entry)) unresolved (now (tree .entry)) (now (out .entry)) (now (diagnostics .entry)))
+        r (now (out .exit)) (now (diagnostics .exit))
+        ⌝ }
+{
+    let mut table = [0u32; MORE_NAMES];
+    with_table(tree, &mut table, list, unresolved, out, diagnostics)
+}
+
+// The same, with of the largest.
+fn most_names(
+    tree: &[u8],
+    list: &[u8],
+    unresolved: u32,
+    out: &mut [u8],
+    diagnostics: &mut [u8],
+) -> Answer
+    requires { ⌜ AcceptedAt deepest (now tree) 0 × (length (now tree) ≤ declarationSize * 8192) ⌝ }
+    ensures { λ r. ⌜
+        Gives (writtenOf (now (list .entry)) unresolved (now (tree .entry)) (now (out .entry)) (now (diagnostics .entry)))
+        r (now (out .exit)) (now (diagnostics .exit))
+        ⌝ }
+{
+    let mut table = [0u32; MOST_NAMES];
+    with_table(tree, &mut table, list, unresolved, out, diagnostics)
+}
+
+// The call on an accepted tree: a small one has a small table, so that it needs not clear a large one.
+fn accepted(
+    tree: &[u8],
+    list: &[u8],
+    unresolved: u32,
+    out: &mut [u8],
+    diagnostics: &mut [u8],
+) -> Answer
+    requires { ⌜ AcceptedAt deepest (now tree) 0 × (length (now tree) ≤ longestTree) ⌝ }
+    ensures { λ r. ⌜
+        Gives (writtenOf (now (list .entry)) unresolved (now (tree .entry)) (now (out .entry)) (now (diagnostics .entry)))
+        r (now (out .exit)) (now (diagnostics .exit))
+        ⌝ }
+{
+    if tree.len() <= DECLARATION_SIZE * FEW_NAMES {
+        return few_names(tree, list, unresolved, out, diagnostics);
+    }
+    if tree.len() <= DECLARATION_SIZE * MORE_NAMES {
+        return more_names(tree, list, unresolved, out, diagnostics);
+    }
+    most_names(tree, list, unresolved, out, diagnostics)
 }
 
 // The exported call, for every two byte strings, every context and all buffers: the answer and both buffers are the definition's `call`.

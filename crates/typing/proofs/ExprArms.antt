@@ -233,8 +233,8 @@ module _ (tree : List ℕ) (m : Mode) (levels at n : ℕ) where
       → keptIf (hasReadonly (treeAt (levels - 1) tree p)) (typeOf tree (record { scope = m .scope; as_const = m .as_const; as_readonly = m .as_readonly; frozen = true }) (levels - 1) p n) ≡ typeOf tree m levels at n
   freeze-is a e f = type-call a e (f .0) (freeze-there a (f .0)) (f .1)
 
-  pub freeze-ready : {p k : ℕ} → Ready levels tree at k (m .scope) → markAt tree at ≡ mark "Ca" → (objectFreezeCallArg (m .scope .unresolved) (kidsOf t) ≡ true) × (p ≡ childAt levels tree at 1) → Ready (levels - 1) tree p k (m .scope)
+  pub freeze-ready : {p k : ℕ} {index : List ℕ} → Ready levels tree at k index → markAt tree at ≡ mark "Ca" → (objectFreezeCallArg (m .scope .unresolved) (kidsOf t) ≡ true) × (p ≡ childAt levels tree at 1) → Ready (levels - 1) tree p k index
   freeze-ready {p} {k} r e f =
       let two = freeze-there (r .accepted) (f .0) in
       let low = child-after levels tree at (r .accepted) 1 (omega arith) in
-      rw (f .1) (record { accepted = child levels tree at (r .accepted) 1 two; root = r .root; low = omega (arith, r .low, low); skips = r .skips })
+      rw (f .1) (record { accepted = child levels tree at (r .accepted) 1 two; low = omega (arith, r .low, low); indexed = r .indexed })

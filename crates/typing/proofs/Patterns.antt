@@ -240,7 +240,7 @@ named-fits levels tree at a e f known =
     (rw (z, text-is (levels - 1 - 1) tree q, length-drop) (omega (arith, text-length (levels - 1 - 1) tree q (i .accepted))))
 
 -- what is asked for a generated name, once the default has been typed
-pub unnamed-ready : (tree : List ℕ) (scope : Scope) (levels at : ℕ) {o o1 g g1 : List ℕ} (s : State) {made : State} {p q : ℕ} → Ready levels tree at (s .counter) scope → Child levels tree at 0 (bodyAt tree at) pattern
+pub unnamed-ready : (tree : List ℕ) (scope : Scope) (levels at : ℕ) {o o1 g g1 : List ℕ} (s : State) {made : State} {p q : ℕ} {index : List ℕ} → Ready levels tree at (s .counter) index → Child levels tree at 0 (bodyAt tree at) pattern
     → Child levels tree at 1 p expression → p ≡ endAt (levels - 1) tree (bodyAt tree at) → q ≡ sat (s .written) (uniqueFront (s .counter + 1))
     → IsSome o o1 g g1 (movedTo s q) made (typeOf tree (mutableMode scope) (levels - 1) p (s .counter))
     → (at + headSize ≤ length tree) × (((s .counter ≤ made .counter) × (made .counter < length tree)) × (sat (s .written) (uniqueFront (s .counter + 1)) ≤ made .written))

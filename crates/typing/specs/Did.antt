@@ -13,7 +13,7 @@ use Rattle.definition.specs.Prescan.{PrescannedModuleIds, prescanModuleIds}
 use Rattle.definition.specs.Typing.{exprToTsType}
 use Rattle.definition.specs.Transform.{textsFit}
 use Rattle.prescan.specs.declared.Scope.{Scope}
-use Rattle.prescan.specs.Scope.{Skips}
+use Rattle.prescan.specs.Table.{Indexed}
 use Rattle.records.specs.Wrote.{Put, Ran}
 use Rattle.swc_helpers.specs.declared.MaybeType.{MaybeType}
 use Rattle.swc_helpers.specs.declared.MaybeType.the-variants.{Typed as Made, Untyped}
@@ -25,13 +25,12 @@ use Rattle.typing.specs.Parts.{readonlyOrSame}
 
 -- ---- what is asked
 
--- the record at `at` of an accepted tree, with `levels` levels left; no more names were made than bytes stand before it, and the scope's item ends
--- where it says
-pub record Ready (levels : ℕ) (tree : List ℕ) (at n : ℕ) (scope : Scope) : Type 0 where
+-- the record at `at` of an accepted tree, with `levels` levels left; no more names were made than bytes stand before it, and the index
+-- is the tree's
+pub record Ready (levels : ℕ) (tree : List ℕ) (at n : ℕ) (index : List ℕ) : Type 0 where
   pub accepted : AcceptedAt levels tree at
-  pub root : AcceptedAt deepest tree 0
   pub low : n ≤ at
-  pub skips : Skips tree scope
+  pub indexed : Indexed tree index
 
 -- the module-level names of a tree
 unfoldable pub idsOf : List ℕ → PrescannedModuleIds

@@ -4,12 +4,11 @@ ghost use mathlib.Core.Option.{none, some};
 ghost use mathlib.Core.Bool.{cond};
 ghost use Rattle.definition.specs.Tree.{encode, markAt, textAt, treeAt};
 ghost use Rattle.definition.specs.Grammar.{mark};
-ghost use Rattle.definition.specs.Check.{deepest};
 ghost use Rattle.definition.specs.Children.{AcceptedAt};
 ghost use Rattle.definition.specs.Record.{kidsOf, symbolOf, dummySp, kid};
 ghost use Rattle.definition.specs.Helpers.{tsTypeQuery};
 ghost use Rattle.definition.specs.Typing.{identToTsType};
-ghost use Rattle.prescan.specs.Scope.{Skips};
+ghost use Rattle.prescan.specs.Table.{Indexed};
 ghost use Rattle.records.specs.Wrote.{Put};
 ghost use Rattle.swc_helpers.specs.Found.{isConst, PutMaybe};
 ghost use Rattle.typing.specs.Did.{idsOf};
@@ -89,14 +88,14 @@ pub fn ident_to_ts_type(
     tree: &[u8],
     at: usize,
     levels: usize,
+    index: &[u32],
     scope: Scope,
     as_const: bool,
     out: &mut [u8],
     p: usize,
 ) -> MaybeType
     requires { ⌜ AcceptedAt levels (now tree) at × (markAt (now tree) at ≡ mark "Id") ⌝ }
-    requires { ⌜ AcceptedAt deepest (now tree) 0 ⌝ }
-    requires { ⌜ Skips (now tree) scope ⌝ }
+    requires { ⌜ Indexed (now tree) (now index) ⌝ }
     ensures { λ r. ⌜
         PutMaybe (now (out .entry)) (now (out .exit)) p
         (identToTsType (idsOf (now (tree .entry))) (scope .unresolved) (treeAt levels (now (tree .entry)) at) as_const) r
@@ -105,7 +104,7 @@ pub fn ident_to_ts_type(
     if records::text::context_at(tree, at) == scope.unresolved {
         return global_type(tree, at, levels, as_const, out, p);
     }
-    if prescan::asked(tree, at, levels, scope, Question::TypeofSafe) {
+    if prescan::look_up(tree, index, at, levels, Question::TypeofSafe) {
         return MaybeType::Typed(swc_helpers::ts_type_query(tree, at, levels, DUMMY_SP, out, p));
     }
     MaybeType::Untyped
@@ -116,13 +115,12 @@ fn new_type(
     tree: &[u8],
     at: usize,
     levels: usize,
-    scope: Scope,
+    index: &[u32],
     out: &mut [u8],
     p: usize,
 ) -> MaybeType
     requires { ⌜ AcceptedAt levels (now tree) at × (markAt (now tree) at ≡ mark "Ne") ⌝ }
-    requires { ⌜ AcceptedAt deepest (now tree) 0 ⌝ }
-    requires { ⌜ Skips (now tree) scope ⌝ }
+    requires { ⌜ Indexed (now tree) (now index) ⌝ }
     ensures { λ r. ⌜
         PutMaybe (now (out .entry)) (now (out .exit)) p (classType (idsOf (now (tree .entry))) (kidsOf (treeAt levels (now (tree .entry)) at))) r
         ⌝ }
@@ -135,7 +133,7 @@ fn new_type(
     if records::mark_at(tree, type_args) != NO {
         return MaybeType::Untyped;
     }
-    if prescan::asked(tree, ident, levels - 1, scope, Question::NonGenericClass) {
+    if prescan::look_up(tree, index, ident, levels - 1, Question::NonGenericClass) {
         return MaybeType::Typed(swc_helpers::reference_to(
             tree,
             ident,
@@ -173,19 +171,18 @@ pub fn array_ident(
     tree: &[u8],
     at: usize,
     levels: usize,
-    scope: Scope,
+    index: &[u32],
     out: &mut [u8],
     p: usize,
 ) -> MaybeType
     requires { ⌜ AcceptedAt levels (now tree) at ⌝ }
-    requires { ⌜ AcceptedAt deepest (now tree) 0 ⌝ }
-    requires { ⌜ Skips (now tree) scope ⌝ }
+    requires { ⌜ Indexed (now tree) (now index) ⌝ }
     ensures { λ r. ⌜
         PutMaybe (now (out .entry)) (now (out .exit)) p
         (cond (idsOf (now (tree .entry)) .arrayTyped (textAt (now (tree .entry)) at)) (some (tsTypeQuery dummySp (treeAt levels (now (tree .entry)) at))) none) r
         ⌝ }
 {
-    if prescan::asked(tree, at, levels, scope, Question::ArrayTyped) {
+    if prescan::look_up(tree, index, at, levels, Question::ArrayTyped) {
         return MaybeType::Typed(swc_helpers::ts_type_query(tree, at, levels, DUMMY_SP, out, p));
     }
     MaybeType::Untyped
@@ -197,13 +194,13 @@ pub fn leaf_type(
     tree: &[u8],
     at: usize,
     levels: usize,
+    index: &[u32],
     mode: Mode,
     out: &mut [u8],
     p: usize,
 ) -> MaybeType
     requires { ⌜ AcceptedAt levels (now tree) at ⌝ }
-    requires { ⌜ AcceptedAt deepest (now tree) 0 ⌝ }
-    requires { ⌜ Skips (now tree) (mode .scope) ⌝ }
+    requires { ⌜ Indexed (now tree) (now index) ⌝ }
     ensures { λ r. ⌜ PutMaybe (now (out .entry)) (now (out .exit)) p (leafType (now (tree .entry)) mode levels at) r ⌝ }
 {
     let kind = decl_kind(mode.as_const);
@@ -217,12 +214,12 @@ pub fn leaf_type(
             p,
         ),
         TE => MaybeType::Typed(swc_helpers::tpl_to_ts_type(tree, at, levels, kind, out, p)),
-        ID => ident_to_ts_type(tree, at, levels, mode.scope, mode.as_const, out, p),
+        ID => ident_to_ts_type(tree, at, levels, index, mode.scope, mode.as_const, out, p),
         MI => {
             let arg = records::body_at(tree, at);
             swc_helpers::minus_lit_to_ts_type(tree, arg, levels - 1, kind, out, p)
         }
-        NE => new_type(tree, at, levels, mode.scope, out, p),
+        NE => new_type(tree, at, levels, index, out, p),
         _ => MaybeType::Untyped,
     }
 }

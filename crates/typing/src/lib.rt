@@ -194,12 +194,13 @@ fn shorthand(
     tree: &[u8],
     at: usize,
     levels: usize,
+    index: &[u32],
     mode: Mode,
     out: &mut [u8],
     diagnostics: &mut [u8],
     s: State,
 ) -> Counted
-    requires { ⌜ Ready levels (now tree) at (s .counter) (mode .scope) × (markAt (now tree) at ≡ mark "Sh") ⌝ }
+    requires { ⌜ Ready levels (now tree) at (s .counter) (now index) × (markAt (now tree) at ≡ mark "Sh") ⌝ }
     ensures { λ r. ⌜
         MakesCounted (now (out .entry)) (now (out .exit)) (now (diagnostics .entry)) (now (diagnostics .exit)) s r
         (memberType (now (tree .entry)) mode levels at (s .counter))
@@ -207,7 +208,16 @@ fn shorthand(
 {
     let ident = records::body_at(tree, at);
     let q = put_shorthand(tree, ident, levels - 1, is_readonly(mode), out, s.written);
-    let made = ident_to_ts_type(tree, ident, levels - 1, mode.scope, mode.as_const, out, q);
+    let made = ident_to_ts_type(
+        tree,
+        ident,
+        levels - 1,
+        index,
+        mode.scope,
+        mode.as_const,
+        out,
+        q,
+    );
     let MaybeType::Typed(end) = made else {
         return skipped(tree, at, D3, diagnostics, s);
     };
@@ -243,30 +253,31 @@ pub fn expr_to_ts_type(
     tree: &[u8],
     at: usize,
     levels: usize,
+    index: &[u32],
     mode: Mode,
     out: &mut [u8],
     diagnostics: &mut [u8],
     s: State,
 ) -> Typed
-    requires { ⌜ Ready levels (now tree) at (s .counter) (mode .scope) ⌝ }
+    requires { ⌜ Ready levels (now tree) at (s .counter) (now index) ⌝ }
     ensures { λ r. ⌜
         MakesMaybe (now (out .entry)) (now (out .exit)) (now (diagnostics .entry)) (now (diagnostics .exit)) s r
         (typeOf (now (tree .entry)) mode levels at (s .counter))
         ⌝ }
 {
     match records::mark_at(tree, at) {
-        AR => array_type(tree, at, levels, mode, out, diagnostics, s),
-        OB => object_type(tree, at, levels, mode, out, diagnostics, s),
+        AR => array_type(tree, at, levels, index, mode, out, diagnostics, s),
+        OB => object_type(tree, at, levels, index, mode, out, diagnostics, s),
         TC => {
             let mut asserted = mode;
             asserted.as_const = true;
             asserted.as_readonly = true;
             let expr = records::body_at(tree, at);
-            expr_to_ts_type(tree, expr, levels - 1, asserted, out, diagnostics, s)
+            expr_to_ts_type(tree, expr, levels - 1, index, asserted, out, diagnostics, s)
         }
         TS => {
             let expr = records::body_at(tree, at);
-            expr_to_ts_type(tree, expr, levels - 1, mode, out, diagnostics, s)
+            expr_to_ts_type(tree, expr, levels - 1, index, mode, out, diagnostics, s)
         }
         AS => {
             let mut next = s;
@@ -275,11 +286,31 @@ pub fn expr_to_ts_type(
         }
         FX => {
             let fu = child_at(tree, at, levels, 1);
-            function_type(tree, fu, levels - 1, mode.scope, true, out, diagnostics, s)
+            function_type(
+                tree,
+                fu,
+                levels - 1,
+                index,
+                mode.scope,
+                true,
+                out,
+                diagnostics,
+                s,
+            )
         }
-        AW => function_type(tree, at, levels, mode.scope, false, out, diagnostics, s),
-        CA => call_type(tree, at, levels, mode, out, diagnostics, s),
-        _ => answer_of(s, leaf_type(tree, at, levels, mode, out, s.written)),
+        AW => function_type(
+            tree,
+            at,
+            levels,
+            index,
+            mode.scope,
+            false,
+            out,
+            diagnostics,
+            s,
+        ),
+        CA => call_type(tree, at, levels, index, mode, out, diagnostics, s),
+        _ => answer_of(s, leaf_type(tree, at, levels, index, mode, out, s.written)),
     }
 }
 
@@ -288,23 +319,24 @@ fn array_type(
     tree: &[u8],
     at: usize,
     levels: usize,
+    index: &[u32],
     mode: Mode,
     out: &mut [u8],
     diagnostics: &mut [u8],
     s: State,
 ) -> Typed
-    requires { ⌜ Ready levels (now tree) at (s .counter) (mode .scope) × (markAt (now tree) at ≡ mark "Ar") ⌝ }
+    requires { ⌜ Ready levels (now tree) at (s .counter) (now index) × (markAt (now tree) at ≡ mark "Ar") ⌝ }
     ensures { λ r. ⌜
         MakesMaybe (now (out .entry)) (now (out .exit)) (now (diagnostics .entry)) (now (diagnostics .exit)) s r
         (typeOf (now (tree .entry)) mode levels at (s .counter))
         ⌝ }
 {
     if !is_readonly(mode) {
-        return tuple_type(tree, at, levels, mode, out, diagnostics, s);
+        return tuple_type(tree, at, levels, index, mode, out, diagnostics, s);
     }
     let mut next = s;
     next.written = swc_helpers::ts_readonly(DUMMY_SP, out, s.written);
-    match tuple_type(tree, at, levels, mode, out, diagnostics, next) {
+    match tuple_type(tree, at, levels, index, mode, out, diagnostics, next) {
         Typed::Some(made) => Typed::Some(made),
         Typed::None(failed) => Typed::None(back(s, failed)),
     }
@@ -315,12 +347,13 @@ fn tuple_type(
     tree: &[u8],
     at: usize,
     levels: usize,
+    index: &[u32],
     mode: Mode,
     out: &mut [u8],
     diagnostics: &mut [u8],
     s: State,
 ) -> Typed
-    requires { ⌜ Ready levels (now tree) at (s .counter) (mode .scope) ⌝ }
+    requires { ⌜ Ready levels (now tree) at (s .counter) (now index) ⌝ }
     ensures { λ r. ⌜
         MakesMaybe (now (out .entry)) (now (out .exit)) (now (diagnostics .entry)) (now (diagnostics .exit)) s r
         (tupleType (now (tree .entry)) mode levels at (s .counter))
@@ -333,7 +366,7 @@ fn tuple_type(
     next.written = records::advance(s.written, HEAD_SIZE);
     let mut count = 0;
     while 0 < n {
-        match element_type(tree, child, levels - 1, mode, out, diagnostics, next) {
+        match element_type(tree, child, levels - 1, index, mode, out, diagnostics, next) {
             Elements::All(made) => {
                 next = made.s;
                 count += made.count;
@@ -358,12 +391,13 @@ fn element_type(
     tree: &[u8],
     at: usize,
     levels: usize,
+    index: &[u32],
     mode: Mode,
     out: &mut [u8],
     diagnostics: &mut [u8],
     s: State,
 ) -> Elements
-    requires { ⌜ Ready levels (now tree) at (s .counter) (mode .scope) ⌝ }
+    requires { ⌜ Ready levels (now tree) at (s .counter) (now index) ⌝ }
     ensures { λ r. ⌜
         DidAll (now (out .entry)) (now (out .exit)) (now (diagnostics .entry)) (now (diagnostics .exit)) s r
         (elementType (now (tree .entry)) mode levels at (s .counter))
@@ -372,7 +406,7 @@ fn element_type(
     let mut next = s;
     match records::mark_at(tree, at) {
         OP => Elements::All(Counted { s, count: 0 }),
-        SP => spread_type(tree, at, levels, mode, out, diagnostics, s),
+        SP => spread_type(tree, at, levels, index, mode, out, diagnostics, s),
         NO => {
             let q = swc_helpers::ts_tuple_element(DUMMY_SP, out, s.written);
             next.written = swc_helpers::any_type_ann(DUMMY_SP, out, q);
@@ -382,7 +416,7 @@ fn element_type(
             let mut inner = mode;
             inner.frozen = false;
             next.written = swc_helpers::ts_tuple_element(DUMMY_SP, out, s.written);
-            let t = expr_to_ts_type(tree, at, levels, inner, out, diagnostics, next);
+            let t = expr_to_ts_type(tree, at, levels, index, inner, out, diagnostics, next);
             let made = or_any(tree, at, D1, t, out, diagnostics);
             Elements::All(Counted { s: made, count: 1 })
         }
@@ -394,12 +428,13 @@ fn spread_type(
     tree: &[u8],
     at: usize,
     levels: usize,
+    index: &[u32],
     mode: Mode,
     out: &mut [u8],
     diagnostics: &mut [u8],
     s: State,
 ) -> Elements
-    requires { ⌜ Ready levels (now tree) at (s .counter) (mode .scope) × (markAt (now tree) at ≡ mark "Sp") ⌝ }
+    requires { ⌜ Ready levels (now tree) at (s .counter) (now index) × (markAt (now tree) at ≡ mark "Sp") ⌝ }
     ensures { λ r. ⌜
         DidAll (now (out .entry)) (now (out .exit)) (now (diagnostics .entry)) (now (diagnostics .exit)) s r
         (elementType (now (tree .entry)) mode levels at (s .counter))
@@ -409,7 +444,7 @@ fn spread_type(
     let q = swc_helpers::ts_tuple_element(DUMMY_SP, out, s.written);
     let mut next = s;
     next.written = swc_helpers::ts_rest_type(DUMMY_SP, out, q);
-    match rest_type(tree, expr, levels - 1, mode, out, diagnostics, next) {
+    match rest_type(tree, expr, levels - 1, index, mode, out, diagnostics, next) {
         Typed::Some(made) => Elements::All(Counted { s: made, count: 1 }),
         Typed::None(failed) => {
             let given_up = back(s, failed);
@@ -423,24 +458,25 @@ fn rest_type(
     tree: &[u8],
     at: usize,
     levels: usize,
+    index: &[u32],
     mode: Mode,
     out: &mut [u8],
     diagnostics: &mut [u8],
     s: State,
 ) -> Typed
-    requires { ⌜ Ready levels (now tree) at (s .counter) (mode .scope) ⌝ }
+    requires { ⌜ Ready levels (now tree) at (s .counter) (now index) ⌝ }
     ensures { λ r. ⌜
         MakesMaybe (now (out .entry)) (now (out .exit)) (now (diagnostics .entry)) (now (diagnostics .exit)) s r
         (restType (now (tree .entry)) mode levels at (s .counter))
         ⌝ }
 {
     match records::mark_at(tree, at) {
-        ID => answer_of(s, array_ident(tree, at, levels, mode.scope, out, s.written)),
+        ID => answer_of(s, array_ident(tree, at, levels, index, out, s.written)),
         AR => {
             let mut inner = mode;
             inner.as_readonly = false;
             inner.frozen = false;
-            expr_to_ts_type(tree, at, levels, inner, out, diagnostics, s)
+            expr_to_ts_type(tree, at, levels, index, inner, out, diagnostics, s)
         }
         _ => Typed::None(s),
     }
@@ -451,12 +487,13 @@ fn object_type(
     tree: &[u8],
     at: usize,
     levels: usize,
+    index: &[u32],
     mode: Mode,
     out: &mut [u8],
     diagnostics: &mut [u8],
     s: State,
 ) -> Typed
-    requires { ⌜ Ready levels (now tree) at (s .counter) (mode .scope) × (markAt (now tree) at ≡ mark "Ob") ⌝ }
+    requires { ⌜ Ready levels (now tree) at (s .counter) (now index) × (markAt (now tree) at ≡ mark "Ob") ⌝ }
     ensures { λ r. ⌜
         MakesMaybe (now (out .entry)) (now (out .exit)) (now (diagnostics .entry)) (now (diagnostics .exit)) s r
         (typeOf (now (tree .entry)) mode levels at (s .counter))
@@ -469,7 +506,7 @@ fn object_type(
     next.written = records::advance(s.written, HEAD_SIZE);
     let mut count = 0;
     while 0 < n {
-        let made = property_type(tree, child, levels - 1, mode, out, diagnostics, next);
+        let made = property_type(tree, child, levels - 1, index, mode, out, diagnostics, next);
         next = made.s;
         count += made.count;
         child = records::record_end(tree, child, levels - 1);
@@ -488,20 +525,21 @@ fn property_type(
     tree: &[u8],
     at: usize,
     levels: usize,
+    index: &[u32],
     mode: Mode,
     out: &mut [u8],
     diagnostics: &mut [u8],
     s: State,
 ) -> Counted
-    requires { ⌜ Ready levels (now tree) at (s .counter) (mode .scope) ⌝ }
+    requires { ⌜ Ready levels (now tree) at (s .counter) (now index) ⌝ }
     ensures { λ r. ⌜
         MakesCounted (now (out .entry)) (now (out .exit)) (now (diagnostics .entry)) (now (diagnostics .exit)) s r
         (memberType (now (tree .entry)) mode levels at (s .counter))
         ⌝ }
 {
     match records::mark_at(tree, at) {
-        KV => key_value(tree, at, levels, mode, out, diagnostics, s),
-        SH => shorthand(tree, at, levels, mode, out, diagnostics, s),
+        KV => key_value(tree, at, levels, index, mode, out, diagnostics, s),
+        SH => shorthand(tree, at, levels, index, mode, out, diagnostics, s),
         SP => skipped(tree, at, D4, diagnostics, s),
         OP => Counted { s, count: 0 },
         _ => skipped(tree, at, D3, diagnostics, s),
@@ -513,12 +551,13 @@ fn key_value(
     tree: &[u8],
     at: usize,
     levels: usize,
+    index: &[u32],
     mode: Mode,
     out: &mut [u8],
     diagnostics: &mut [u8],
     s: State,
 ) -> Counted
-    requires { ⌜ Ready levels (now tree) at (s .counter) (mode .scope) × (markAt (now tree) at ≡ mark "Kv") ⌝ }
+    requires { ⌜ Ready levels (now tree) at (s .counter) (now index) × (markAt (now tree) at ≡ mark "Kv") ⌝ }
     ensures { λ r. ⌜
         MakesCounted (now (out .entry)) (now (out .exit)) (now (diagnostics .entry)) (now (diagnostics .exit)) s r
         (memberType (now (tree .entry)) mode levels at (s .counter))
@@ -529,7 +568,16 @@ fn key_value(
     let mut inner = mode;
     inner.frozen = false;
     let next = put_keyed(tree, key, levels - 1, is_readonly(mode), out, s);
-    let t = expr_to_ts_type(tree, value, levels - 1, inner, out, diagnostics, next);
+    let t = expr_to_ts_type(
+        tree,
+        value,
+        levels - 1,
+        index,
+        inner,
+        out,
+        diagnostics,
+        next,
+    );
     let made = or_any(tree, value, D2, t, out, diagnostics);
     Counted { s: made, count: 1 }
 }
@@ -540,12 +588,13 @@ fn call_type(
     tree: &[u8],
     at: usize,
     levels: usize,
+    index: &[u32],
     mode: Mode,
     out: &mut [u8],
     diagnostics: &mut [u8],
     s: State,
 ) -> Typed
-    requires { ⌜ Ready levels (now tree) at (s .counter) (mode .scope) × (markAt (now tree) at ≡ mark "Ca") ⌝ }
+    requires { ⌜ Ready levels (now tree) at (s .counter) (now index) × (markAt (now tree) at ≡ mark "Ca") ⌝ }
     ensures { λ r. ⌜
         MakesMaybe (now (out .entry)) (now (out .exit)) (now (diagnostics .entry)) (now (diagnostics .exit)) s r
         (typeOf (now (tree .entry)) mode levels at (s .counter))
@@ -557,7 +606,7 @@ fn call_type(
     };
     let mut frozen = mode;
     frozen.frozen = true;
-    let inner_type = expr_to_ts_type(tree, arg, levels - 1, frozen, out, diagnostics, s);
+    let inner_type = expr_to_ts_type(tree, arg, levels - 1, index, frozen, out, diagnostics, s);
     let Typed::Some(next) = inner_type else {
         return inner_type;
     };
@@ -572,13 +621,14 @@ fn function_type(
     tree: &[u8],
     at: usize,
     levels: usize,
+    index: &[u32],
     scope: Scope,
     function: bool,
     out: &mut [u8],
     diagnostics: &mut [u8],
     s: State,
 ) -> Typed
-    requires { ⌜ Ready levels (now tree) at (s .counter) scope × (markAt (now tree) at ≡ functionMark function) ⌝ }
+    requires { ⌜ Ready levels (now tree) at (s .counter) (now index) × (markAt (now tree) at ≡ functionMark function) ⌝ }
     ensures { λ r. ⌜
         MakesMaybe (now (out .entry)) (now (out .exit)) (now (diagnostics .entry)) (now (diagnostics .exit)) s r
         (functionOf (now (tree .entry)) (scope .unresolved) function levels at (s .counter))
@@ -597,6 +647,7 @@ fn function_type(
             tree,
             child,
             levels - 1,
+            index,
             scope,
             function,
             out,
@@ -621,26 +672,27 @@ fn param_type(
     tree: &[u8],
     at: usize,
     levels: usize,
+    index: &[u32],
     scope: Scope,
     function: bool,
     out: &mut [u8],
     diagnostics: &mut [u8],
     s: State,
 ) -> Counted
-    requires { ⌜ Ready levels (now tree) at (s .counter) scope ⌝ }
+    requires { ⌜ Ready levels (now tree) at (s .counter) (now index) ⌝ }
     ensures { λ r. ⌜
         MakesCounted (now (out .entry)) (now (out .exit)) (now (diagnostics .entry)) (now (diagnostics .exit)) s r
         (paramType (now (tree .entry)) (scope .unresolved) function levels at (s .counter))
         ⌝ }
 {
     if !function {
-        return one_or_none(pat_to_ts_fn_param(tree, at, levels, scope, out, diagnostics, s));
+        return one_or_none(pat_to_ts_fn_param(tree, at, levels, index, scope, out, diagnostics, s));
     }
     if records::mark_at(tree, at) != PA {
         return Counted { s, count: 0 };
     }
     let pattern = records::body_at(tree, at);
-    one_or_none(pat_to_ts_fn_param(tree, pattern, levels - 1, scope, out, diagnostics, s))
+    one_or_none(pat_to_ts_fn_param(tree, pattern, levels - 1, index, scope, out, diagnostics, s))
 }
 
 // `pat_to_ts_fn_param`.
@@ -648,12 +700,13 @@ pub fn pat_to_ts_fn_param(
     tree: &[u8],
     at: usize,
     levels: usize,
+    index: &[u32],
     scope: Scope,
     out: &mut [u8],
     diagnostics: &mut [u8],
     s: State,
 ) -> Typed
-    requires { ⌜ Ready levels (now tree) at (s .counter) scope ⌝ }
+    requires { ⌜ Ready levels (now tree) at (s .counter) (now index) ⌝ }
     ensures { λ r. ⌜
         MakesAtMostOne (now (out .entry)) (now (out .exit)) (now (diagnostics .entry)) (now (diagnostics .exit)) s r
         (patType (now (tree .entry)) (scope .unresolved) levels at (s .counter))
@@ -668,9 +721,9 @@ pub fn pat_to_ts_fn_param(
         AG => {
             let pattern = records::body_at(tree, at);
             if records::mark_at(tree, pattern) == BD {
-                return named_param(tree, at, levels, scope, out, diagnostics, s);
+                return named_param(tree, at, levels, index, scope, out, diagnostics, s);
             }
-            unnamed_param(tree, at, levels, scope, out, diagnostics, s)
+            unnamed_param(tree, at, levels, index, scope, out, diagnostics, s)
         }
         PE => {
             let expr = records::body_at(tree, at);
@@ -685,12 +738,13 @@ fn named_param(
     tree: &[u8],
     at: usize,
     levels: usize,
+    index: &[u32],
     scope: Scope,
     out: &mut [u8],
     diagnostics: &mut [u8],
     s: State,
 ) -> Typed
-    requires { ⌜ Ready levels (now tree) at (s .counter) scope × (markAt (now tree) at ≡ mark "Ag") ⌝ }
+    requires { ⌜ Ready levels (now tree) at (s .counter) (now index) × (markAt (now tree) at ≡ mark "Ag") ⌝ }
     requires { ⌜ markAt (now tree) (bodyAt (now tree) at) ≡ mark "Bd" ⌝ }
     ensures { λ r. ⌜
         MakesAtMostOne (now (out .entry)) (now (out .exit)) (now (diagnostics .entry)) (now (diagnostics .exit)) s r
@@ -704,6 +758,7 @@ fn named_param(
         tree,
         right,
         levels - 1,
+        index,
         mutable(scope),
         out,
         diagnostics,
@@ -719,12 +774,13 @@ fn unnamed_param(
     tree: &[u8],
     at: usize,
     levels: usize,
+    index: &[u32],
     scope: Scope,
     out: &mut [u8],
     diagnostics: &mut [u8],
     s: State,
 ) -> Typed
-    requires { ⌜ Ready levels (now tree) at (s .counter) scope × (markAt (now tree) at ≡ mark "Ag") ⌝ }
+    requires { ⌜ Ready levels (now tree) at (s .counter) (now index) × (markAt (now tree) at ≡ mark "Ag") ⌝ }
     requires { ⌜ (markAt (now tree) (bodyAt (now tree) at) ≡ mark "Bd" → ⊥) ⌝ }
     ensures { λ r. ⌜
         MakesAtMostOne (now (out .entry)) (now (out .exit)) (now (diagnostics .entry)) (now (diagnostics .exit)) s r
@@ -738,6 +794,7 @@ fn unnamed_param(
         tree,
         right,
         levels - 1,
+        index,
         mutable(scope),
         out,
         diagnostics,

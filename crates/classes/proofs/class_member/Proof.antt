@@ -18,22 +18,22 @@ use Rattle.parts.proofs.keep.Reads as keep-reads
 use Rattle.records.proofs.mark_at.Reads as mark-at-reads
 
 mark-at-requires : tie.Need-mark-at-requires
-mark-at-requires c κs = room (c .before .before .before .before .pre .accepted)
+mark-at-requires c κs = room (c .before .before .before .before .before .pre .accepted)
 
 is-impl-with-overloads-requires : tie.Need-is-impl-with-overloads-requires
-is-impl-with-overloads-requires c κs = room (c .before .before .before .before .before .before .pre .accepted)
+is-impl-with-overloads-requires c κs = room (c .before .before .before .before .before .before .before .pre .accepted)
 
 returns : tie.Need-returns
-returns c = gives-none _ _ (c .before .before .before .before .before .before .before .before .args .s) (omega (arith, c .before .before .before .before .before .before .before .before .good)) (omega (arith, c .before .before .before .before .before .before .before .before .good)) (constructor-listed _ _ _ _ _ _ _ (c .before .before .before .mark-at .ensures .0) (c .before .is-impl-with-overloads .ensures) (c .before .before .match .keys1) (c .if1 .taken))
+returns c = gives-none _ _ (c .before .before .before .before .before .before .before .before .before .args .s) (omega (arith, c .before .before .before .before .before .before .before .before .before .good)) (omega (arith, c .before .before .before .before .before .before .before .before .before .good)) (constructor-listed _ _ _ _ _ _ _ (c .before .before .before .mark-at .ensures .0) (c .before .is-impl-with-overloads .ensures) (c .before .before .match .keys1) (c .if1 .taken))
 
 constructor-requires : tie.Need-constructor-requires
 constructor-requires c κs = search needs
 
 is-impl-with-overloads-requires-2 : tie.Need-is-impl-with-overloads-requires-2
-is-impl-with-overloads-requires-2 c κs = room (c .before .before .before .before .before .before .pre .accepted)
+is-impl-with-overloads-requires-2 c κs = room (c .before .before .before .before .before .before .before .pre .accepted)
 
 returns-2 : tie.Need-returns-2
-returns-2 c = gives-none _ _ (c .before .before .before .before .before .before .before .before .args .s) (omega (arith, c .before .before .before .before .before .before .before .before .good)) (omega (arith, c .before .before .before .before .before .before .before .before .good)) (method-listed _ _ _ _ _ _ _ (c .before .before .before .mark-at .ensures .0) (c .before .is-impl-with-overloads2 .ensures) (c .before .before .match .keys2) (c .if2 .taken))
+returns-2 c = gives-none _ _ (c .before .before .before .before .before .before .before .before .before .args .s) (omega (arith, c .before .before .before .before .before .before .before .before .before .good)) (omega (arith, c .before .before .before .before .before .before .before .before .before .good)) (method-listed _ _ _ _ _ _ _ (c .before .before .before .mark-at .ensures .0) (c .before .is-impl-with-overloads2 .ensures) (c .before .before .match .keys2) (c .if2 .taken))
 
 method-requires : tie.Need-method-requires
 method-requires c κs = search needs
@@ -72,13 +72,13 @@ returns-5 : tie.Need-returns-5
 returns-5 c = gives-as (c .before .before .before .before .class-prop .ensures) (prop-stands _ _ _ _ _ _ _ (c .before .before .before .before .before .before .before .before .mark-at .ensures .0) (c .before .before .before .before .before .before .before .match .keys3))
 
 returns-6 : tie.Need-returns-6
-returns-6 c = gives-none _ _ (c .before .before .before .before .before .before .args .s) (omega (arith, c .before .before .before .before .before .before .good)) (omega (arith, c .before .before .before .before .before .before .good)) (dropped-goes _ _ _ _ _ _ _ (c .before .mark-at .ensures .0) (c .match .keys4))
+returns-6 c = gives-none _ _ (c .before .before .before .before .before .before .before .args .s) (omega (arith, c .before .before .before .before .before .before .before .good)) (omega (arith, c .before .before .before .before .before .before .before .good)) (dropped-goes _ _ _ _ _ _ _ (c .before .mark-at .ensures .0) (c .match .keys4))
 
 same-length-7 : tie.Need-same-length-7
 same-length-7 c = search needs
 
 returns-7 : tie.Need-returns-7
-returns-7 c = gives-as (gives-one (makes-keeps _ (c .before .before .keep .ensures) (omega (arith, c .before .before .before .before .before .before .before .before .before .before .good)))) (other-stands _ _ _ _ _ _ _ (c .before .before .before .before .before .mark-at .ensures .0) (c .before .before .before .before .match .rest .0 .0 .0 .1) (c .before .before .before .before .match .rest .0 .0 .1) (c .before .before .before .before .match .rest .0 .1) (c .before .before .before .before .match .rest .1))
+returns-7 c = gives-as (gives-one (makes-keeps _ (c .before .before .keep .ensures) (omega (arith, c .before .before .before .before .before .before .before .before .before .before .before .good)))) (other-stands _ _ _ _ _ _ _ (c .before .before .before .before .before .mark-at .ensures .0) (c .before .before .before .before .match .rest .0 .0 .0 .1) (c .before .before .before .before .match .rest .0 .0 .1) (c .before .before .before .before .match .rest .0 .1) (c .before .before .before .before .match .rest .1))
 
 pub class-member-spec : {M : Type 1} → statement M
 class-member-spec =

@@ -23,34 +23,34 @@ use Rattle.records.proofs.read_head.Reads as read-head-reads
 use Rattle.records.proofs.record_end.Reads as record-end-reads
 
 read-head-requires : tie.Need-read-head-requires
-read-head-requires c κs = room (c .before .before .before .pre .0 .accepted)
+read-head-requires c κs = room (c .before .before .before .before .pre .0 .accepted)
 
 body-at-requires : tie.Need-body-at-requires
-body-at-requires c κs = room (c .before .before .before .before .pre .0 .accepted)
+body-at-requires c κs = room (c .before .before .before .before .before .pre .0 .accepted)
 
 sub-record-end : tie.Need-sub-record-end
-sub-record-end c = omega (arith, level (c .before .before .before .before .before .pre .0 .accepted))
+sub-record-end c = omega (arith, level (c .before .before .before .before .before .before .pre .0 .accepted))
 
 record-end-requires : tie.Need-record-end-requires
-record-end-requires c κs = lies (kids-one _ _ _ (c .before .before .before .before .before .pre .0 .accepted) (has (mark "Co") _ _ _ (c .before .before .before .before .before .pre .0 .accepted) (c .before .before .before .before .before .pre .1)) (c .body-at .ensures) refl .first)
+record-end-requires c κs = lies (kids-one _ _ _ (c .before .before .before .before .before .before .pre .0 .accepted) (has (mark "Co") _ _ _ (c .before .before .before .before .before .before .pre .0 .accepted) (c .before .before .before .before .before .before .pre .1)) (c .body-at .ensures) refl .first)
 
 put-front-requires : tie.Need-put-front-requires
 put-front-requires c κs = search needs
 
 sub-put-gone : tie.Need-sub-put-gone
-sub-put-gone c = omega (arith, level (c .before .before .before .before .before .before .before .before .before .before .pre .0 .accepted))
+sub-put-gone c = omega (arith, level (c .before .before .before .before .before .before .before .before .before .before .before .pre .0 .accepted))
 
 put-gone-requires : tie.Need-put-gone-requires
-put-gone-requires c κs = kids-one _ _ _ (c .before .before .before .before .before .before .before .before .before .before .before .pre .0 .accepted) (has (mark "Co") _ _ _ (c .before .before .before .before .before .before .before .before .before .before .before .pre .0 .accepted) (c .before .before .before .before .before .before .before .before .before .before .before .pre .1)) (c .before .before .before .before .before .before .body-at .ensures) refl .first
+put-gone-requires c κs = kids-one _ _ _ (c .before .before .before .before .before .before .before .before .before .before .before .before .pre .0 .accepted) (has (mark "Co") _ _ _ (c .before .before .before .before .before .before .before .before .before .before .before .before .pre .0 .accepted) (c .before .before .before .before .before .before .before .before .before .before .before .before .pre .1)) (c .before .before .before .before .before .before .body-at .ensures) refl .first
 
 sub-handle-ts-param-props : tie.Need-sub-handle-ts-param-props
-sub-handle-ts-param-props c = omega (arith, has (mark "Co") _ _ _ (c .before .before .before .before .before .before .before .before .before .before .before .before .before .before .before .pre .0 .accepted) (c .before .before .before .before .before .before .before .before .before .before .before .before .before .before .before .pre .1), count-as (c .before .before .before .before .before .before .before .before .before .before .before .before .before .before .before .args .tree .now) (c .before .before .before .before .before .before .before .before .before .before .before .before .before .before .before .args .at) (c .before .before .before .before .before .before .before .before .before .before .before .read-head .ensures))
+sub-handle-ts-param-props c = omega (arith, has (mark "Co") _ _ _ (c .before .before .before .before .before .before .before .before .before .before .before .before .before .before .before .before .pre .0 .accepted) (c .before .before .before .before .before .before .before .before .before .before .before .before .before .before .before .before .pre .1), count-as (c .before .before .before .before .before .before .before .before .before .before .before .before .before .before .before .before .args .tree .now) (c .before .before .before .before .before .before .before .before .before .before .before .before .before .before .before .before .args .at) (c .before .before .before .before .before .before .before .before .before .before .before .read-head .ensures))
 
 sub-handle-ts-param-props-2 : tie.Need-sub-handle-ts-param-props-2
-sub-handle-ts-param-props-2 c = omega (arith, level (c .before .before .before .before .before .before .before .before .before .before .before .before .before .before .before .pre .0 .accepted))
+sub-handle-ts-param-props-2 c = omega (arith, level (c .before .before .before .before .before .before .before .before .before .before .before .before .before .before .before .before .pre .0 .accepted))
 
 handle-ts-param-props-requires : tie.Need-handle-ts-param-props-requires
-handle-ts-param-props-requires c κs = let k = kids-one _ _ _ (c .before .before .before .before .before .before .before .before .before .before .before .before .before .before .before .before .before .pre .0 .accepted) (has (mark "Co") _ _ _ (c .before .before .before .before .before .before .before .before .before .before .before .before .before .before .before .before .before .pre .0 .accepted) (c .before .before .before .before .before .before .before .before .before .before .before .before .before .before .before .before .before .pre .1)) (c .before .before .before .before .before .before .before .before .before .before .before .before .body-at .ensures) (c .before .before .before .before .before .before .before .before .before .before .before .record-end .ensures) in ready-all (c .before .before .before .before .before .before .before .before .before .before .before .before .before .before .before .before .before .pre .0) (others-as _ _ (c .before .before .before .before .before .before .before .before .before .before .before .before .before .read-head .ensures) 1 (k .others)) (k .low1) (puts-counter (c .before .before .before .before .before .put-gone .ensures) ∙ puts-counter (c .before .before .before .before .before .before .before .before .before .put-front .ensures))
+handle-ts-param-props-requires c κs = let k = kids-one _ _ _ (c .before .before .before .before .before .before .before .before .before .before .before .before .before .before .before .before .before .before .pre .0 .accepted) (has (mark "Co") _ _ _ (c .before .before .before .before .before .before .before .before .before .before .before .before .before .before .before .before .before .before .pre .0 .accepted) (c .before .before .before .before .before .before .before .before .before .before .before .before .before .before .before .before .before .before .pre .1)) (c .before .before .before .before .before .before .before .before .before .before .before .before .body-at .ensures) (c .before .before .before .before .before .before .before .before .before .before .before .record-end .ensures) in ready-all (c .before .before .before .before .before .before .before .before .before .before .before .before .before .before .before .before .before .before .pre .0) (others-as _ _ (c .before .before .before .before .before .before .before .before .before .before .before .before .before .read-head .ensures) 1 (k .others)) (k .low1) (puts-counter (c .before .before .before .before .before .put-gone .ensures) ∙ puts-counter (c .before .before .before .before .before .before .before .before .before .put-front .ensures))
 
 same-length : tie.Need-same-length
 same-length c = search needs
@@ -59,7 +59,7 @@ same-length-2 : tie.Need-same-length-2
 same-length-2 c = search needs
 
 returns : tie.Need-returns
-returns c = constructor-made (typingOf (c .before .before .before .before .before .before .before .before .before .before .before .before .before .before .before .before .before .before .before .before .before .before .args .tree .now) (c .before .before .before .before .before .before .before .before .before .before .before .before .before .before .before .before .before .before .before .before .before .before .args .scope)) (kids-one _ _ _ (c .before .before .before .before .before .before .before .before .before .before .before .before .before .before .before .before .before .before .before .before .before .before .pre .0 .accepted) (has (mark "Co") _ _ _ (c .before .before .before .before .before .before .before .before .before .before .before .before .before .before .before .before .before .before .before .before .before .before .pre .0 .accepted) (c .before .before .before .before .before .before .before .before .before .before .before .before .before .before .before .before .before .before .before .before .before .before .pre .1)) (c .before .before .before .before .before .before .before .before .before .before .before .before .before .before .before .before .before .body-at .ensures) (c .before .before .before .before .before .before .before .before .before .before .before .before .before .before .before .before .record-end .ensures)) (c .before .before .before .before .before .before .before .before .before .before .before .before .before .before .before .before .before .before .before .before .before .before .pre .0 .accepted) (c .before .before .before .before .before .before .before .before .before .before .before .before .before .before .before .before .before .before .before .before .before .shared-slice-known .given) (c .before .before .before .before .before .before .before .before .before .before .before .before .before .before .before .before .before .before .read-head .ensures) (omega (arith, c .before .before .before .before .before .before .before .before .before .before .before .before .before .before .before .before .before .before .before .before .before .before .good)) (c .before .before .before .before .before .before .before .before .before .before .before .before .before .before .put-front .ensures) (c .before .before .before .before .before .before .before .before .before .before .put-gone .ensures) (c .before .before .before .before .handle-ts-param-props .ensures)
+returns c = constructor-made (typingOf (c .before .before .before .before .before .before .before .before .before .before .before .before .before .before .before .before .before .before .before .before .before .before .before .args .tree .now) (c .before .before .before .before .before .before .before .before .before .before .before .before .before .before .before .before .before .before .before .before .before .before .before .args .scope)) (kids-one _ _ _ (c .before .before .before .before .before .before .before .before .before .before .before .before .before .before .before .before .before .before .before .before .before .before .before .pre .0 .accepted) (has (mark "Co") _ _ _ (c .before .before .before .before .before .before .before .before .before .before .before .before .before .before .before .before .before .before .before .before .before .before .before .pre .0 .accepted) (c .before .before .before .before .before .before .before .before .before .before .before .before .before .before .before .before .before .before .before .before .before .before .before .pre .1)) (c .before .before .before .before .before .before .before .before .before .before .before .before .before .before .before .before .before .body-at .ensures) (c .before .before .before .before .before .before .before .before .before .before .before .before .before .before .before .before .record-end .ensures)) (c .before .before .before .before .before .before .before .before .before .before .before .before .before .before .before .before .before .before .before .before .before .before .before .pre .0 .accepted) (c .before .before .before .before .before .before .before .before .before .before .before .before .before .before .before .before .before .before .before .before .before .before .shared-slice-known .given) (c .before .before .before .before .before .before .before .before .before .before .before .before .before .before .before .before .before .before .read-head .ensures) (omega (arith, c .before .before .before .before .before .before .before .before .before .before .before .before .before .before .before .before .before .before .before .before .before .before .before .good)) (c .before .before .before .before .before .before .before .before .before .before .before .before .before .before .put-front .ensures) (c .before .before .before .before .before .before .before .before .before .before .put-gone .ensures) (c .before .before .before .before .handle-ts-param-props .ensures)
 
 pub constructor-spec : {M : Type 1} → statement M
 constructor-spec =

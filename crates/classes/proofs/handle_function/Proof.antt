@@ -25,64 +25,64 @@ use Rattle.records.proofs.read_head.Reads as read-head-reads
 use Rattle.records.proofs.record_end.Reads as record-end-reads
 
 read-head-requires : tie.Need-read-head-requires
-read-head-requires c κs = room (c .before .before .before .pre .0 .accepted)
+read-head-requires c κs = room (c .before .before .before .before .pre .0 .accepted)
 
 body-at-requires : tie.Need-body-at-requires
-body-at-requires c κs = room (c .before .before .before .before .pre .0 .accepted)
+body-at-requires c κs = room (c .before .before .before .before .before .pre .0 .accepted)
 
 sub-record-end : tie.Need-sub-record-end
-sub-record-end c = omega (arith, level (c .before .before .before .before .before .pre .0 .accepted))
+sub-record-end c = omega (arith, level (c .before .before .before .before .before .before .pre .0 .accepted))
 
 record-end-requires : tie.Need-record-end-requires
-record-end-requires c κs = lies (kids-three _ _ _ (c .before .before .before .before .before .pre .0 .accepted) (has (mark "Fu") _ _ _ (c .before .before .before .before .before .pre .0 .accepted) (c .before .before .before .before .before .pre .1)) (c .body-at .ensures) refl refl refl .first)
+record-end-requires c κs = lies (kids-three _ _ _ (c .before .before .before .before .before .before .pre .0 .accepted) (has (mark "Fu") _ _ _ (c .before .before .before .before .before .before .pre .0 .accepted) (c .before .before .before .before .before .before .pre .1)) (c .body-at .ensures) refl refl refl .first)
 
 sub-record-end-2 : tie.Need-sub-record-end-2
-sub-record-end-2 c = omega (arith, level (c .before .before .before .before .before .before .pre .0 .accepted))
+sub-record-end-2 c = omega (arith, level (c .before .before .before .before .before .before .before .pre .0 .accepted))
 
 record-end-requires-2 : tie.Need-record-end-requires-2
-record-end-requires-2 c κs = lies (kids-three _ _ _ (c .before .before .before .before .before .before .pre .0 .accepted) (has (mark "Fu") _ _ _ (c .before .before .before .before .before .before .pre .0 .accepted) (c .before .before .before .before .before .before .pre .1)) (c .before .body-at .ensures) (c .record-end .ensures) refl refl .second)
+record-end-requires-2 c κs = lies (kids-three _ _ _ (c .before .before .before .before .before .before .before .pre .0 .accepted) (has (mark "Fu") _ _ _ (c .before .before .before .before .before .before .before .pre .0 .accepted) (c .before .before .before .before .before .before .before .pre .1)) (c .before .body-at .ensures) (c .record-end .ensures) refl refl .second)
 
 sub-record-end-3 : tie.Need-sub-record-end-3
-sub-record-end-3 c = omega (arith, level (c .before .before .before .before .before .before .before .pre .0 .accepted))
+sub-record-end-3 c = omega (arith, level (c .before .before .before .before .before .before .before .before .pre .0 .accepted))
 
 record-end-requires-3 : tie.Need-record-end-requires-3
-record-end-requires-3 c κs = lies (kids-three _ _ _ (c .before .before .before .before .before .before .before .pre .0 .accepted) (has (mark "Fu") _ _ _ (c .before .before .before .before .before .before .before .pre .0 .accepted) (c .before .before .before .before .before .before .before .pre .1)) (c .before .before .body-at .ensures) (c .before .record-end .ensures) (c .record-end2 .ensures) refl .third)
+record-end-requires-3 c κs = lies (kids-three _ _ _ (c .before .before .before .before .before .before .before .before .pre .0 .accepted) (has (mark "Fu") _ _ _ (c .before .before .before .before .before .before .before .before .pre .0 .accepted) (c .before .before .before .before .before .before .before .before .pre .1)) (c .before .before .body-at .ensures) (c .before .record-end .ensures) (c .record-end2 .ensures) refl .third)
 
 put-front-requires : tie.Need-put-front-requires
 put-front-requires c κs = search needs
 
 sub-keep : tie.Need-sub-keep
-sub-keep c = omega (arith, level (c .before .before .before .before .before .before .before .before .before .before .before .before .pre .0 .accepted))
+sub-keep c = omega (arith, level (c .before .before .before .before .before .before .before .before .before .before .before .before .before .pre .0 .accepted))
 
 keep-requires : tie.Need-keep-requires
-keep-requires c κs = kids-three _ _ _ (c .before .before .before .before .before .before .before .before .before .before .before .before .before .pre .0 .accepted) (has (mark "Fu") _ _ _ (c .before .before .before .before .before .before .before .before .before .before .before .before .before .pre .0 .accepted) (c .before .before .before .before .before .before .before .before .before .before .before .before .before .pre .1)) (c .before .before .before .before .before .before .before .before .body-at .ensures) refl refl refl .first
+keep-requires c κs = kids-three _ _ _ (c .before .before .before .before .before .before .before .before .before .before .before .before .before .before .pre .0 .accepted) (has (mark "Fu") _ _ _ (c .before .before .before .before .before .before .before .before .before .before .before .before .before .before .pre .0 .accepted) (c .before .before .before .before .before .before .before .before .before .before .before .before .before .before .pre .1)) (c .before .before .before .before .before .before .before .before .body-at .ensures) refl refl refl .first
 
 sub-keep-return-type : tie.Need-sub-keep-return-type
-sub-keep-return-type c = omega (arith, level (c .before .before .before .before .before .before .before .before .before .before .before .before .before .before .before .before .pre .0 .accepted))
+sub-keep-return-type c = omega (arith, level (c .before .before .before .before .before .before .before .before .before .before .before .before .before .before .before .before .before .pre .0 .accepted))
 
 keep-return-type-requires : tie.Need-keep-return-type-requires
-keep-return-type-requires c κs = kids-three _ _ _ (c .before .before .before .before .before .before .before .before .before .before .before .before .before .before .before .before .before .pre .0 .accepted) (has (mark "Fu") _ _ _ (c .before .before .before .before .before .before .before .before .before .before .before .before .before .before .before .before .before .pre .0 .accepted) (c .before .before .before .before .before .before .before .before .before .before .before .before .before .before .before .before .before .pre .1)) (c .before .before .before .before .before .before .before .before .before .before .before .before .body-at .ensures) (c .before .before .before .before .before .before .before .before .before .before .before .record-end .ensures) refl refl .second
+keep-return-type-requires c κs = kids-three _ _ _ (c .before .before .before .before .before .before .before .before .before .before .before .before .before .before .before .before .before .before .pre .0 .accepted) (has (mark "Fu") _ _ _ (c .before .before .before .before .before .before .before .before .before .before .before .before .before .before .before .before .before .before .pre .0 .accepted) (c .before .before .before .before .before .before .before .before .before .before .before .before .before .before .before .before .before .before .pre .1)) (c .before .before .before .before .before .before .before .before .before .before .before .before .body-at .ensures) (c .before .before .before .before .before .before .before .before .before .before .before .record-end .ensures) refl refl .second
 
 sub-put-gone : tie.Need-sub-put-gone
-sub-put-gone c = omega (arith, level (c .before .before .before .before .before .before .before .before .before .before .before .before .before .before .before .before .before .before .before .before .pre .0 .accepted))
+sub-put-gone c = omega (arith, level (c .before .before .before .before .before .before .before .before .before .before .before .before .before .before .before .before .before .before .before .before .before .pre .0 .accepted))
 
 put-gone-requires : tie.Need-put-gone-requires
-put-gone-requires c κs = kids-three _ _ _ (c .before .before .before .before .before .before .before .before .before .before .before .before .before .before .before .before .before .before .before .before .before .pre .0 .accepted) (has (mark "Fu") _ _ _ (c .before .before .before .before .before .before .before .before .before .before .before .before .before .before .before .before .before .before .before .before .before .pre .0 .accepted) (c .before .before .before .before .before .before .before .before .before .before .before .before .before .before .before .before .before .before .before .before .before .pre .1)) (c .before .before .before .before .before .before .before .before .before .before .before .before .before .before .before .before .body-at .ensures) (c .before .before .before .before .before .before .before .before .before .before .before .before .before .before .before .record-end .ensures) (c .before .before .before .before .before .before .before .before .before .before .before .before .before .before .record-end2 .ensures) refl .third
+put-gone-requires c κs = kids-three _ _ _ (c .before .before .before .before .before .before .before .before .before .before .before .before .before .before .before .before .before .before .before .before .before .before .pre .0 .accepted) (has (mark "Fu") _ _ _ (c .before .before .before .before .before .before .before .before .before .before .before .before .before .before .before .before .before .before .before .before .before .before .pre .0 .accepted) (c .before .before .before .before .before .before .before .before .before .before .before .before .before .before .before .before .before .before .before .before .before .before .pre .1)) (c .before .before .before .before .before .before .before .before .before .before .before .before .before .before .before .before .body-at .ensures) (c .before .before .before .before .before .before .before .before .before .before .before .before .before .before .before .record-end .ensures) (c .before .before .before .before .before .before .before .before .before .before .before .before .before .before .record-end2 .ensures) refl .third
 
 sub-handle-func-params : tie.Need-sub-handle-func-params
-sub-handle-func-params c = omega (arith, has (mark "Fu") _ _ _ (c .before .before .before .before .before .before .before .before .before .before .before .before .before .before .before .before .before .before .before .before .before .before .before .before .before .pre .0 .accepted) (c .before .before .before .before .before .before .before .before .before .before .before .before .before .before .before .before .before .before .before .before .before .before .before .before .before .pre .1), count-as (c .before .before .before .before .before .before .before .before .before .before .before .before .before .before .before .before .before .before .before .before .before .before .before .before .before .args .tree .now) (c .before .before .before .before .before .before .before .before .before .before .before .before .before .before .before .before .before .before .before .before .before .before .before .before .before .args .at) (c .before .before .before .before .before .before .before .before .before .before .before .before .before .before .before .before .before .before .before .before .before .read-head .ensures))
+sub-handle-func-params c = omega (arith, has (mark "Fu") _ _ _ (c .before .before .before .before .before .before .before .before .before .before .before .before .before .before .before .before .before .before .before .before .before .before .before .before .before .before .pre .0 .accepted) (c .before .before .before .before .before .before .before .before .before .before .before .before .before .before .before .before .before .before .before .before .before .before .before .before .before .before .pre .1), count-as (c .before .before .before .before .before .before .before .before .before .before .before .before .before .before .before .before .before .before .before .before .before .before .before .before .before .before .args .tree .now) (c .before .before .before .before .before .before .before .before .before .before .before .before .before .before .before .before .before .before .before .before .before .before .before .before .before .before .args .at) (c .before .before .before .before .before .before .before .before .before .before .before .before .before .before .before .before .before .before .before .before .before .read-head .ensures))
 
 sub-handle-func-params-2 : tie.Need-sub-handle-func-params-2
-sub-handle-func-params-2 c = omega (arith, level (c .before .before .before .before .before .before .before .before .before .before .before .before .before .before .before .before .before .before .before .before .before .before .before .before .before .pre .0 .accepted))
+sub-handle-func-params-2 c = omega (arith, level (c .before .before .before .before .before .before .before .before .before .before .before .before .before .before .before .before .before .before .before .before .before .before .before .before .before .before .pre .0 .accepted))
 
 handle-func-params-requires : tie.Need-handle-func-params-requires
-handle-func-params-requires c κs = let k = kids-three _ _ _ (c .before .before .before .before .before .before .before .before .before .before .before .before .before .before .before .before .before .before .before .before .before .before .before .before .before .before .before .pre .0 .accepted) (has (mark "Fu") _ _ _ (c .before .before .before .before .before .before .before .before .before .before .before .before .before .before .before .before .before .before .before .before .before .before .before .before .before .before .before .pre .0 .accepted) (c .before .before .before .before .before .before .before .before .before .before .before .before .before .before .before .before .before .before .before .before .before .before .before .before .before .before .before .pre .1)) (c .before .before .before .before .before .before .before .before .before .before .before .before .before .before .before .before .before .before .before .before .before .before .body-at .ensures) (c .before .before .before .before .before .before .before .before .before .before .before .before .before .before .before .before .before .before .before .before .before .record-end .ensures) (c .before .before .before .before .before .before .before .before .before .before .before .before .before .before .before .before .before .before .before .before .record-end2 .ensures) (c .before .before .before .before .before .before .before .before .before .before .before .before .before .before .before .before .before .before .before .record-end3 .ensures) in ready-all (c .before .before .before .before .before .before .before .before .before .before .before .before .before .before .before .before .before .before .before .before .before .before .before .before .before .before .before .pre .0) (others-as _ _ (c .before .before .before .before .before .before .before .before .before .before .before .before .before .before .before .before .before .before .before .before .before .before .before .read-head .ensures) 3 (k .others)) (k .low3) (puts-counter (c .before .before .before .before .before .put-gone .ensures) ∙ (puts-counter (c .before .before .before .before .before .before .before .before .before .keep-return-type .ensures) ∙ (puts-counter (c .before .before .before .before .before .before .before .before .before .before .before .before .before .keep .ensures) ∙ puts-counter (c .before .before .before .before .before .before .before .before .before .before .before .before .before .before .before .before .before .put-front .ensures))))
+handle-func-params-requires c κs = let k = kids-three _ _ _ (c .before .before .before .before .before .before .before .before .before .before .before .before .before .before .before .before .before .before .before .before .before .before .before .before .before .before .before .before .pre .0 .accepted) (has (mark "Fu") _ _ _ (c .before .before .before .before .before .before .before .before .before .before .before .before .before .before .before .before .before .before .before .before .before .before .before .before .before .before .before .before .pre .0 .accepted) (c .before .before .before .before .before .before .before .before .before .before .before .before .before .before .before .before .before .before .before .before .before .before .before .before .before .before .before .before .pre .1)) (c .before .before .before .before .before .before .before .before .before .before .before .before .before .before .before .before .before .before .before .before .before .before .body-at .ensures) (c .before .before .before .before .before .before .before .before .before .before .before .before .before .before .before .before .before .before .before .before .before .record-end .ensures) (c .before .before .before .before .before .before .before .before .before .before .before .before .before .before .before .before .before .before .before .before .record-end2 .ensures) (c .before .before .before .before .before .before .before .before .before .before .before .before .before .before .before .before .before .before .before .record-end3 .ensures) in ready-all (c .before .before .before .before .before .before .before .before .before .before .before .before .before .before .before .before .before .before .before .before .before .before .before .before .before .before .before .before .pre .0) (others-as _ _ (c .before .before .before .before .before .before .before .before .before .before .before .before .before .before .before .before .before .before .before .before .before .before .before .read-head .ensures) 3 (k .others)) (k .low3) (puts-counter (c .before .before .before .before .before .put-gone .ensures) ∙ (puts-counter (c .before .before .before .before .before .before .before .before .before .keep-return-type .ensures) ∙ (puts-counter (c .before .before .before .before .before .before .before .before .before .before .before .before .before .keep .ensures) ∙ puts-counter (c .before .before .before .before .before .before .before .before .before .before .before .before .before .before .before .before .before .put-front .ensures))))
 
 same-length-2 : tie.Need-same-length-2
 same-length-2 c = search needs
 
 returns : tie.Need-returns
-returns c = function-made (typingOf (c .before .before .before .before .before .before .before .before .before .before .before .before .before .before .before .before .before .before .before .before .before .before .before .before .before .before .before .before .before .before .before .before .args .tree .now) (c .before .before .before .before .before .before .before .before .before .before .before .before .before .before .before .before .before .before .before .before .before .before .before .before .before .before .before .before .before .before .before .before .args .scope)) (c .before .before .before .before .before .before .before .before .before .before .before .before .before .before .before .before .before .before .before .before .before .before .before .before .before .before .before .before .before .before .before .before .args .setter) (kids-three _ _ _ (c .before .before .before .before .before .before .before .before .before .before .before .before .before .before .before .before .before .before .before .before .before .before .before .before .before .before .before .before .before .before .before .before .pre .0 .accepted) (has (mark "Fu") _ _ _ (c .before .before .before .before .before .before .before .before .before .before .before .before .before .before .before .before .before .before .before .before .before .before .before .before .before .before .before .before .before .before .before .before .pre .0 .accepted) (c .before .before .before .before .before .before .before .before .before .before .before .before .before .before .before .before .before .before .before .before .before .before .before .before .before .before .before .before .before .before .before .before .pre .1)) (c .before .before .before .before .before .before .before .before .before .before .before .before .before .before .before .before .before .before .before .before .before .before .before .before .before .before .before .body-at .ensures) (c .before .before .before .before .before .before .before .before .before .before .before .before .before .before .before .before .before .before .before .before .before .before .before .before .before .before .record-end .ensures) (c .before .before .before .before .before .before .before .before .before .before .before .before .before .before .before .before .before .before .before .before .before .before .before .before .before .record-end2 .ensures) (c .before .before .before .before .before .before .before .before .before .before .before .before .before .before .before .before .before .before .before .before .before .before .before .before .record-end3 .ensures)) (c .before .before .before .before .before .before .before .before .before .before .before .before .before .before .before .before .before .before .before .before .before .before .before .before .before .before .before .before .before .before .before .before .pre .0 .accepted) (c .before .before .before .before .before .before .before .before .before .before .before .before .before .before .before .before .before .before .before .before .before .before .before .before .before .before .before .before .before .before .before .shared-slice-known .given) (c .before .before .before .before .before .before .before .before .before .before .before .before .before .before .before .before .before .before .before .before .before .before .before .before .before .before .before .before .read-head .ensures) (omega (arith, c .before .before .before .before .before .before .before .before .before .before .before .before .before .before .before .before .before .before .before .before .before .before .before .before .before .before .before .before .before .before .before .before .good)) (c .before .before .before .before .before .before .before .before .before .before .before .before .before .before .before .before .before .before .before .before .before .before .put-front .ensures) (c .before .before .before .before .before .before .before .before .before .before .before .before .before .before .before .before .before .before .keep .ensures) (c .before .before .before .before .before .before .before .before .before .before .before .before .before .before .keep-return-type .ensures) (c .before .before .before .before .before .before .before .before .before .before .put-gone .ensures) (c .before .before .before .before .handle-func-params .ensures)
+returns c = function-made (typingOf (c .before .before .before .before .before .before .before .before .before .before .before .before .before .before .before .before .before .before .before .before .before .before .before .before .before .before .before .before .before .before .before .before .before .args .tree .now) (c .before .before .before .before .before .before .before .before .before .before .before .before .before .before .before .before .before .before .before .before .before .before .before .before .before .before .before .before .before .before .before .before .before .args .scope)) (c .before .before .before .before .before .before .before .before .before .before .before .before .before .before .before .before .before .before .before .before .before .before .before .before .before .before .before .before .before .before .before .before .before .args .setter) (kids-three _ _ _ (c .before .before .before .before .before .before .before .before .before .before .before .before .before .before .before .before .before .before .before .before .before .before .before .before .before .before .before .before .before .before .before .before .before .pre .0 .accepted) (has (mark "Fu") _ _ _ (c .before .before .before .before .before .before .before .before .before .before .before .before .before .before .before .before .before .before .before .before .before .before .before .before .before .before .before .before .before .before .before .before .before .pre .0 .accepted) (c .before .before .before .before .before .before .before .before .before .before .before .before .before .before .before .before .before .before .before .before .before .before .before .before .before .before .before .before .before .before .before .before .before .pre .1)) (c .before .before .before .before .before .before .before .before .before .before .before .before .before .before .before .before .before .before .before .before .before .before .before .before .before .before .before .body-at .ensures) (c .before .before .before .before .before .before .before .before .before .before .before .before .before .before .before .before .before .before .before .before .before .before .before .before .before .before .record-end .ensures) (c .before .before .before .before .before .before .before .before .before .before .before .before .before .before .before .before .before .before .before .before .before .before .before .before .before .record-end2 .ensures) (c .before .before .before .before .before .before .before .before .before .before .before .before .before .before .before .before .before .before .before .before .before .before .before .before .record-end3 .ensures)) (c .before .before .before .before .before .before .before .before .before .before .before .before .before .before .before .before .before .before .before .before .before .before .before .before .before .before .before .before .before .before .before .before .before .pre .0 .accepted) (c .before .before .before .before .before .before .before .before .before .before .before .before .before .before .before .before .before .before .before .before .before .before .before .before .before .before .before .before .before .before .before .before .shared-slice-known .given) (c .before .before .before .before .before .before .before .before .before .before .before .before .before .before .before .before .before .before .before .before .before .before .before .before .before .before .before .before .read-head .ensures) (omega (arith, c .before .before .before .before .before .before .before .before .before .before .before .before .before .before .before .before .before .before .before .before .before .before .before .before .before .before .before .before .before .before .before .before .before .good)) (c .before .before .before .before .before .before .before .before .before .before .before .before .before .before .before .before .before .before .before .before .before .before .put-front .ensures) (c .before .before .before .before .before .before .before .before .before .before .before .before .before .before .before .before .before .before .keep .ensures) (c .before .before .before .before .before .before .before .before .before .before .before .before .before .before .keep-return-type .ensures) (c .before .before .before .before .before .before .before .before .before .before .put-gone .ensures) (c .before .before .before .before .handle-func-params .ensures)
 
 same-length : tie.Need-same-length
 same-length c = returns c .step .ran .out .same

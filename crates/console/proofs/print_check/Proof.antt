@@ -1,8 +1,9 @@
--- `console::print_check` meets its contract: the root of a tree that was checked is accepted.
+-- `console::print_check` meets its contract: the root of a tree that was checked is accepted, and the tree is not too long.
 use mathlib.Core.Path.{_≡_, sym, ap, _∙_}
 use Prim.Native.Nat.{ℕ}
 use borrow.Author.Needs.{needs}
 use native.Mathlib.Omega.{arith}
+use Rattle.definition.proofs.Accepted.{accepted-tree}
 use Rattle.definition.proofs.Children.{root-accepted}
 use Rattle.grammar.specs.Answers.{checked}
 use Rattle.console.proofs.print_check.Statement.{statement}
@@ -30,7 +31,7 @@ print-refusal-requires : tie.Need-print-refusal-requires
 print-refusal-requires c κs = search needs
 
 returns : tie.Need-returns
-returns c taken = root-accepted _ _ _ (sym (c .before .before .before .before .before .check-tree .ensures) ∙ ap checked (c .before .before .before .end .given .1))
+returns c taken = let fine = sym (c .before .before .before .before .before .check-tree .ensures) ∙ ap checked (c .before .before .before .end .given .1) in (root-accepted _ _ _ fine, accepted-tree _ _ _ fine .0 .short)
 
 returns-2 : tie.Need-returns-2
 returns-2 c taken = absurd (let z : _≡_ {A = ℕ} 0 1 = cc in omega arith)

@@ -1,5 +1,5 @@
 -- `transform` meets its contract: what the check found, or the answer on an accepted tree.
-use Rattle.transform_dts.proofs.Calls.{call-refused, call-root, call-accepted}
+use Rattle.transform_dts.proofs.Calls.{call-refused, call-root, call-short, call-accepted}
 use borrow.Author.Needs.{needs}
 use Rattle.transform_dts.proofs.transform.Statement.{statement}
 use Rattle.transform_dts.proofs.transform.Tie as tie
@@ -14,7 +14,7 @@ enum-known-end : tie.Need-enum-known-end
 enum-known-end c = search needs
 
 accepted-requires : tie.Need-accepted-requires
-accepted-requires c κs = call-root _ _ (c .before .before .before .before .before .check-tree .ensures) (c .before .before .before .end .given .1)
+accepted-requires c κs = (call-root _ _ (c .before .before .before .before .before .check-tree .ensures) (c .before .before .before .end .given .1), call-short _ _ (c .before .before .before .before .before .check-tree .ensures) (c .before .before .before .end .given .1))
 
 returns : tie.Need-returns
 returns c = call-refused _ _ (c .before .before .before .check-tree .ensures) _ _ _ (c .before .refusal .given .1)

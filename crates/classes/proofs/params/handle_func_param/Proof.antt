@@ -26,37 +26,37 @@ use Rattle.records.proofs.read_head.Reads as read-head-reads
 use Rattle.records.proofs.record_end.Reads as record-end-reads
 
 mark-at-requires : tie.Need-mark-at-requires
-mark-at-requires c κs = itself _ _ _ (c .before .before .before .pre .accepted) .room
+mark-at-requires c κs = itself _ _ _ (c .before .before .before .before .pre .accepted) .room
 
 read-head-requires : tie.Need-read-head-requires
-read-head-requires c κs = itself _ _ _ (c .before .before .before .before .before .pre .accepted) .room
+read-head-requires c κs = itself _ _ _ (c .before .before .before .before .before .before .pre .accepted) .room
 
 body-at-requires : tie.Need-body-at-requires
-body-at-requires c κs = itself _ _ _ (c .before .before .before .before .before .before .pre .accepted) .room
+body-at-requires c κs = itself _ _ _ (c .before .before .before .before .before .before .before .pre .accepted) .room
 
 sub-record-end : tie.Need-sub-record-end
-sub-record-end c = omega (arith, some-left _ _ _ (c .before .before .before .before .before .before .before .pre .accepted))
+sub-record-end c = omega (arith, some-left _ _ _ (c .before .before .before .before .before .before .before .before .pre .accepted))
 
 record-end-requires : tie.Need-record-end-requires
-record-end-requires c κs = is-whole _ _ _ (kids-one _ _ _ (c .before .before .before .before .before .before .before .pre .accepted) (param-one _ _ _ (c .before .before .before .before .before .before .before .pre .accepted) (either-mark (c .before .before .before .mark-at .ensures .0) (c .before .before .match .keys1))) (c .body-at .ensures) refl .first)
+record-end-requires c κs = is-whole _ _ _ (kids-one _ _ _ (c .before .before .before .before .before .before .before .before .pre .accepted) (param-one _ _ _ (c .before .before .before .before .before .before .before .before .pre .accepted) (either-mark (c .before .before .before .mark-at .ensures .0) (c .before .before .match .keys1))) (c .body-at .ensures) refl .first)
 
 put-front-requires : tie.Need-put-front-requires
 put-front-requires c κs = search needs
 
 sub-handle-pattern : tie.Need-sub-handle-pattern
-sub-handle-pattern c = omega (arith, some-left _ _ _ (c .before .before .before .before .before .before .before .before .before .before .before .before .pre .accepted))
+sub-handle-pattern c = omega (arith, some-left _ _ _ (c .before .before .before .before .before .before .before .before .before .before .before .before .before .pre .accepted))
 
 handle-pattern-requires : tie.Need-handle-pattern-requires
-handle-pattern-requires c κs = let k = kids-one _ _ _ (c .before .before .before .before .before .before .before .before .before .before .before .before .before .before .pre .accepted) (param-one _ _ _ (c .before .before .before .before .before .before .before .before .before .before .before .before .before .before .pre .accepted) (either-mark (c .before .before .before .before .before .before .before .before .before .before .mark-at .ensures .0) (c .before .before .before .before .before .before .before .before .before .match .keys1))) (c .before .before .before .before .before .before .before .body-at .ensures) refl in ready-kid (c .before .before .before .before .before .before .before .before .before .before .before .before .before .before .pre) (k .first) (k .low0) (puts-counter (c .before .before .before .before .put-front .ensures))
+handle-pattern-requires c κs = let k = kids-one _ _ _ (c .before .before .before .before .before .before .before .before .before .before .before .before .before .before .before .pre .accepted) (param-one _ _ _ (c .before .before .before .before .before .before .before .before .before .before .before .before .before .before .before .pre .accepted) (either-mark (c .before .before .before .before .before .before .before .before .before .before .mark-at .ensures .0) (c .before .before .before .before .before .before .before .before .before .match .keys1))) (c .before .before .before .before .before .before .before .body-at .ensures) refl in ready-kid (c .before .before .before .before .before .before .before .before .before .before .before .before .before .before .before .pre) (k .first) (k .low0) (puts-counter (c .before .before .before .before .put-front .ensures))
 
 sub-keep-all : tie.Need-sub-keep-all
-sub-keep-all c = omega (arith, param-one _ _ _ (c .before .before .before .before .before .before .before .before .before .before .before .before .before .before .before .before .before .before .before .before .pre .accepted) (either-mark (c .before .before .before .before .before .before .before .before .before .before .before .before .before .before .before .before .mark-at .ensures .0) (c .before .before .before .before .before .before .before .before .before .before .before .before .before .before .before .match .keys1)), count-as (c .before .before .before .before .before .before .before .before .before .before .before .before .before .before .before .before .before .before .before .before .args .tree .now) (c .before .before .before .before .before .before .before .before .before .before .before .before .before .before .before .before .before .before .before .before .args .at) (c .before .before .before .before .before .before .before .before .before .before .before .before .before .before .read-head .ensures))
+sub-keep-all c = omega (arith, param-one _ _ _ (c .before .before .before .before .before .before .before .before .before .before .before .before .before .before .before .before .before .before .before .before .before .pre .accepted) (either-mark (c .before .before .before .before .before .before .before .before .before .before .before .before .before .before .before .before .mark-at .ensures .0) (c .before .before .before .before .before .before .before .before .before .before .before .before .before .before .before .match .keys1)), count-as (c .before .before .before .before .before .before .before .before .before .before .before .before .before .before .before .before .before .before .before .before .before .args .tree .now) (c .before .before .before .before .before .before .before .before .before .before .before .before .before .before .before .before .before .before .before .before .before .args .at) (c .before .before .before .before .before .before .before .before .before .before .before .before .before .before .read-head .ensures))
 
 sub-keep-all-2 : tie.Need-sub-keep-all-2
-sub-keep-all-2 c = omega (arith, some-left _ _ _ (c .before .before .before .before .before .before .before .before .before .before .before .before .before .before .before .before .before .before .before .before .pre .accepted))
+sub-keep-all-2 c = omega (arith, some-left _ _ _ (c .before .before .before .before .before .before .before .before .before .before .before .before .before .before .before .before .before .before .before .before .before .pre .accepted))
 
 keep-all-requires : tie.Need-keep-all-requires
-keep-all-requires c κs = others-as _ _ (c .before .before .before .before .before .before .before .before .before .before .before .before .before .before .before .read-head .ensures) 1 (kids-one _ _ _ (c .before .before .before .before .before .before .before .before .before .before .before .before .before .before .before .before .before .before .before .before .before .pre .accepted) (param-one _ _ _ (c .before .before .before .before .before .before .before .before .before .before .before .before .before .before .before .before .before .before .before .before .before .pre .accepted) (either-mark (c .before .before .before .before .before .before .before .before .before .before .before .before .before .before .before .before .before .mark-at .ensures .0) (c .before .before .before .before .before .before .before .before .before .before .before .before .before .before .before .before .match .keys1))) (c .before .before .before .before .before .before .before .before .before .before .before .before .before .before .body-at .ensures) (c .before .before .before .before .before .before .before .before .before .before .before .before .before .record-end .ensures) .others)
+keep-all-requires c κs = others-as _ _ (c .before .before .before .before .before .before .before .before .before .before .before .before .before .before .before .read-head .ensures) 1 (kids-one _ _ _ (c .before .before .before .before .before .before .before .before .before .before .before .before .before .before .before .before .before .before .before .before .before .before .pre .accepted) (param-one _ _ _ (c .before .before .before .before .before .before .before .before .before .before .before .before .before .before .before .before .before .before .before .before .before .before .pre .accepted) (either-mark (c .before .before .before .before .before .before .before .before .before .before .before .before .before .before .before .before .before .mark-at .ensures .0) (c .before .before .before .before .before .before .before .before .before .before .before .before .before .before .before .before .match .keys1))) (c .before .before .before .before .before .before .before .before .before .before .before .before .before .before .body-at .ensures) (c .before .before .before .before .before .before .before .before .before .before .before .before .before .record-end .ensures) .others)
 
 keep-requires : tie.Need-keep-requires
 keep-requires c κs = search needs
@@ -68,13 +68,13 @@ same-length-2 : tie.Need-same-length-2
 same-length-2 c = search needs
 
 returns : tie.Need-returns
-returns c = param-made (typingOf (c .before .before .before .before .before .before .before .before .before .before .before .before .before .before .before .before .before .before .before .before .before .before .before .before .args .tree .now) (c .before .before .before .before .before .before .before .before .before .before .before .before .before .before .before .before .before .before .before .before .before .before .before .before .args .scope)) _ _ _ (kids-one _ _ _ (c .before .before .before .before .before .before .before .before .before .before .before .before .before .before .before .before .before .before .before .before .before .before .before .before .pre .accepted) (param-one _ _ _ (c .before .before .before .before .before .before .before .before .before .before .before .before .before .before .before .before .before .before .before .before .before .before .before .before .pre .accepted) (either-mark (c .before .before .before .before .before .before .before .before .before .before .before .before .before .before .before .before .before .before .before .before .mark-at .ensures .0) (c .before .before .before .before .before .before .before .before .before .before .before .before .before .before .before .before .before .before .before .match .keys1))) (c .before .before .before .before .before .before .before .before .before .before .before .before .before .before .before .before .before .body-at .ensures) (c .before .before .before .before .before .before .before .before .before .before .before .before .before .before .before .before .record-end .ensures)) (c .before .before .before .before .before .before .before .before .before .before .before .before .before .before .before .before .before .before .before .before .before .before .before .before .pre .accepted) (c .before .before .before .before .before .before .before .before .before .before .before .before .before .before .before .before .before .before .before .before .before .before .before .shared-slice-known .given) (c .before .before .before .before .before .before .before .before .before .before .before .before .before .before .before .before .before .before .read-head .ensures) (either-mark (c .before .before .before .before .before .before .before .before .before .before .before .before .before .before .before .before .before .before .before .before .mark-at .ensures .0) (c .before .before .before .before .before .before .before .before .before .before .before .before .before .before .before .before .before .before .before .match .keys1)) (omega (arith, c .before .before .before .before .before .before .before .before .before .before .before .before .before .before .before .before .before .before .before .before .before .before .before .before .good)) (c .before .before .before .before .before .before .before .before .before .before .before .before .before .before .put-front .ensures) (c .before .before .before .before .before .before .before .before .before .handle-pattern .ensures) (c .before .before .keep-all .ensures)
+returns c = param-made (typingOf (c .before .before .before .before .before .before .before .before .before .before .before .before .before .before .before .before .before .before .before .before .before .before .before .before .before .args .tree .now) (c .before .before .before .before .before .before .before .before .before .before .before .before .before .before .before .before .before .before .before .before .before .before .before .before .before .args .scope)) _ _ _ (kids-one _ _ _ (c .before .before .before .before .before .before .before .before .before .before .before .before .before .before .before .before .before .before .before .before .before .before .before .before .before .pre .accepted) (param-one _ _ _ (c .before .before .before .before .before .before .before .before .before .before .before .before .before .before .before .before .before .before .before .before .before .before .before .before .before .pre .accepted) (either-mark (c .before .before .before .before .before .before .before .before .before .before .before .before .before .before .before .before .before .before .before .before .mark-at .ensures .0) (c .before .before .before .before .before .before .before .before .before .before .before .before .before .before .before .before .before .before .before .match .keys1))) (c .before .before .before .before .before .before .before .before .before .before .before .before .before .before .before .before .before .body-at .ensures) (c .before .before .before .before .before .before .before .before .before .before .before .before .before .before .before .before .record-end .ensures)) (c .before .before .before .before .before .before .before .before .before .before .before .before .before .before .before .before .before .before .before .before .before .before .before .before .before .pre .accepted) (c .before .before .before .before .before .before .before .before .before .before .before .before .before .before .before .before .before .before .before .before .before .before .before .before .shared-slice-known .given) (c .before .before .before .before .before .before .before .before .before .before .before .before .before .before .before .before .before .before .read-head .ensures) (either-mark (c .before .before .before .before .before .before .before .before .before .before .before .before .before .before .before .before .before .before .before .before .mark-at .ensures .0) (c .before .before .before .before .before .before .before .before .before .before .before .before .before .before .before .before .before .before .before .match .keys1)) (omega (arith, c .before .before .before .before .before .before .before .before .before .before .before .before .before .before .before .before .before .before .before .before .before .before .before .before .before .good)) (c .before .before .before .before .before .before .before .before .before .before .before .before .before .before .put-front .ensures) (c .before .before .before .before .before .before .before .before .before .handle-pattern .ensures) (c .before .before .keep-all .ensures)
 
 same-length-3 : tie.Need-same-length-3
 same-length-3 c = search needs
 
 returns-2 : tie.Need-returns-2
-returns-2 c = makes-as (makes-keeps _ (c .before .before .keep .ensures) (omega (arith, c .before .before .before .before .before .before .before .before .before .good))) (param-kept (typingOf (c .before .before .before .before .before .before .before .before .before .args .tree .now) (c .before .before .before .before .before .before .before .before .before .args .scope)) _ _ _ _ (neither-mark (c .before .before .before .before .before .mark-at .ensures .0) (c .before .before .before .before .match .rest .1)))
+returns-2 c = makes-as (makes-keeps _ (c .before .before .keep .ensures) (omega (arith, c .before .before .before .before .before .before .before .before .before .before .good))) (param-kept (typingOf (c .before .before .before .before .before .before .before .before .before .before .args .tree .now) (c .before .before .before .before .before .before .before .before .before .before .args .scope)) _ _ _ _ (neither-mark (c .before .before .before .before .before .mark-at .ensures .0) (c .before .before .before .before .match .rest .1)))
 
 pub handle-func-param-spec : {M : Type 1} → statement M
 handle-func-param-spec =

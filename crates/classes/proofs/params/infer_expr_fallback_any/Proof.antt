@@ -1,6 +1,5 @@
 -- `params::infer_expr_fallback_any` meets its contract.
 use Rattle.definition.proofs.Children.{itself}
-use Rattle.typing.proofs.Ready.{ready-mutable}
 use Rattle.classes.proofs.Inferred.{infer}
 use borrow.Author.Needs.{needs}
 use Rattle.classes.proofs.params.infer_expr_fallback_any.Statement.{statement}
@@ -15,10 +14,10 @@ mutable-requires : tie.Need-mutable-requires
 mutable-requires c κs = search needs
 
 expr-to-ts-type-requires : tie.Need-expr-to-ts-type-requires
-expr-to-ts-type-requires c κs = ready-mutable (c .before .before .before .before .before .before .pre) (c .before .before .mutable .ensures)
+expr-to-ts-type-requires c κs = c .before .before .before .before .before .before .before .pre
 
 or-any-requires : tie.Need-or-any-requires
-or-any-requires c κs = itself _ _ _ (c .before .before .before .before .before .before .before .before .before .before .before .before .before .pre .accepted) .room
+or-any-requires c κs = itself _ _ _ (c .before .before .before .before .before .before .before .before .before .before .before .before .before .before .pre .accepted) .room
 
 same-length : tie.Need-same-length
 same-length c = search needs
@@ -27,7 +26,7 @@ same-length-2 : tie.Need-same-length-2
 same-length-2 c = search needs
 
 returns : tie.Need-returns
-returns c = infer _ (c .before .before .before .before .before .before .before .before .before .before .before .before .before .before .before .before .before .before .args .scope) _ _ (c .before .before .before .before .before .before .before .before .before .before .before .before .before .before .before .before .before .before .args .s) (c .before .before .before .before .before .before .before .before .before .before .before .before .before .before .mutable .ensures) (c .before .before .before .before .before .before .before .before .before .before .before .expr-to-ts-type .ensures) (c .before .before .before .before .or-any .ensures)
+returns c = infer _ (c .before .before .before .before .before .before .before .before .before .before .before .before .before .before .before .before .before .before .before .args .scope) _ _ (c .before .before .before .before .before .before .before .before .before .before .before .before .before .before .before .before .before .before .before .args .s) (c .before .before .before .before .before .before .before .before .before .before .before .before .before .before .mutable .ensures) (c .before .before .before .before .before .before .before .before .before .before .before .expr-to-ts-type .ensures) (c .before .before .before .before .or-any .ensures)
 
 pub infer-expr-fallback-any-spec : {M : Type 1} → statement M
 infer-expr-fallback-any-spec =

@@ -16,16 +16,16 @@ use Rattle.classes.proofs.params.optional_box.Statement.{statement}
 use Rattle.classes.proofs.params.optional_box.Tie as tie
 
 read-head-requires : tie.Need-read-head-requires
-read-head-requires c κs = itself _ _ _ (c .before .before .before .pre .0) .room
+read-head-requires c κs = itself _ _ _ (c .before .before .before .before .pre .0) .room
 
 body-at-requires : tie.Need-body-at-requires
-body-at-requires c κs = itself _ _ _ (c .before .before .before .before .pre .0) .room
+body-at-requires c κs = itself _ _ _ (c .before .before .before .before .before .pre .0) .room
 
 sub-record-end : tie.Need-sub-record-end
-sub-record-end c = omega (arith, some-left _ _ _ (c .before .before .before .before .before .pre .0))
+sub-record-end c = omega (arith, some-left _ _ _ (c .before .before .before .before .before .before .pre .0))
 
 record-end-requires : tie.Need-record-end-requires
-record-end-requires c κs = is-whole _ _ _ (kids-one _ _ _ (c .before .before .before .before .before .pre .0) (box-one _ _ _ (c .before .before .before .before .before .pre .0) (c .before .before .before .before .before .pre .1 .0)) (c .body-at .ensures) refl .first)
+record-end-requires c κs = is-whole _ _ _ (kids-one _ _ _ (c .before .before .before .before .before .before .pre .0) (box-one _ _ _ (c .before .before .before .before .before .before .pre .0) (c .before .before .before .before .before .before .pre .1 .0)) (c .body-at .ensures) refl .first)
 
 with-flag-requires : tie.Need-with-flag-requires
 with-flag-requires c κs = inl refl
@@ -34,16 +34,16 @@ put-front-requires : tie.Need-put-front-requires
 put-front-requires c κs = search needs
 
 type-or-infer-requires : tie.Need-type-or-infer-requires
-type-or-infer-requires c κs = (kids-one _ _ _ (c .before .before .before .before .before .before .before .before .before .before .before .before .before .pre .0) (box-one _ _ _ (c .before .before .before .before .before .before .before .before .before .before .before .before .before .pre .0) (c .before .before .before .before .before .before .before .before .before .before .before .before .before .pre .1 .0)) (c .before .before .before .before .before .before .before .before .body-at .ensures) refl .first, ready-on (c .before .before .before .before .before .before .before .before .before .before .before .before .before .pre .1 .1) (puts-counter (c .before .before .before .before .put-front .ensures)))
+type-or-infer-requires c κs = (kids-one _ _ _ (c .before .before .before .before .before .before .before .before .before .before .before .before .before .before .pre .0) (box-one _ _ _ (c .before .before .before .before .before .before .before .before .before .before .before .before .before .before .pre .0) (c .before .before .before .before .before .before .before .before .before .before .before .before .before .before .pre .1 .0)) (c .before .before .before .before .before .before .before .before .body-at .ensures) refl .first, ready-on (c .before .before .before .before .before .before .before .before .before .before .before .before .before .before .pre .1 .1) (puts-counter (c .before .before .before .before .put-front .ensures)))
 
 sub-keep-all : tie.Need-sub-keep-all
-sub-keep-all c = omega (arith, box-one _ _ _ (c .before .before .before .before .before .before .before .before .before .before .before .before .before .before .before .before .before .before .before .pre .0) (c .before .before .before .before .before .before .before .before .before .before .before .before .before .before .before .before .before .before .before .pre .1 .0), count-as (c .before .before .before .before .before .before .before .before .before .before .before .before .before .before .before .before .before .before .before .args .tree .now) (c .before .before .before .before .before .before .before .before .before .before .before .before .before .before .before .before .before .before .before .args .at) (c .before .before .before .before .before .before .before .before .before .before .before .before .before .before .before .read-head .ensures))
+sub-keep-all c = omega (arith, box-one _ _ _ (c .before .before .before .before .before .before .before .before .before .before .before .before .before .before .before .before .before .before .before .before .pre .0) (c .before .before .before .before .before .before .before .before .before .before .before .before .before .before .before .before .before .before .before .before .pre .1 .0), count-as (c .before .before .before .before .before .before .before .before .before .before .before .before .before .before .before .before .before .before .before .before .args .tree .now) (c .before .before .before .before .before .before .before .before .before .before .before .before .before .before .before .before .before .before .before .before .args .at) (c .before .before .before .before .before .before .before .before .before .before .before .before .before .before .before .read-head .ensures))
 
 sub-keep-all-2 : tie.Need-sub-keep-all-2
-sub-keep-all-2 c = omega (arith, some-left _ _ _ (c .before .before .before .before .before .before .before .before .before .before .before .before .before .before .before .before .before .before .before .pre .0))
+sub-keep-all-2 c = omega (arith, some-left _ _ _ (c .before .before .before .before .before .before .before .before .before .before .before .before .before .before .before .before .before .before .before .before .pre .0))
 
 keep-all-requires : tie.Need-keep-all-requires
-keep-all-requires c κs = others-as _ _ (c .before .before .before .before .before .before .before .before .before .before .before .before .before .before .before .before .read-head .ensures) 1 (kids-one _ _ _ (c .before .before .before .before .before .before .before .before .before .before .before .before .before .before .before .before .before .before .before .before .pre .0) (box-one _ _ _ (c .before .before .before .before .before .before .before .before .before .before .before .before .before .before .before .before .before .before .before .before .pre .0) (c .before .before .before .before .before .before .before .before .before .before .before .before .before .before .before .before .before .before .before .before .pre .1 .0)) (c .before .before .before .before .before .before .before .before .before .before .before .before .before .before .before .body-at .ensures) (c .before .before .before .before .before .before .before .before .before .before .before .before .before .before .record-end .ensures) .others)
+keep-all-requires c κs = others-as _ _ (c .before .before .before .before .before .before .before .before .before .before .before .before .before .before .before .before .read-head .ensures) 1 (kids-one _ _ _ (c .before .before .before .before .before .before .before .before .before .before .before .before .before .before .before .before .before .before .before .before .before .pre .0) (box-one _ _ _ (c .before .before .before .before .before .before .before .before .before .before .before .before .before .before .before .before .before .before .before .before .before .pre .0) (c .before .before .before .before .before .before .before .before .before .before .before .before .before .before .before .before .before .before .before .before .before .pre .1 .0)) (c .before .before .before .before .before .before .before .before .before .before .before .before .before .before .before .body-at .ensures) (c .before .before .before .before .before .before .before .before .before .before .before .before .before .before .record-end .ensures) .others)
 
 same-length : tie.Need-same-length
 same-length c = search needs
@@ -52,7 +52,7 @@ same-length-2 : tie.Need-same-length-2
 same-length-2 c = search needs
 
 returns : tie.Need-returns
-returns c = box-optional _ _ _ (kids-one _ _ _ (c .before .before .before .before .before .before .before .before .before .before .before .before .before .before .before .before .before .before .before .before .before .before .before .pre .0) (box-one _ _ _ (c .before .before .before .before .before .before .before .before .before .before .before .before .before .before .before .before .before .before .before .before .before .before .before .pre .0) (c .before .before .before .before .before .before .before .before .before .before .before .before .before .before .before .before .before .before .before .before .before .before .before .pre .1 .0)) (c .before .before .before .before .before .before .before .before .before .before .before .before .before .before .before .before .before .before .body-at .ensures) (c .before .before .before .before .before .before .before .before .before .before .before .before .before .before .before .before .before .record-end .ensures)) (c .before .before .before .before .before .before .before .before .before .before .before .before .before .before .before .before .before .before .before .before .before .before .before .pre .0) (c .before .before .before .before .before .before .before .before .before .before .before .before .before .before .before .before .before .before .before .before .before .before .shared-slice-known .given) (c .before .before .before .before .before .before .before .before .before .before .before .before .before .before .before .before .before .before .before .read-head .ensures) (c .before .before .before .before .before .before .before .before .before .before .before .before .before .before .before .before .with-flag .ensures) (typingOf (c .before .before .before .before .before .before .before .before .before .before .before .before .before .before .before .before .before .before .before .before .before .before .before .args .tree .now) (c .before .before .before .before .before .before .before .before .before .before .before .before .before .before .before .before .before .before .before .before .before .before .before .args .scope)) _ _ (omega (arith, c .before .before .before .before .before .before .before .before .before .before .before .before .before .before .before .before .before .before .before .before .before .before .before .good)) (c .before .before .before .before .before .before .before .before .before .before .before .before .before .before .put-front .ensures) (c .before .before .before .before .before .before .before .before .before .type-or-infer .ensures) (c .before .before .keep-all .ensures)
+returns c = box-optional _ _ _ (kids-one _ _ _ (c .before .before .before .before .before .before .before .before .before .before .before .before .before .before .before .before .before .before .before .before .before .before .before .before .pre .0) (box-one _ _ _ (c .before .before .before .before .before .before .before .before .before .before .before .before .before .before .before .before .before .before .before .before .before .before .before .before .pre .0) (c .before .before .before .before .before .before .before .before .before .before .before .before .before .before .before .before .before .before .before .before .before .before .before .before .pre .1 .0)) (c .before .before .before .before .before .before .before .before .before .before .before .before .before .before .before .before .before .before .body-at .ensures) (c .before .before .before .before .before .before .before .before .before .before .before .before .before .before .before .before .before .record-end .ensures)) (c .before .before .before .before .before .before .before .before .before .before .before .before .before .before .before .before .before .before .before .before .before .before .before .before .pre .0) (c .before .before .before .before .before .before .before .before .before .before .before .before .before .before .before .before .before .before .before .before .before .before .before .shared-slice-known .given) (c .before .before .before .before .before .before .before .before .before .before .before .before .before .before .before .before .before .before .before .read-head .ensures) (c .before .before .before .before .before .before .before .before .before .before .before .before .before .before .before .before .with-flag .ensures) (typingOf (c .before .before .before .before .before .before .before .before .before .before .before .before .before .before .before .before .before .before .before .before .before .before .before .before .args .tree .now) (c .before .before .before .before .before .before .before .before .before .before .before .before .before .before .before .before .before .before .before .before .before .before .before .before .args .scope)) _ _ (omega (arith, c .before .before .before .before .before .before .before .before .before .before .before .before .before .before .before .before .before .before .before .before .before .before .before .before .good)) (c .before .before .before .before .before .before .before .before .before .before .before .before .before .before .put-front .ensures) (c .before .before .before .before .before .before .before .before .before .type-or-infer .ensures) (c .before .before .keep-all .ensures)
 
 pub optional-box-spec : {M : Type 1} → statement M
 optional-box-spec =

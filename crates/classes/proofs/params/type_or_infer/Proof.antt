@@ -14,10 +14,10 @@ use Rattle.parts.proofs.keep.Reads as keep-reads
 use Rattle.records.proofs.mark_at.Reads as mark-at-reads
 
 mark-at-requires : tie.Need-mark-at-requires
-mark-at-requires c κs = itself _ _ _ (c .before .before .before .pre .0) .room
+mark-at-requires c κs = itself _ _ _ (c .before .before .before .before .pre .0) .room
 
 sub-keep : tie.Need-sub-keep
-sub-keep c = omega (arith, some-left _ _ _ (c .before .before .before .before .before .pre .1 .accepted))
+sub-keep c = omega (arith, some-left _ _ _ (c .before .before .before .before .before .before .pre .1 .accepted))
 
 keep-requires : tie.Need-keep-requires
 keep-requires c κs = search needs
@@ -26,7 +26,7 @@ same-length : tie.Need-same-length
 same-length c = search needs
 
 returns : tie.Need-returns
-returns c = makes-as (makes-keeps _ (c .before .before .keep .ensures) (omega (arith, c .before .before .before .before .before .before .before .before .before .good))) (or-given _ _ _ _ _ (λ e. c .before .before .before .before .if1 .taken (c .before .before .before .before .before .mark-at .ensures .0 ∙ e)))
+returns c = makes-as (makes-keeps _ (c .before .before .keep .ensures) (omega (arith, c .before .before .before .before .before .before .before .before .before .before .good))) (or-given _ _ _ _ _ (λ e. c .before .before .before .before .if1 .taken (c .before .before .before .before .before .mark-at .ensures .0 ∙ e)))
 
 infer-expr-fallback-any-requires : tie.Need-infer-expr-fallback-any-requires
 infer-expr-fallback-any-requires c κs = search needs

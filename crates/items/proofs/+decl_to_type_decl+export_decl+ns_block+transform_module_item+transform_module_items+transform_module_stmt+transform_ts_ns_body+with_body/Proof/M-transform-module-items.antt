@@ -3,38 +3,34 @@ use Prim.Native.Nat.{ℕ}
 use borrow.Author.Needs.{needs}
 use native.Mathlib.Omega.{arith}
 use Rattle.swc_helpers.proofs.Made.{is-whole}
-use Rattle.items.proofs.ItemKinds.{item-ready}
+use Rattle.items.proofs.Declarators.{one-ready}
 use Rattle.items.proofs.Items.{Itemizing, itemizing-start, itemizing-first, itemizing-more, itemizing-turn, itemizing-done}
 use Rattle.items.proofs.transform_module_items.Reads as transform-module-items
 use Rattle.items.proofs.transform_module_item.Reads as transform-module-item
-use Rattle.items.proofs.item_scope.Reads as item-scope-reads
 use Rattle.reader.proofs.next_at.Reads as next-at-reads
 use Rattle.items.proofs.+decl_to_type_decl+export_decl+ns_block+transform_module_item+transform_module_items+transform_module_stmt+transform_ts_ns_body+with_body.Lts-transform_module_items as transform-module-items-lts
 use Rattle.items.proofs.+decl_to_type_decl+export_decl+ns_block+transform_module_item+transform_module_items+transform_module_stmt+transform_ts_ns_body+with_body.Proof.Base.{transform-module-items-at, transform-module-item-below}
 
 abbrev pub calls : ℕ → transform-module-items-lts.Claims
-calls t = (next-at-reads.Asked, next-at-reads.Learnt, item-scope-reads.Asked, item-scope-reads.Learnt, transform-module-item-below t, transform-module-item.Post)
+calls t = (transform-module-item-below t, transform-module-item.Post, next-at-reads.Asked, next-at-reads.Learnt)
 
 abbrev pub Inv-loop : transform-module-items-lts.InvT-loop
-Inv-loop tree at n levels scope list top out₀ diagnostics₀ next₀ k₀ item₀ count₀ out diagnostics next k item count = Itemizing list tree scope top levels n at out₀ out diagnostics₀ diagnostics next₀ next k item count
+Inv-loop tree at n levels index scope list top out₀ diagnostics₀ next₀ k₀ item₀ count₀ out diagnostics next k item count = Itemizing list tree scope top levels n at out₀ out diagnostics₀ diagnostics next₀ next k item count
 
 abbrev pub μ-loop : transform-module-items-lts.MeasureT-loop
-μ-loop tree at n levels scope list top out₀ diagnostics₀ next₀ k₀ item₀ count₀ out diagnostics next k item count = k
+μ-loop tree at n levels index scope list top out₀ diagnostics₀ next₀ k₀ item₀ count₀ out diagnostics next k item count = k
 
 pub loop-holds : (t : ℕ) → transform-module-items-lts.Need-loop-holds (calls t) (transform-module-items-at t) transform-module-items.Post Inv-loop μ-loop
-loop-holds t c = itemizing-start (c .before .before .before .before .args .list .now) (c .before .before .before .before .args .tree .now) (c .before .before .before .before .args .scope) (c .before .before .before .before .args .top) (c .before .before .before .before .args .levels) (c .before .before .before .before .args .n) (c .before .before .before .before .args .at) _ _ _ (c .before .before .before .before .pre .1 .0) (c .before .before .before .before .pre .1 .1) (omega (arith, c .before .before .before .before .good)) (omega (arith, c .before .before .before .before .good))
-
-pub next-at-requires : (t : ℕ) → transform-module-items-lts.Need-next-at-requires (calls t) (transform-module-items-at t) transform-module-items.Post Inv-loop μ-loop
-next-at-requires t c κs = is-whole _ _ _ (itemizing-first (c .before .before .before .before .before .before .args .list .now) (c .before .before .before .before .before .before .args .tree .now) (c .before .before .before .before .before .before .args .scope) (c .before .before .before .before .before .before .args .top) (c .before .before .before .before .before .before .args .levels) (c .before .before .before .before .before .before .args .n) (c .before .before .before .before .before .before .args .at) (c .before .loop .inv) (c .loop-test .taken))
-
-pub item-scope-requires : (t : ℕ) → transform-module-items-lts.Need-item-scope-requires (calls t) (transform-module-items-at t) transform-module-items.Post Inv-loop μ-loop
-item-scope-requires t c κs = search needs
+loop-holds t c = itemizing-start (c .before .before .before .before .before .args .list .now) (c .before .before .before .before .before .args .tree .now) (c .before .before .before .before .before .args .scope) (c .before .before .before .before .before .args .top) (c .before .before .before .before .before .args .levels) (c .before .before .before .before .before .args .n) (c .before .before .before .before .before .args .at) _ _ _ (c .before .before .before .before .before .pre .1 .0) (c .before .before .before .before .before .pre .1 .1) (omega (arith, c .before .before .before .before .before .good)) (omega (arith, c .before .before .before .before .before .good))
 
 pub transform-module-item-requires : (t : ℕ) → transform-module-items-lts.Need-transform-module-item-requires (calls t) (transform-module-items-at t) transform-module-items.Post Inv-loop μ-loop
-transform-module-item-requires t c κs = (omega (arith, c .before .before .before .before .before .before .before .before .before .before .pre .0), item-ready (c .before .before .before .before .before .before .before .before .before .before .args .scope) (c .before .before .before .before .before .before .before .before .before .before .args .levels) (c .before .before .before .before .before .loop .item) (c .before .before .before .next-at .result) (c .before .before .before .before .before .before .before .before .before .before .pre .1 .0) (itemizing-first (c .before .before .before .before .before .before .before .before .before .before .args .list .now) (c .before .before .before .before .before .before .before .before .before .before .args .tree .now) (c .before .before .before .before .before .before .before .before .before .before .args .scope) (c .before .before .before .before .before .before .before .before .before .before .args .top) (c .before .before .before .before .before .before .before .before .before .before .args .levels) (c .before .before .before .before .before .before .before .before .before .before .args .n) (c .before .before .before .before .before .before .before .before .before .before .args .at) (c .before .before .before .before .before .loop .inv) (c .before .before .before .before .loop-test .taken)) (c .before .before .before .before .before .loop .inv .low) (c .before .before .before .next-at .ensures) (c .before .before .item-scope .ensures))
+transform-module-item-requires t c κs = (omega (arith, c .before .before .before .before .before .before .before .before .before .pre .0), one-ready (c .before .before .before .before .before .before .before .before .before .pre .1 .0) (itemizing-first (c .before .before .before .before .before .before .before .before .before .args .list .now) (c .before .before .before .before .before .before .before .before .before .args .tree .now) (c .before .before .before .before .before .before .before .before .before .args .scope) (c .before .before .before .before .before .before .before .before .before .args .top) (c .before .before .before .before .before .before .before .before .before .args .levels) (c .before .before .before .before .before .before .before .before .before .args .n) (c .before .before .before .before .before .before .before .before .before .args .at) (c .before .before .before .loop .inv) (c .before .before .loop-test .taken)) (c .before .before .before .loop .inv .low))
 
 pub add-count : (t : ℕ) → transform-module-items-lts.Need-add-count (calls t) (transform-module-items-at t) transform-module-items.Post Inv-loop μ-loop
-add-count t c = omega (arith, c .before .before .before .before .before .before .before .before .before .before .before .before .loop .inv .few, itemizing-more (c .before .before .before .before .before .before .before .before .before .before .before .before .before .before .before .before .before .args .list .now) (c .before .before .before .before .before .before .before .before .before .before .before .before .before .before .before .before .before .args .tree .now) (c .before .before .before .before .before .before .before .before .before .before .before .before .before .before .before .before .before .args .scope) (c .before .before .before .before .before .before .before .before .before .before .before .before .before .before .before .before .before .args .top) (c .before .before .before .before .before .before .before .before .before .before .before .before .before .before .before .before .before .args .levels) (c .before .before .before .before .before .before .before .before .before .before .before .before .before .before .before .before .before .args .n) (c .before .before .before .before .before .before .before .before .before .before .before .before .before .before .before .before .before .args .at) (c .before .before .before .before .before .before .before .before .before .before .before .before .loop .inv) (c .before .before .before .before .before .before .before .before .before .before .next-at .result) (c .before .before .before .before .before .before .before .before .before .item-scope .ensures) (c .before .before .before .before .before .before .transform-module-item .ensures))
+add-count t c = omega (arith, c .before .before .before .before .before .before .before .before .before .before .loop .inv .few, itemizing-more (c .before .before .before .before .before .before .before .before .before .before .before .before .before .before .before .before .args .list .now) (c .before .before .before .before .before .before .before .before .before .before .before .before .before .before .before .before .args .tree .now) (c .before .before .before .before .before .before .before .before .before .before .before .before .before .before .before .before .args .scope) (c .before .before .before .before .before .before .before .before .before .before .before .before .before .before .before .before .args .top) (c .before .before .before .before .before .before .before .before .before .before .before .before .before .before .before .before .args .levels) (c .before .before .before .before .before .before .before .before .before .before .before .before .before .before .before .before .args .n) (c .before .before .before .before .before .before .before .before .before .before .before .before .before .before .before .before .args .at) (c .before .before .before .before .before .before .before .before .before .before .loop .inv) (c .before .before .before .before .before .before .transform-module-item .ensures))
+
+pub next-at-requires : (t : ℕ) → transform-module-items-lts.Need-next-at-requires (calls t) (transform-module-items-at t) transform-module-items.Post Inv-loop μ-loop
+next-at-requires t c κs = is-whole _ _ _ (itemizing-first (c .before .before .before .before .before .before .before .before .before .before .before .before .before .before .before .before .args .list .now) (c .before .before .before .before .before .before .before .before .before .before .before .before .before .before .before .before .args .tree .now) (c .before .before .before .before .before .before .before .before .before .before .before .before .before .before .before .before .args .scope) (c .before .before .before .before .before .before .before .before .before .before .before .before .before .before .before .before .args .top) (c .before .before .before .before .before .before .before .before .before .before .before .before .before .before .before .before .args .levels) (c .before .before .before .before .before .before .before .before .before .before .before .before .before .before .before .before .args .n) (c .before .before .before .before .before .before .before .before .before .before .before .before .before .before .before .before .args .at) (c .before .before .before .before .before .before .before .before .before .before .loop .inv) (c .before .before .before .before .before .before .before .before .before .loop-test .taken))
 
 pub sub-k : (t : ℕ) → transform-module-items-lts.Need-sub-k (calls t) (transform-module-items-at t) transform-module-items.Post Inv-loop μ-loop
 sub-k t c = omega arith
@@ -43,7 +39,7 @@ pub loop-less : (t : ℕ) → transform-module-items-lts.Need-loop-less (calls t
 loop-less t c = omega arith
 
 pub loop-again : (t : ℕ) → transform-module-items-lts.Need-loop-again (calls t) (transform-module-items-at t) transform-module-items.Post Inv-loop μ-loop
-loop-again t c = itemizing-turn (c .before .before .before .before .before .before .before .before .before .before .before .before .before .before .before .before .before .args .list .now) (c .before .before .before .before .before .before .before .before .before .before .before .before .before .before .before .before .before .args .tree .now) (c .before .before .before .before .before .before .before .before .before .before .before .before .before .before .before .before .before .args .scope) (c .before .before .before .before .before .before .before .before .before .before .before .before .before .before .before .before .before .args .top) (c .before .before .before .before .before .before .before .before .before .before .before .before .before .before .before .before .before .args .levels) (c .before .before .before .before .before .before .before .before .before .before .before .before .before .before .before .before .before .args .n) (c .before .before .before .before .before .before .before .before .before .before .before .before .before .before .before .before .before .args .at) (c .before .before .before .before .before .before .before .before .before .before .before .before .loop .inv) (c .before .before .before .before .before .before .before .before .before .before .next-at .result) (c .before .before .before .before .before .before .before .before .before .item-scope .ensures) (c .before .before .before .before .before .before .transform-module-item .ensures) (c .before .before .before .before .before .before .before .before .before .before .before .loop-test .taken) (c .before .before .before .before .before .before .before .before .before .before .next-at .ensures)
+loop-again t c = itemizing-turn (c .before .before .before .before .before .before .before .before .before .before .before .before .before .before .before .before .before .args .list .now) (c .before .before .before .before .before .before .before .before .before .before .before .before .before .before .before .before .before .args .tree .now) (c .before .before .before .before .before .before .before .before .before .before .before .before .before .before .before .before .before .args .scope) (c .before .before .before .before .before .before .before .before .before .before .before .before .before .before .before .before .before .args .top) (c .before .before .before .before .before .before .before .before .before .before .before .before .before .before .before .before .before .args .levels) (c .before .before .before .before .before .before .before .before .before .before .before .before .before .before .before .before .before .args .n) (c .before .before .before .before .before .before .before .before .before .before .before .before .before .before .before .before .before .args .at) (c .before .before .before .before .before .before .before .before .before .before .before .loop .inv) (c .before .before .before .before .before .before .before .transform-module-item .ensures) (c .before .before .before .before .before .before .before .before .before .before .loop-test .taken) (c .next-at .ensures)
 
 pub same-length : (t : ℕ) → transform-module-items-lts.Need-same-length (calls t) (transform-module-items-at t) transform-module-items.Post Inv-loop μ-loop
 same-length t c = c .before .loop .inv .gives .step .ran .out .same
@@ -52,4 +48,4 @@ pub same-length-2 : (t : ℕ) → transform-module-items-lts.Need-same-length-2 
 same-length-2 t c = c .before .loop .inv .gives .step .ran .dia .same
 
 pub returns : (t : ℕ) → transform-module-items-lts.Need-returns (calls t) (transform-module-items-at t) transform-module-items.Post Inv-loop μ-loop
-returns t c = itemizing-done (c .before .before .before .before .before .before .args .list .now) (c .before .before .before .before .before .before .args .tree .now) (c .before .before .before .before .before .before .args .scope) (c .before .before .before .before .before .before .args .top) (c .before .before .before .before .before .before .args .levels) (c .before .before .before .before .before .before .args .n) (c .before .before .before .before .before .before .args .at) (c .before .loop .inv) (omega arith)
+returns t c = itemizing-done (c .before .before .before .before .before .before .before .args .list .now) (c .before .before .before .before .before .before .before .args .tree .now) (c .before .before .before .before .before .before .before .args .scope) (c .before .before .before .before .before .before .before .args .top) (c .before .before .before .before .before .before .before .args .levels) (c .before .before .before .before .before .before .before .args .n) (c .before .before .before .before .before .before .before .args .at) (c .before .loop .inv) (omega arith)

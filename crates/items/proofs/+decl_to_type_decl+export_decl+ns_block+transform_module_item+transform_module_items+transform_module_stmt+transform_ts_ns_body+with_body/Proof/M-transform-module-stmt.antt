@@ -20,16 +20,16 @@ abbrev pub calls : ℕ → transform-module-stmt-lts.Claims
 calls t = (is-overloaded-reads.Asked, is-overloaded-reads.Learnt, mark-at-reads.Asked, mark-at-reads.Learnt, decl-to-type-decl-below t, decl-to-type-decl.Post, skipped-reads.Asked, skipped-reads.Learnt, kept-reads.Asked, kept-reads.Learnt)
 
 pub is-overloaded-requires : (t : ℕ) → transform-module-stmt-lts.Need-is-overloaded-requires (calls t) (transform-module-stmt-at t) transform-module-stmt.Post
-is-overloaded-requires t c κs = (itself _ _ _ (c .before .before .before .before .pre .1 .accepted) .room, itself _ _ _ (c .before .before .before .before .pre .1 .accepted) .room)
+is-overloaded-requires t c κs = (itself _ _ _ (c .before .before .before .before .before .pre .1 .accepted) .room, itself _ _ _ (c .before .before .before .before .before .pre .1 .accepted) .room)
 
 pub returns : (t : ℕ) → transform-module-stmt-lts.Need-returns (calls t) (transform-module-stmt-at t) transform-module-stmt.Post
-returns t c = gives-none _ _ (c .before .before .before .before .before .before .args .s) (omega (arith, c .before .before .before .before .before .before .good)) (omega (arith, c .before .before .before .before .before .before .good)) (stmt-gone (c .before .before .before .before .before .before .args .list .now) (c .before .before .before .before .before .before .args .tree .now) (c .before .before .before .before .before .before .args .scope) (c .before .before .before .before .before .before .args .top) (treeAt (c .before .before .before .before .before .before .args .levels) (c .before .before .before .before .before .before .args .tree .now) (c .before .before .before .before .before .before .args .at)) (c .before .before .before .before .before .before .args .s .counter) (stmt-told (c .before .before .before .before .before .before .args .list .now) (c .before .before .before .before .before .before .args .levels) (c .before .before .before .before .before .before .args .tree .now) (c .before .before .before .before .before .before .args .at) (c .before .is-overloaded .ensures)) (c .if1 .taken))
+returns t c = gives-none _ _ (c .before .before .before .before .before .before .before .args .s) (omega (arith, c .before .before .before .before .before .before .before .good)) (omega (arith, c .before .before .before .before .before .before .before .good)) (stmt-gone (c .before .before .before .before .before .before .before .args .list .now) (c .before .before .before .before .before .before .before .args .tree .now) (c .before .before .before .before .before .before .before .args .scope) (c .before .before .before .before .before .before .before .args .top) (treeAt (c .before .before .before .before .before .before .before .args .levels) (c .before .before .before .before .before .before .before .args .tree .now) (c .before .before .before .before .before .before .before .args .at)) (c .before .before .before .before .before .before .before .args .s .counter) (stmt-told (c .before .before .before .before .before .before .before .args .list .now) (c .before .before .before .before .before .before .before .args .levels) (c .before .before .before .before .before .before .before .args .tree .now) (c .before .before .before .before .before .before .before .args .at) (c .before .is-overloaded .ensures)) (c .if1 .taken))
 
 pub mark-at-requires : (t : ℕ) → transform-module-stmt-lts.Need-mark-at-requires (calls t) (transform-module-stmt-at t) transform-module-stmt.Post
-mark-at-requires t c κs = itself _ _ _ (c .before .before .before .before .before .before .pre .1 .accepted) .room
+mark-at-requires t c κs = itself _ _ _ (c .before .before .before .before .before .before .before .pre .1 .accepted) .room
 
 pub decl-to-type-decl-requires : (t : ℕ) → transform-module-stmt-lts.Need-decl-to-type-decl-requires (calls t) (transform-module-stmt-at t) transform-module-stmt.Post
-decl-to-type-decl-requires t c κs = (omega (arith, c .before .before .before .before .before .before .before .before .before .before .pre .0), c .before .before .before .before .before .before .before .before .before .before .pre .1)
+decl-to-type-decl-requires t c κs = (omega (arith, c .before .before .before .before .before .before .before .before .before .before .before .pre .0), c .before .before .before .before .before .before .before .before .before .before .before .pre .1)
 
 pub enum-known-next : (t : ℕ) → transform-module-stmt-lts.Need-enum-known-next (calls t) (transform-module-stmt-at t) transform-module-stmt.Post
 enum-known-next t c = search needs
@@ -38,19 +38,19 @@ pub enum-known-failed : (t : ℕ) → transform-module-stmt-lts.Need-enum-known-
 enum-known-failed t c = search needs
 
 pub skipped-requires : (t : ℕ) → transform-module-stmt-lts.Need-skipped-requires (calls t) (transform-module-stmt-at t) transform-module-stmt.Post
-skipped-requires t c κs = itself _ _ _ (c .before .before .before .before .before .before .before .before .before .before .before .before .before .before .before .before .before .before .before .pre .1 .accepted) .room
+skipped-requires t c κs = itself _ _ _ (c .before .before .before .before .before .before .before .before .before .before .before .before .before .before .before .before .before .before .before .before .pre .1 .accepted) .room
 
 pub kept-requires : (t : ℕ) → transform-module-stmt-lts.Need-kept-requires (calls t) (transform-module-stmt-at t) transform-module-stmt.Post
-kept-requires t c κs = c .before .before .before .before .before .before .before .before .before .pre .1 .accepted
+kept-requires t c κs = c .before .before .before .before .before .before .before .before .before .before .pre .1 .accepted
 
 pub returns-2 : (t : ℕ) → transform-module-stmt-lts.Need-returns-2 (calls t) (transform-module-stmt-at t) transform-module-stmt.Post
-returns-2 t c = stmt-some (c .before .before .before .before .before .before .before .before .before .before .before .before .before .before .before .before .before .before .args .list .now) (c .before .before .before .before .before .before .before .before .before .before .before .before .before .before .before .before .before .before .args .tree .now) (c .before .before .before .before .before .before .before .before .before .before .before .before .before .before .before .before .before .before .args .scope) (c .before .before .before .before .before .before .before .before .before .before .before .before .before .before .before .before .before .before .args .top) (c .before .before .before .before .before .before .before .before .before .before .before .before .before .before .before .before .before .before .args .levels) (c .before .before .before .before .before .before .before .before .before .before .before .before .before .before .before .before .before .before .args .at) (c .before .before .before .before .before .before .before .decl-to-type-decl .ensures) (stmt-made (c .before .before .before .before .before .before .before .before .before .before .before .before .before .before .before .before .before .before .args .list .now) (c .before .before .before .before .before .before .before .before .before .before .before .before .before .before .before .before .before .before .args .tree .now) (c .before .before .before .before .before .before .before .before .before .before .before .before .before .before .before .before .before .before .args .scope) (c .before .before .before .before .before .before .before .before .before .before .before .before .before .before .before .before .before .before .args .top) (treeAt (c .before .before .before .before .before .before .before .before .before .before .before .before .before .before .before .before .before .before .args .levels) (c .before .before .before .before .before .before .before .before .before .before .before .before .before .before .before .before .before .before .args .tree .now) (c .before .before .before .before .before .before .before .before .before .before .before .before .before .before .before .before .before .before .args .at)) (c .before .before .before .before .before .before .before .before .before .before .before .before .before .before .before .before .before .before .args .s .counter) (stmt-told (c .before .before .before .before .before .before .before .before .before .before .before .before .before .before .before .before .before .before .args .list .now) (c .before .before .before .before .before .before .before .before .before .before .before .before .before .before .before .before .before .before .args .levels) (c .before .before .before .before .before .before .before .before .before .before .before .before .before .before .before .before .before .before .args .tree .now) (c .before .before .before .before .before .before .before .before .before .before .before .before .before .before .before .before .before .before .args .at) (c .before .before .before .before .before .before .before .before .before .before .before .before .before .is-overloaded .ensures)) (c .before .before .before .before .before .before .before .before .before .before .before .before .if1 .left) (is-made _ (told-in Made (mark-of (c .before .before .before .before .before .before .before .before .before .before .before .before .before .before .before .before .before .before .args .levels) (c .before .before .before .before .before .before .before .before .before .before .before .before .before .before .before .before .before .before .args .tree .now) (c .before .before .before .before .before .before .before .before .before .before .before .before .before .before .before .before .before .before .args .at) (c .before .before .before .before .before .before .before .before .before .before .before .mark-at .ensures .0)) (c .before .before .before .before .before .before .before .before .before .before .match .keys1)))) (c .before .next .given .1)
+returns-2 t c = stmt-some (c .before .before .before .before .before .before .before .before .before .before .before .before .before .before .before .before .before .before .before .args .list .now) (c .before .before .before .before .before .before .before .before .before .before .before .before .before .before .before .before .before .before .before .args .tree .now) (c .before .before .before .before .before .before .before .before .before .before .before .before .before .before .before .before .before .before .before .args .scope) (c .before .before .before .before .before .before .before .before .before .before .before .before .before .before .before .before .before .before .before .args .top) (c .before .before .before .before .before .before .before .before .before .before .before .before .before .before .before .before .before .before .before .args .levels) (c .before .before .before .before .before .before .before .before .before .before .before .before .before .before .before .before .before .before .before .args .at) (c .before .before .before .before .before .before .before .decl-to-type-decl .ensures) (stmt-made (c .before .before .before .before .before .before .before .before .before .before .before .before .before .before .before .before .before .before .before .args .list .now) (c .before .before .before .before .before .before .before .before .before .before .before .before .before .before .before .before .before .before .before .args .tree .now) (c .before .before .before .before .before .before .before .before .before .before .before .before .before .before .before .before .before .before .before .args .scope) (c .before .before .before .before .before .before .before .before .before .before .before .before .before .before .before .before .before .before .before .args .top) (treeAt (c .before .before .before .before .before .before .before .before .before .before .before .before .before .before .before .before .before .before .before .args .levels) (c .before .before .before .before .before .before .before .before .before .before .before .before .before .before .before .before .before .before .before .args .tree .now) (c .before .before .before .before .before .before .before .before .before .before .before .before .before .before .before .before .before .before .before .args .at)) (c .before .before .before .before .before .before .before .before .before .before .before .before .before .before .before .before .before .before .before .args .s .counter) (stmt-told (c .before .before .before .before .before .before .before .before .before .before .before .before .before .before .before .before .before .before .before .args .list .now) (c .before .before .before .before .before .before .before .before .before .before .before .before .before .before .before .before .before .before .before .args .levels) (c .before .before .before .before .before .before .before .before .before .before .before .before .before .before .before .before .before .before .before .args .tree .now) (c .before .before .before .before .before .before .before .before .before .before .before .before .before .before .before .before .before .before .before .args .at) (c .before .before .before .before .before .before .before .before .before .before .before .before .before .is-overloaded .ensures)) (c .before .before .before .before .before .before .before .before .before .before .before .before .if1 .left) (is-made _ (told-in Made (mark-of (c .before .before .before .before .before .before .before .before .before .before .before .before .before .before .before .before .before .before .before .args .levels) (c .before .before .before .before .before .before .before .before .before .before .before .before .before .before .before .before .before .before .before .args .tree .now) (c .before .before .before .before .before .before .before .before .before .before .before .before .before .before .before .before .before .before .before .args .at) (c .before .before .before .before .before .before .before .before .before .before .before .mark-at .ensures .0)) (c .before .before .before .before .before .before .before .before .before .before .match .keys1)))) (c .before .next .given .1)
 
 pub returns-3 : (t : ℕ) → transform-module-stmt-lts.Need-returns-3 (calls t) (transform-module-stmt-at t) transform-module-stmt.Post
-returns-3 t c = stmt-none (c .before .before .before .before .before .before .before .before .before .before .before .before .before .before .before .before .before .before .before .before .before .before .args .list .now) (c .before .before .before .before .before .before .before .before .before .before .before .before .before .before .before .before .before .before .before .before .before .before .args .tree .now) (c .before .before .before .before .before .before .before .before .before .before .before .before .before .before .before .before .before .before .before .before .before .before .args .scope) (c .before .before .before .before .before .before .before .before .before .before .before .before .before .before .before .before .before .before .before .before .before .before .args .top) (c .before .before .before .before .before .before .before .before .before .before .before .before .before .before .before .before .before .before .before .before .before .before .args .levels) (c .before .before .before .before .before .before .before .before .before .before .before .before .before .before .before .before .before .before .before .before .before .before .args .at) (c .before .before .before .before .before .before .before .before .before .before .before .decl-to-type-decl .ensures) (stmt-made (c .before .before .before .before .before .before .before .before .before .before .before .before .before .before .before .before .before .before .before .before .before .before .args .list .now) (c .before .before .before .before .before .before .before .before .before .before .before .before .before .before .before .before .before .before .before .before .before .before .args .tree .now) (c .before .before .before .before .before .before .before .before .before .before .before .before .before .before .before .before .before .before .before .before .before .before .args .scope) (c .before .before .before .before .before .before .before .before .before .before .before .before .before .before .before .before .before .before .before .before .before .before .args .top) (treeAt (c .before .before .before .before .before .before .before .before .before .before .before .before .before .before .before .before .before .before .before .before .before .before .args .levels) (c .before .before .before .before .before .before .before .before .before .before .before .before .before .before .before .before .before .before .before .before .before .before .args .tree .now) (c .before .before .before .before .before .before .before .before .before .before .before .before .before .before .before .before .before .before .before .before .before .before .args .at)) (c .before .before .before .before .before .before .before .before .before .before .before .before .before .before .before .before .before .before .before .before .before .before .args .s .counter) (stmt-told (c .before .before .before .before .before .before .before .before .before .before .before .before .before .before .before .before .before .before .before .before .before .before .args .list .now) (c .before .before .before .before .before .before .before .before .before .before .before .before .before .before .before .before .before .before .before .before .before .before .args .levels) (c .before .before .before .before .before .before .before .before .before .before .before .before .before .before .before .before .before .before .before .before .before .before .args .tree .now) (c .before .before .before .before .before .before .before .before .before .before .before .before .before .before .before .before .before .before .before .before .before .before .args .at) (c .before .before .before .before .before .before .before .before .before .before .before .before .before .before .before .before .before .is-overloaded .ensures)) (c .before .before .before .before .before .before .before .before .before .before .before .before .before .before .before .before .if1 .left) (is-made _ (told-in Made (mark-of (c .before .before .before .before .before .before .before .before .before .before .before .before .before .before .before .before .before .before .before .before .before .before .args .levels) (c .before .before .before .before .before .before .before .before .before .before .before .before .before .before .before .before .before .before .before .before .before .before .args .tree .now) (c .before .before .before .before .before .before .before .before .before .before .before .before .before .before .before .before .before .before .before .before .before .before .args .at) (c .before .before .before .before .before .before .before .before .before .before .before .before .before .before .before .mark-at .ensures .0)) (c .before .before .before .before .before .before .before .before .before .before .before .before .before .before .match .keys1)))) (c .before .before .before .before .before .failed .given .1) (c .before .before .skipped .ensures .0) (c .before .before .skipped .ensures .1)
+returns-3 t c = stmt-none (c .before .before .before .before .before .before .before .before .before .before .before .before .before .before .before .before .before .before .before .before .before .before .before .args .list .now) (c .before .before .before .before .before .before .before .before .before .before .before .before .before .before .before .before .before .before .before .before .before .before .before .args .tree .now) (c .before .before .before .before .before .before .before .before .before .before .before .before .before .before .before .before .before .before .before .before .before .before .before .args .scope) (c .before .before .before .before .before .before .before .before .before .before .before .before .before .before .before .before .before .before .before .before .before .before .before .args .top) (c .before .before .before .before .before .before .before .before .before .before .before .before .before .before .before .before .before .before .before .before .before .before .before .args .levels) (c .before .before .before .before .before .before .before .before .before .before .before .before .before .before .before .before .before .before .before .before .before .before .before .args .at) (c .before .before .before .before .before .before .before .before .before .before .before .decl-to-type-decl .ensures) (stmt-made (c .before .before .before .before .before .before .before .before .before .before .before .before .before .before .before .before .before .before .before .before .before .before .before .args .list .now) (c .before .before .before .before .before .before .before .before .before .before .before .before .before .before .before .before .before .before .before .before .before .before .before .args .tree .now) (c .before .before .before .before .before .before .before .before .before .before .before .before .before .before .before .before .before .before .before .before .before .before .before .args .scope) (c .before .before .before .before .before .before .before .before .before .before .before .before .before .before .before .before .before .before .before .before .before .before .before .args .top) (treeAt (c .before .before .before .before .before .before .before .before .before .before .before .before .before .before .before .before .before .before .before .before .before .before .before .args .levels) (c .before .before .before .before .before .before .before .before .before .before .before .before .before .before .before .before .before .before .before .before .before .before .before .args .tree .now) (c .before .before .before .before .before .before .before .before .before .before .before .before .before .before .before .before .before .before .before .before .before .before .before .args .at)) (c .before .before .before .before .before .before .before .before .before .before .before .before .before .before .before .before .before .before .before .before .before .before .before .args .s .counter) (stmt-told (c .before .before .before .before .before .before .before .before .before .before .before .before .before .before .before .before .before .before .before .before .before .before .before .args .list .now) (c .before .before .before .before .before .before .before .before .before .before .before .before .before .before .before .before .before .before .before .before .before .before .before .args .levels) (c .before .before .before .before .before .before .before .before .before .before .before .before .before .before .before .before .before .before .before .before .before .before .before .args .tree .now) (c .before .before .before .before .before .before .before .before .before .before .before .before .before .before .before .before .before .before .before .before .before .before .before .args .at) (c .before .before .before .before .before .before .before .before .before .before .before .before .before .before .before .before .before .is-overloaded .ensures)) (c .before .before .before .before .before .before .before .before .before .before .before .before .before .before .before .before .if1 .left) (is-made _ (told-in Made (mark-of (c .before .before .before .before .before .before .before .before .before .before .before .before .before .before .before .before .before .before .before .before .before .before .before .args .levels) (c .before .before .before .before .before .before .before .before .before .before .before .before .before .before .before .before .before .before .before .before .before .before .before .args .tree .now) (c .before .before .before .before .before .before .before .before .before .before .before .before .before .before .before .before .before .before .before .before .before .before .before .args .at) (c .before .before .before .before .before .before .before .before .before .before .before .before .before .before .before .mark-at .ensures .0)) (c .before .before .before .before .before .before .before .before .before .before .before .before .before .before .match .keys1)))) (c .before .before .before .before .before .failed .given .1) (c .before .before .skipped .ensures .0) (c .before .before .skipped .ensures .1)
 
 pub returns-4 : (t : ℕ) → transform-module-stmt-lts.Need-returns-4 (calls t) (transform-module-stmt-at t) transform-module-stmt.Post
-returns-4 t c = kept-gives _ (c .before .before .kept .ensures) (omega (arith, c .before .before .before .before .before .before .before .before .before .before .before .before .good)) (stmt-kept (c .before .before .before .before .before .before .before .before .before .before .before .before .args .list .now) (c .before .before .before .before .before .before .before .before .before .before .before .before .args .tree .now) (c .before .before .before .before .before .before .before .before .before .before .before .before .args .scope) (c .before .before .before .before .before .before .before .before .before .before .before .before .args .top) (treeAt (c .before .before .before .before .before .before .before .before .before .before .before .before .args .levels) (c .before .before .before .before .before .before .before .before .before .before .before .before .args .tree .now) (c .before .before .before .before .before .before .before .before .before .before .before .before .args .at)) (c .before .before .before .before .before .before .before .before .before .before .before .before .args .s .counter) (not-made _ (told-out Made (mark-of (c .before .before .before .before .before .before .before .before .before .before .before .before .args .levels) (c .before .before .before .before .before .before .before .before .before .before .before .before .args .tree .now) (c .before .before .before .before .before .before .before .before .before .before .before .before .args .at) (c .before .before .before .before .before .mark-at .ensures .0)) (c .before .before .before .before .match .rest .1))))
+returns-4 t c = kept-gives _ (c .before .before .kept .ensures) (omega (arith, c .before .before .before .before .before .before .before .before .before .before .before .before .before .good)) (stmt-kept (c .before .before .before .before .before .before .before .before .before .before .before .before .before .args .list .now) (c .before .before .before .before .before .before .before .before .before .before .before .before .before .args .tree .now) (c .before .before .before .before .before .before .before .before .before .before .before .before .before .args .scope) (c .before .before .before .before .before .before .before .before .before .before .before .before .before .args .top) (treeAt (c .before .before .before .before .before .before .before .before .before .before .before .before .before .args .levels) (c .before .before .before .before .before .before .before .before .before .before .before .before .before .args .tree .now) (c .before .before .before .before .before .before .before .before .before .before .before .before .before .args .at)) (c .before .before .before .before .before .before .before .before .before .before .before .before .before .args .s .counter) (not-made _ (told-out Made (mark-of (c .before .before .before .before .before .before .before .before .before .before .before .before .before .args .levels) (c .before .before .before .before .before .before .before .before .before .before .before .before .before .args .tree .now) (c .before .before .before .before .before .before .before .before .before .before .before .before .before .args .at) (c .before .before .before .before .before .mark-at .ensures .0)) (c .before .before .before .before .match .rest .1))))
 
 pub same-length : (t : ℕ) → transform-module-stmt-lts.Need-same-length (calls t) (transform-module-stmt-at t) transform-module-stmt.Post
 same-length t c = returns-2 t c .step .ran .out .same

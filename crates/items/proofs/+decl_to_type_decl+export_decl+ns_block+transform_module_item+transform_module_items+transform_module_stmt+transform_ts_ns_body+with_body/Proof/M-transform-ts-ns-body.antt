@@ -23,37 +23,37 @@ abbrev pub calls : ℕ → transform-ts-ns-body-lts.Claims
 calls t = (mark-at-reads.Asked, mark-at-reads.Learnt, ns-block-below t, ns-block.Post, body-at-reads.Asked, body-at-reads.Learnt, record-end-reads.Asked, record-end-reads.Learnt, transform-ts-ns-body-below t, transform-ts-ns-body.Post, keep-reads.Asked, keep-reads.Learnt)
 
 pub mark-at-requires : (t : ℕ) → transform-ts-ns-body-lts.Need-mark-at-requires (calls t) (transform-ts-ns-body-at t) transform-ts-ns-body.Post
-mark-at-requires t c κs = itself _ _ _ (c .before .before .before .before .pre .1 .accepted) .room
+mark-at-requires t c κs = itself _ _ _ (c .before .before .before .before .before .pre .1 .accepted) .room
 
 pub ns-block-requires : (t : ℕ) → transform-ts-ns-body-lts.Need-ns-block-requires (calls t) (transform-ts-ns-body-at t) transform-ts-ns-body.Post
-ns-block-requires t c κs = (omega (arith, c .before .before .before .before .before .before .before .before .pre .0), (c .before .before .before .before .before .before .before .before .pre .1, told (c .before .before .before .mark-at .ensures .0) (c .before .before .match .keys1)))
+ns-block-requires t c κs = (omega (arith, c .before .before .before .before .before .before .before .before .before .pre .0), (c .before .before .before .before .before .before .before .before .before .pre .1, told (c .before .before .before .mark-at .ensures .0) (c .before .before .match .keys1)))
 
 pub body-at-requires : (t : ℕ) → transform-ts-ns-body-lts.Need-body-at-requires (calls t) (transform-ts-ns-body-at t) transform-ts-ns-body.Post
-body-at-requires t c κs = itself _ _ _ (c .before .before .before .before .before .before .pre .1 .accepted) .room
+body-at-requires t c κs = itself _ _ _ (c .before .before .before .before .before .before .before .pre .1 .accepted) .room
 
 pub sub-record-end : (t : ℕ) → transform-ts-ns-body-lts.Need-sub-record-end (calls t) (transform-ts-ns-body-at t) transform-ts-ns-body.Post
-sub-record-end t c = omega (arith, some-left _ _ _ (c .before .before .before .before .before .before .before .pre .1 .accepted))
+sub-record-end t c = omega (arith, some-left _ _ _ (c .before .before .before .before .before .before .before .before .pre .1 .accepted))
 
 pub record-end-requires : (t : ℕ) → transform-ts-ns-body-lts.Need-record-end-requires (calls t) (transform-ts-ns-body-at t) transform-ts-ns-body.Post
-record-end-requires t c κs = is-whole _ _ _ (nd-kids _ _ _ (c .before .before .before .before .before .before .before .pre .1 .accepted) (told (c .before .before .mark-at .ensures .0) (c .before .match .keys2)) (c .body-at .ensures) refl refl .first)
+record-end-requires t c κs = is-whole _ _ _ (nd-kids _ _ _ (c .before .before .before .before .before .before .before .before .pre .1 .accepted) (told (c .before .before .mark-at .ensures .0) (c .before .match .keys2)) (c .body-at .ensures) refl refl .first)
 
 pub sub-transform-ts-ns-body : (t : ℕ) → transform-ts-ns-body-lts.Need-sub-transform-ts-ns-body (calls t) (transform-ts-ns-body-at t) transform-ts-ns-body.Post
-sub-transform-ts-ns-body t c = omega (arith, some-left _ _ _ (c .before .before .before .before .before .before .before .before .pre .1 .accepted))
+sub-transform-ts-ns-body t c = omega (arith, some-left _ _ _ (c .before .before .before .before .before .before .before .before .before .pre .1 .accepted))
 
 pub transform-ts-ns-body-requires : (t : ℕ) → transform-ts-ns-body-lts.Need-transform-ts-ns-body-requires (calls t) (transform-ts-ns-body-at t) transform-ts-ns-body.Post
-transform-ts-ns-body-requires t c κs = let u = nd-kids _ _ _ (c .before .before .before .before .before .before .before .before .before .before .pre .1 .accepted) (told (c .before .before .before .before .before .mark-at .ensures .0) (c .before .before .before .before .match .keys2)) (c .before .before .before .body-at .ensures) (c .before .before .record-end .ensures) refl in (omega (arith, some-left _ _ _ (c .before .before .before .before .before .before .before .before .before .before .pre .1 .accepted), c .before .before .before .before .before .before .before .before .before .before .pre .0), ready-kid (c .before .before .before .before .before .before .before .before .before .before .pre .1) (u .second) (u .low1) refl)
+transform-ts-ns-body-requires t c κs = let u = nd-kids _ _ _ (c .before .before .before .before .before .before .before .before .before .before .before .pre .1 .accepted) (told (c .before .before .before .before .before .mark-at .ensures .0) (c .before .before .before .before .match .keys2)) (c .before .before .before .body-at .ensures) (c .before .before .record-end .ensures) refl in (omega (arith, some-left _ _ _ (c .before .before .before .before .before .before .before .before .before .before .before .pre .1 .accepted), c .before .before .before .before .before .before .before .before .before .before .before .pre .0), ready-kid (c .before .before .before .before .before .before .before .before .before .before .before .pre .1) (u .second) (u .low1) refl)
 
 pub keep-requires : (t : ℕ) → transform-ts-ns-body-lts.Need-keep-requires (calls t) (transform-ts-ns-body-at t) transform-ts-ns-body.Post
-keep-requires t c κs = c .before .before .before .before .before .before .before .pre .1 .accepted
+keep-requires t c κs = c .before .before .before .before .before .before .before .before .pre .1 .accepted
 
 pub returns : (t : ℕ) → transform-ts-ns-body-lts.Need-returns (calls t) (transform-ts-ns-body-at t) transform-ts-ns-body.Post
 returns t c = c .before .before .before .before .ns-block .ensures
 
 pub returns-2 : (t : ℕ) → transform-ts-ns-body-lts.Need-returns-2 (calls t) (transform-ts-ns-body-at t) transform-ts-ns-body.Post
-returns-2 t c = makes-as (c .before .before .before .before .transform-ts-ns-body .ensures) (nested-is (c .before .before .before .before .before .before .before .before .before .before .before .before .before .before .before .args .list .now) (c .before .before .before .before .before .before .before .before .before .before .before .before .before .before .before .args .tree .now) (c .before .before .before .before .before .before .before .before .before .before .before .before .before .before .before .args .scope) (c .before .before .before .before .before .before .before .before .before .before .before .before .before .before .before .args .levels) (c .before .before .before .before .before .before .before .before .before .before .before .before .before .before .before .args .at) (nd-kids _ _ _ (c .before .before .before .before .before .before .before .before .before .before .before .before .before .before .before .pre .1 .accepted) (told (c .before .before .before .before .before .before .before .before .before .before .mark-at .ensures .0) (c .before .before .before .before .before .before .before .before .before .match .keys2)) (c .before .before .before .before .before .before .before .before .body-at .ensures) (c .before .before .before .before .before .before .before .record-end .ensures) refl) (c .before .before .before .before .before .before .before .before .before .before .before .before .before .before .before .args .s .counter) (told (c .before .before .before .before .before .before .before .before .before .before .mark-at .ensures .0) (c .before .before .before .before .before .before .before .before .before .match .keys2)))
+returns-2 t c = makes-as (c .before .before .before .before .transform-ts-ns-body .ensures) (nested-is (c .before .before .before .before .before .before .before .before .before .before .before .before .before .before .before .before .args .list .now) (c .before .before .before .before .before .before .before .before .before .before .before .before .before .before .before .before .args .tree .now) (c .before .before .before .before .before .before .before .before .before .before .before .before .before .before .before .before .args .scope) (c .before .before .before .before .before .before .before .before .before .before .before .before .before .before .before .before .args .levels) (c .before .before .before .before .before .before .before .before .before .before .before .before .before .before .before .before .args .at) (nd-kids _ _ _ (c .before .before .before .before .before .before .before .before .before .before .before .before .before .before .before .before .pre .1 .accepted) (told (c .before .before .before .before .before .before .before .before .before .before .mark-at .ensures .0) (c .before .before .before .before .before .before .before .before .before .match .keys2)) (c .before .before .before .before .before .before .before .before .body-at .ensures) (c .before .before .before .before .before .before .before .record-end .ensures) refl) (c .before .before .before .before .before .before .before .before .before .before .before .before .before .before .before .before .args .s .counter) (told (c .before .before .before .before .before .before .before .before .before .before .mark-at .ensures .0) (c .before .before .before .before .before .before .before .before .before .match .keys2)))
 
 pub returns-3 : (t : ℕ) → transform-ts-ns-body-lts.Need-returns-3 (calls t) (transform-ts-ns-body-at t) transform-ts-ns-body.Post
-returns-3 t c = makes-as (makes-keeps _ (c .before .before .keep .ensures) (omega (arith, c .before .before .before .before .before .before .before .before .before .before .good))) (body-other (c .before .before .before .before .before .before .before .before .before .before .args .list .now) (c .before .before .before .before .before .before .before .before .before .before .args .tree .now) (c .before .before .before .before .before .before .before .before .before .before .args .scope) (treeAt (c .before .before .before .before .before .before .before .before .before .before .args .levels) (c .before .before .before .before .before .before .before .before .before .before .args .tree .now) (c .before .before .before .before .before .before .before .before .before .before .args .at)) (c .before .before .before .before .before .before .before .before .before .before .args .s .counter) (told-not (mark-of (c .before .before .before .before .before .before .before .before .before .before .args .levels) (c .before .before .before .before .before .before .before .before .before .before .args .tree .now) (c .before .before .before .before .before .before .before .before .before .before .args .at) (c .before .before .before .before .before .mark-at .ensures .0)) (c .before .before .before .before .match .rest .0 .1)) (told-not (mark-of (c .before .before .before .before .before .before .before .before .before .before .args .levels) (c .before .before .before .before .before .before .before .before .before .before .args .tree .now) (c .before .before .before .before .before .before .before .before .before .before .args .at) (c .before .before .before .before .before .mark-at .ensures .0)) (c .before .before .before .before .match .rest .1)))
+returns-3 t c = makes-as (makes-keeps _ (c .before .before .keep .ensures) (omega (arith, c .before .before .before .before .before .before .before .before .before .before .before .good))) (body-other (c .before .before .before .before .before .before .before .before .before .before .before .args .list .now) (c .before .before .before .before .before .before .before .before .before .before .before .args .tree .now) (c .before .before .before .before .before .before .before .before .before .before .before .args .scope) (treeAt (c .before .before .before .before .before .before .before .before .before .before .before .args .levels) (c .before .before .before .before .before .before .before .before .before .before .before .args .tree .now) (c .before .before .before .before .before .before .before .before .before .before .before .args .at)) (c .before .before .before .before .before .before .before .before .before .before .before .args .s .counter) (told-not (mark-of (c .before .before .before .before .before .before .before .before .before .before .before .args .levels) (c .before .before .before .before .before .before .before .before .before .before .before .args .tree .now) (c .before .before .before .before .before .before .before .before .before .before .before .args .at) (c .before .before .before .before .before .mark-at .ensures .0)) (c .before .before .before .before .match .rest .0 .1)) (told-not (mark-of (c .before .before .before .before .before .before .before .before .before .before .before .args .levels) (c .before .before .before .before .before .before .before .before .before .before .before .args .tree .now) (c .before .before .before .before .before .before .before .before .before .before .before .args .at) (c .before .before .before .before .before .mark-at .ensures .0)) (c .before .before .before .before .match .rest .1)))
 
 pub same-length : (t : ℕ) → transform-ts-ns-body-lts.Need-same-length (calls t) (transform-ts-ns-body-at t) transform-ts-ns-body.Post
 same-length t c = returns t c .step .ran .out .same

@@ -27,46 +27,46 @@ use Rattle.records.proofs.read_head.Reads as read-head-reads
 use Rattle.records.proofs.record_end.Reads as record-end-reads
 
 read-head-requires : tie.Need-read-head-requires
-read-head-requires c κs = itself _ _ _ (c .before .before .before .pre .0 .accepted) .room
+read-head-requires c κs = itself _ _ _ (c .before .before .before .before .pre .0 .accepted) .room
 
 body-at-requires : tie.Need-body-at-requires
-body-at-requires c κs = itself _ _ _ (c .before .before .before .before .pre .0 .accepted) .room
+body-at-requires c κs = itself _ _ _ (c .before .before .before .before .before .pre .0 .accepted) .room
 
 sub-record-end : tie.Need-sub-record-end
-sub-record-end c = omega (arith, some-left _ _ _ (c .before .before .before .before .before .pre .0 .accepted))
+sub-record-end c = omega (arith, some-left _ _ _ (c .before .before .before .before .before .before .pre .0 .accepted))
 
 record-end-requires : tie.Need-record-end-requires
-record-end-requires c κs = is-whole _ _ _ (fd-kids _ _ _ (c .before .before .before .before .before .pre .0 .accepted) (c .before .before .before .before .before .pre .1) (c .body-at .ensures) refl refl .first)
+record-end-requires c κs = is-whole _ _ _ (fd-kids _ _ _ (c .before .before .before .before .before .before .pre .0 .accepted) (c .before .before .before .before .before .before .pre .1) (c .body-at .ensures) refl refl .first)
 
 sub-record-end-2 : tie.Need-sub-record-end-2
-sub-record-end-2 c = omega (arith, some-left _ _ _ (c .before .before .before .before .before .before .pre .0 .accepted))
+sub-record-end-2 c = omega (arith, some-left _ _ _ (c .before .before .before .before .before .before .before .pre .0 .accepted))
 
 record-end-requires-2 : tie.Need-record-end-requires-2
-record-end-requires-2 c κs = is-whole _ _ _ (fd-kids _ _ _ (c .before .before .before .before .before .before .pre .0 .accepted) (c .before .before .before .before .before .before .pre .1) (c .before .body-at .ensures) (c .record-end .ensures) refl .second)
+record-end-requires-2 c κs = is-whole _ _ _ (fd-kids _ _ _ (c .before .before .before .before .before .before .before .pre .0 .accepted) (c .before .before .before .before .before .before .before .pre .1) (c .before .body-at .ensures) (c .record-end .ensures) refl .second)
 
 put-front-requires : tie.Need-put-front-requires
-put-front-requires c κs = c .before .before .before .before .before .before .before .before .pre .0 .accepted
+put-front-requires c κs = c .before .before .before .before .before .before .before .before .before .pre .0 .accepted
 
 sub-keep : tie.Need-sub-keep
-sub-keep c = omega (arith, some-left _ _ _ (c .before .before .before .before .before .before .before .before .before .before .before .pre .0 .accepted))
+sub-keep c = omega (arith, some-left _ _ _ (c .before .before .before .before .before .before .before .before .before .before .before .before .pre .0 .accepted))
 
 keep-requires : tie.Need-keep-requires
-keep-requires c κs = fd-kids _ _ _ (c .before .before .before .before .before .before .before .before .before .before .before .before .pre .0 .accepted) (c .before .before .before .before .before .before .before .before .before .before .before .before .pre .1) (c .before .before .before .before .before .before .before .body-at .ensures) refl refl .first
+keep-requires c κs = fd-kids _ _ _ (c .before .before .before .before .before .before .before .before .before .before .before .before .before .pre .0 .accepted) (c .before .before .before .before .before .before .before .before .before .before .before .before .before .pre .1) (c .before .before .before .before .before .before .before .body-at .ensures) refl refl .first
 
 sub-handle-function : tie.Need-sub-handle-function
-sub-handle-function c = omega (arith, some-left _ _ _ (c .before .before .before .before .before .before .before .before .before .before .before .before .before .before .before .pre .0 .accepted))
+sub-handle-function c = omega (arith, some-left _ _ _ (c .before .before .before .before .before .before .before .before .before .before .before .before .before .before .before .before .pre .0 .accepted))
 
 handle-function-requires : tie.Need-handle-function-requires
-handle-function-requires c κs = let u = fd-kids _ _ _ (c .before .before .before .before .before .before .before .before .before .before .before .before .before .before .before .before .before .pre .0 .accepted) (c .before .before .before .before .before .before .before .before .before .before .before .before .before .before .before .before .before .pre .1) (c .before .before .before .before .before .before .before .before .before .before .before .before .body-at .ensures) (c .before .before .before .before .before .before .before .before .before .before .before .record-end .ensures) refl in (ready-kid (c .before .before .before .before .before .before .before .before .before .before .before .before .before .before .before .before .before .pre .0) (u .second) (u .low1) (puts-counter (c .before .before .before .before .keep .ensures) ∙ puts-counter (c .before .before .before .before .before .before .before .before .put-front .ensures)), fd-fu _ _ _ (c .before .before .before .before .before .before .before .before .before .before .before .before .before .before .before .before .before .pre .0 .accepted) (c .before .before .before .before .before .before .before .before .before .before .before .before .before .before .before .before .before .pre .1) (c .before .before .before .before .before .before .before .before .before .before .before .before .body-at .ensures) (c .before .before .before .before .before .before .before .before .before .before .before .record-end .ensures))
+handle-function-requires c κs = let u = fd-kids _ _ _ (c .before .before .before .before .before .before .before .before .before .before .before .before .before .before .before .before .before .before .pre .0 .accepted) (c .before .before .before .before .before .before .before .before .before .before .before .before .before .before .before .before .before .before .pre .1) (c .before .before .before .before .before .before .before .before .before .before .before .before .body-at .ensures) (c .before .before .before .before .before .before .before .before .before .before .before .record-end .ensures) refl in (ready-kid (c .before .before .before .before .before .before .before .before .before .before .before .before .before .before .before .before .before .before .pre .0) (u .second) (u .low1) (puts-counter (c .before .before .before .before .keep .ensures) ∙ puts-counter (c .before .before .before .before .before .before .before .before .put-front .ensures)), fd-fu _ _ _ (c .before .before .before .before .before .before .before .before .before .before .before .before .before .before .before .before .before .before .pre .0 .accepted) (c .before .before .before .before .before .before .before .before .before .before .before .before .before .before .before .before .before .before .pre .1) (c .before .before .before .before .before .before .before .before .before .before .before .before .body-at .ensures) (c .before .before .before .before .before .before .before .before .before .before .before .record-end .ensures))
 
 sub-keep-all : tie.Need-sub-keep-all
-sub-keep-all c = omega (arith, count-as (c .before .before .before .before .before .before .before .before .before .before .before .before .before .before .before .before .before .before .before .before .before .before .before .args .tree .now) (c .before .before .before .before .before .before .before .before .before .before .before .before .before .before .before .before .before .before .before .before .before .before .before .args .at) (c .before .before .before .before .before .before .before .before .before .before .before .before .before .before .before .before .before .before .before .read-head .ensures), has (mark "Fd") _ _ _ (c .before .before .before .before .before .before .before .before .before .before .before .before .before .before .before .before .before .before .before .before .before .before .before .pre .0 .accepted) (c .before .before .before .before .before .before .before .before .before .before .before .before .before .before .before .before .before .before .before .before .before .before .before .pre .1))
+sub-keep-all c = omega (arith, count-as (c .before .before .before .before .before .before .before .before .before .before .before .before .before .before .before .before .before .before .before .before .before .before .before .before .args .tree .now) (c .before .before .before .before .before .before .before .before .before .before .before .before .before .before .before .before .before .before .before .before .before .before .before .before .args .at) (c .before .before .before .before .before .before .before .before .before .before .before .before .before .before .before .before .before .before .before .read-head .ensures), has (mark "Fd") _ _ _ (c .before .before .before .before .before .before .before .before .before .before .before .before .before .before .before .before .before .before .before .before .before .before .before .before .pre .0 .accepted) (c .before .before .before .before .before .before .before .before .before .before .before .before .before .before .before .before .before .before .before .before .before .before .before .before .pre .1))
 
 sub-keep-all-2 : tie.Need-sub-keep-all-2
-sub-keep-all-2 c = omega (arith, some-left _ _ _ (c .before .before .before .before .before .before .before .before .before .before .before .before .before .before .before .before .before .before .before .before .before .before .before .pre .0 .accepted))
+sub-keep-all-2 c = omega (arith, some-left _ _ _ (c .before .before .before .before .before .before .before .before .before .before .before .before .before .before .before .before .before .before .before .before .before .before .before .before .pre .0 .accepted))
 
 keep-all-requires : tie.Need-keep-all-requires
-keep-all-requires c κs = others-two (fd-kids _ _ _ (c .before .before .before .before .before .before .before .before .before .before .before .before .before .before .before .before .before .before .before .before .before .before .before .before .pre .0 .accepted) (c .before .before .before .before .before .before .before .before .before .before .before .before .before .before .before .before .before .before .before .before .before .before .before .before .pre .1) (c .before .before .before .before .before .before .before .before .before .before .before .before .before .before .before .before .before .before .before .body-at .ensures) (c .before .before .before .before .before .before .before .before .before .before .before .before .before .before .before .before .before .before .record-end .ensures) (c .before .before .before .before .before .before .before .before .before .before .before .before .before .before .before .before .before .record-end2 .ensures)) (c .before .before .before .before .before .before .before .before .before .before .before .before .before .before .before .before .before .before .before .before .read-head .ensures)
+keep-all-requires c κs = others-two (fd-kids _ _ _ (c .before .before .before .before .before .before .before .before .before .before .before .before .before .before .before .before .before .before .before .before .before .before .before .before .before .pre .0 .accepted) (c .before .before .before .before .before .before .before .before .before .before .before .before .before .before .before .before .before .before .before .before .before .before .before .before .before .pre .1) (c .before .before .before .before .before .before .before .before .before .before .before .before .before .before .before .before .before .before .before .body-at .ensures) (c .before .before .before .before .before .before .before .before .before .before .before .before .before .before .before .before .before .before .record-end .ensures) (c .before .before .before .before .before .before .before .before .before .before .before .before .before .before .before .before .before .record-end2 .ensures)) (c .before .before .before .before .before .before .before .before .before .before .before .before .before .before .before .before .before .before .before .before .read-head .ensures)
 
 same-length : tie.Need-same-length
 same-length c = search needs
@@ -75,7 +75,7 @@ same-length-2 : tie.Need-same-length-2
 same-length-2 c = search needs
 
 returns : tie.Need-returns
-returns c = flagged-second _ _ _ (c .before .before .before .before .before .before .before .before .before .before .before .before .before .before .before .before .before .before .before .before .before .before .before .before .before .before .before .pre .0 .accepted) (c .before .before .before .before .before .before .before .before .before .before .before .before .before .before .before .before .before .before .before .before .before .before .before .before .before .before .shared-slice-known .given) (handleFunction (typingOf (c .before .before .before .before .before .before .before .before .before .before .before .before .before .before .before .before .before .before .before .before .before .before .before .before .before .before .before .args .tree .now) (c .before .before .before .before .before .before .before .before .before .before .before .before .before .before .before .before .before .before .before .before .before .before .before .before .before .before .before .args .scope)) false) (c .before .before .before .before .before .before .before .before .before .before .before .before .before .before .before .before .before .before .before .before .before .before .before .before .before .before .before .args .flags) (fd-kids _ _ _ (c .before .before .before .before .before .before .before .before .before .before .before .before .before .before .before .before .before .before .before .before .before .before .before .before .before .before .before .pre .0 .accepted) (c .before .before .before .before .before .before .before .before .before .before .before .before .before .before .before .before .before .before .before .before .before .before .before .before .before .before .before .pre .1) (c .before .before .before .before .before .before .before .before .before .before .before .before .before .before .before .before .before .before .before .before .before .before .body-at .ensures) (c .before .before .before .before .before .before .before .before .before .before .before .before .before .before .before .before .before .before .before .before .before .record-end .ensures) (c .before .before .before .before .before .before .before .before .before .before .before .before .before .before .before .before .before .before .before .before .record-end2 .ensures)) (omega (arith, c .before .before .before .before .before .before .before .before .before .before .before .before .before .before .before .before .before .before .before .before .before .before .before .before .before .before .before .good)) (c .before .before .before .before .before .before .before .before .before .before .before .before .before .before .before .before .before .before .before .before .before .before .before .read-head .ensures) (c .before .before .before .before .before .before .before .before .before .before .before .before .before .before .before .before .before .before .put-front .ensures) (c .before .before .before .before .before .before .before .before .before .before .before .before .before .before .keep .ensures) (c .before .before .before .before .before .before .before .before .before .handle-function .ensures) (c .before .before .keep-all .ensures)
+returns c = flagged-second _ _ _ (c .before .before .before .before .before .before .before .before .before .before .before .before .before .before .before .before .before .before .before .before .before .before .before .before .before .before .before .before .pre .0 .accepted) (c .before .before .before .before .before .before .before .before .before .before .before .before .before .before .before .before .before .before .before .before .before .before .before .before .before .before .before .shared-slice-known .given) (handleFunction (typingOf (c .before .before .before .before .before .before .before .before .before .before .before .before .before .before .before .before .before .before .before .before .before .before .before .before .before .before .before .before .args .tree .now) (c .before .before .before .before .before .before .before .before .before .before .before .before .before .before .before .before .before .before .before .before .before .before .before .before .before .before .before .before .args .scope)) false) (c .before .before .before .before .before .before .before .before .before .before .before .before .before .before .before .before .before .before .before .before .before .before .before .before .before .before .before .before .args .flags) (fd-kids _ _ _ (c .before .before .before .before .before .before .before .before .before .before .before .before .before .before .before .before .before .before .before .before .before .before .before .before .before .before .before .before .pre .0 .accepted) (c .before .before .before .before .before .before .before .before .before .before .before .before .before .before .before .before .before .before .before .before .before .before .before .before .before .before .before .before .pre .1) (c .before .before .before .before .before .before .before .before .before .before .before .before .before .before .before .before .before .before .before .before .before .before .body-at .ensures) (c .before .before .before .before .before .before .before .before .before .before .before .before .before .before .before .before .before .before .before .before .before .record-end .ensures) (c .before .before .before .before .before .before .before .before .before .before .before .before .before .before .before .before .before .before .before .before .record-end2 .ensures)) (omega (arith, c .before .before .before .before .before .before .before .before .before .before .before .before .before .before .before .before .before .before .before .before .before .before .before .before .before .before .before .before .good)) (c .before .before .before .before .before .before .before .before .before .before .before .before .before .before .before .before .before .before .before .before .before .before .before .read-head .ensures) (c .before .before .before .before .before .before .before .before .before .before .before .before .before .before .before .before .before .before .put-front .ensures) (c .before .before .before .before .before .before .before .before .before .before .before .before .before .before .keep .ensures) (c .before .before .before .before .before .before .before .before .before .handle-function .ensures) (c .before .before .keep-all .ensures)
 
 pub with-function-spec : {M : Type 1} → statement M
 with-function-spec =

@@ -24,10 +24,10 @@ pub is-readonly-requires : (t : ℕ) → array-type-lts.Need-is-readonly-require
 is-readonly-requires t c κs = search needs
 
 pub tuple-type-requires : (t : ℕ) → array-type-lts.Need-tuple-type-requires (calls t) (array-type-at t) array-type.Post
-tuple-type-requires t c κs = (omega (arith, c .before .before .before .before .before .before .before .pre .0), c .before .before .before .before .before .before .before .pre .1 .0)
+tuple-type-requires t c κs = (omega (arith, c .before .before .before .before .before .before .before .before .pre .0), c .before .before .before .before .before .before .before .before .pre .1 .0)
 
 pub returns : (t : ℕ) → array-type-lts.Need-returns (calls t) (array-type-at t) array-type.Post
-returns t c = did-as (c .before .before .before .before .tuple-type .ensures) (array-plain (c .before .before .before .before .before .before .before .before .before .before .before .before .args .tree .now) (c .before .before .before .before .before .before .before .before .before .before .before .before .args .mode) (c .before .before .before .before .before .before .before .before .before .before .before .before .args .levels) (c .before .before .before .before .before .before .before .before .before .before .before .before .args .at) (c .before .before .before .before .before .before .before .before .before .before .before .before .args .s .counter) (c .before .before .before .before .before .before .before .before .before .before .before .before .pre .1 .1) (sym (c .before .before .before .before .before .before .before .before .is-readonly .ensures) ∙ not-true _ (c .before .before .before .before .before .before .before .if1 .taken)))
+returns t c = did-as (c .before .before .before .before .tuple-type .ensures) (array-plain (c .before .before .before .before .before .before .before .before .before .before .before .before .before .args .tree .now) (c .before .before .before .before .before .before .before .before .before .before .before .before .before .args .mode) (c .before .before .before .before .before .before .before .before .before .before .before .before .before .args .levels) (c .before .before .before .before .before .before .before .before .before .before .before .before .before .args .at) (c .before .before .before .before .before .before .before .before .before .before .before .before .before .args .s .counter) (c .before .before .before .before .before .before .before .before .before .before .before .before .before .pre .1 .1) (sym (c .before .before .before .before .before .before .before .before .is-readonly .ensures) ∙ not-true _ (c .before .before .before .before .before .before .before .if1 .taken)))
 
 pub same-length : (t : ℕ) → array-type-lts.Need-same-length (calls t) (array-type-at t) array-type.Post
 same-length t c = returns t c .step .ran .out .same
@@ -39,7 +39,7 @@ pub ts-readonly-requires : (t : ℕ) → array-type-lts.Need-ts-readonly-require
 ts-readonly-requires t c κs = search needs
 
 pub tuple-type-requires-2 : (t : ℕ) → array-type-lts.Need-tuple-type-requires-2 (calls t) (array-type-at t) array-type.Post
-tuple-type-requires-2 t c κs = (omega (arith, c .before .before .before .before .before .before .before .before .before .before .before .pre .0), c .before .before .before .before .before .before .before .before .before .before .before .pre .1 .0)
+tuple-type-requires-2 t c κs = (omega (arith, c .before .before .before .before .before .before .before .before .before .before .before .before .pre .0), c .before .before .before .before .before .before .before .before .before .before .before .before .pre .1 .0)
 
 pub enum-known-made : (t : ℕ) → array-type-lts.Need-enum-known-made (calls t) (array-type-at t) array-type.Post
 enum-known-made t c = search needs
@@ -51,7 +51,7 @@ pub back-requires : (t : ℕ) → array-type-lts.Need-back-requires (calls t) (a
 back-requires t c κs = search needs
 
 pub returns-2 : (t : ℕ) → array-type-lts.Need-returns-2 (calls t) (array-type-at t) array-type.Post
-returns-2 t c = did-as (wrap-some (tsReadonly dummySp) (step-put _ (c .before .before .before .before .before .before .before .before .before .before .before .before .before .before .before .before .before .before .before .args .s) (c .before .before .before .before .before .before .before .before .before .before .before .before .ts-readonly .ensures) (omega (arith, c .before .before .before .before .before .before .before .before .before .before .before .before .before .before .before .before .before .before .before .good))) readonly-front (is-some (c .before .before .before .before .before .before .before .tuple-type2 .ensures) (c .before .made .given .1))) (array-readonly (c .before .before .before .before .before .before .before .before .before .before .before .before .before .before .before .before .before .before .before .args .tree .now) (c .before .before .before .before .before .before .before .before .before .before .before .before .before .before .before .before .before .before .before .args .mode) (c .before .before .before .before .before .before .before .before .before .before .before .before .before .before .before .before .before .before .before .args .levels) (c .before .before .before .before .before .before .before .before .before .before .before .before .before .before .before .before .before .before .before .args .at) (c .before .before .before .before .before .before .before .before .before .before .before .before .before .before .before .before .before .before .before .args .s .counter) (c .before .before .before .before .before .before .before .before .before .before .before .before .before .before .before .before .before .before .before .pre .1 .1) (sym (c .before .before .before .before .before .before .before .before .before .before .before .before .before .before .before .is-readonly .ensures) ∙ not-false _ (c .before .before .before .before .before .before .before .before .before .before .before .before .before .before .if1 .left)))
+returns-2 t c = did-as (wrap-some (tsReadonly dummySp) (step-put _ (c .before .before .before .before .before .before .before .before .before .before .before .before .before .before .before .before .before .before .before .before .args .s) (c .before .before .before .before .before .before .before .before .before .before .before .before .ts-readonly .ensures) (omega (arith, c .before .before .before .before .before .before .before .before .before .before .before .before .before .before .before .before .before .before .before .before .good))) readonly-front (is-some (c .before .before .before .before .before .before .before .tuple-type2 .ensures) (c .before .made .given .1))) (array-readonly (c .before .before .before .before .before .before .before .before .before .before .before .before .before .before .before .before .before .before .before .before .args .tree .now) (c .before .before .before .before .before .before .before .before .before .before .before .before .before .before .before .before .before .before .before .before .args .mode) (c .before .before .before .before .before .before .before .before .before .before .before .before .before .before .before .before .before .before .before .before .args .levels) (c .before .before .before .before .before .before .before .before .before .before .before .before .before .before .before .before .before .before .before .before .args .at) (c .before .before .before .before .before .before .before .before .before .before .before .before .before .before .before .before .before .before .before .before .args .s .counter) (c .before .before .before .before .before .before .before .before .before .before .before .before .before .before .before .before .before .before .before .before .pre .1 .1) (sym (c .before .before .before .before .before .before .before .before .before .before .before .before .before .before .before .is-readonly .ensures) ∙ not-false _ (c .before .before .before .before .before .before .before .before .before .before .before .before .before .before .if1 .left)))
 
 pub same-length-3 : (t : ℕ) → array-type-lts.Need-same-length-3 (calls t) (array-type-at t) array-type.Post
 same-length-3 t c = returns-2 t c .step .ran .out .same
@@ -60,7 +60,7 @@ pub same-length-4 : (t : ℕ) → array-type-lts.Need-same-length-4 (calls t) (a
 same-length-4 t c = returns-2 t c .step .ran .dia .same
 
 pub returns-3 : (t : ℕ) → array-type-lts.Need-returns-3 (calls t) (array-type-at t) array-type.Post
-returns-3 t c = did-as (did-at (c .back .ensures) (wrap-none (tsReadonly dummySp) (step-put _ (c .before .before .before .before .before .before .before .before .before .before .before .before .before .before .before .before .before .before .before .before .args .s) (c .before .before .before .before .before .before .before .before .before .before .before .before .before .ts-readonly .ensures) (omega (arith, c .before .before .before .before .before .before .before .before .before .before .before .before .before .before .before .before .before .before .before .before .good))) (omega (arith, c .before .before .before .before .before .before .before .before .before .before .before .before .before .before .before .before .before .before .before .before .good)) (is-none (c .before .before .before .before .before .before .before .before .tuple-type2 .ensures) (c .before .before .failed .given .1)))) (array-readonly (c .before .before .before .before .before .before .before .before .before .before .before .before .before .before .before .before .before .before .before .before .args .tree .now) (c .before .before .before .before .before .before .before .before .before .before .before .before .before .before .before .before .before .before .before .before .args .mode) (c .before .before .before .before .before .before .before .before .before .before .before .before .before .before .before .before .before .before .before .before .args .levels) (c .before .before .before .before .before .before .before .before .before .before .before .before .before .before .before .before .before .before .before .before .args .at) (c .before .before .before .before .before .before .before .before .before .before .before .before .before .before .before .before .before .before .before .before .args .s .counter) (c .before .before .before .before .before .before .before .before .before .before .before .before .before .before .before .before .before .before .before .before .pre .1 .1) (sym (c .before .before .before .before .before .before .before .before .before .before .before .before .before .before .before .before .is-readonly .ensures) ∙ not-false _ (c .before .before .before .before .before .before .before .before .before .before .before .before .before .before .before .if1 .left)))
+returns-3 t c = did-as (did-at (c .back .ensures) (wrap-none (tsReadonly dummySp) (step-put _ (c .before .before .before .before .before .before .before .before .before .before .before .before .before .before .before .before .before .before .before .before .before .args .s) (c .before .before .before .before .before .before .before .before .before .before .before .before .before .ts-readonly .ensures) (omega (arith, c .before .before .before .before .before .before .before .before .before .before .before .before .before .before .before .before .before .before .before .before .before .good))) (omega (arith, c .before .before .before .before .before .before .before .before .before .before .before .before .before .before .before .before .before .before .before .before .before .good)) (is-none (c .before .before .before .before .before .before .before .before .tuple-type2 .ensures) (c .before .before .failed .given .1)))) (array-readonly (c .before .before .before .before .before .before .before .before .before .before .before .before .before .before .before .before .before .before .before .before .before .args .tree .now) (c .before .before .before .before .before .before .before .before .before .before .before .before .before .before .before .before .before .before .before .before .before .args .mode) (c .before .before .before .before .before .before .before .before .before .before .before .before .before .before .before .before .before .before .before .before .before .args .levels) (c .before .before .before .before .before .before .before .before .before .before .before .before .before .before .before .before .before .before .before .before .before .args .at) (c .before .before .before .before .before .before .before .before .before .before .before .before .before .before .before .before .before .before .before .before .before .args .s .counter) (c .before .before .before .before .before .before .before .before .before .before .before .before .before .before .before .before .before .before .before .before .before .pre .1 .1) (sym (c .before .before .before .before .before .before .before .before .before .before .before .before .before .before .before .before .is-readonly .ensures) ∙ not-false _ (c .before .before .before .before .before .before .before .before .before .before .before .before .before .before .before .if1 .left)))
 
 pub same-length-5 : (t : ℕ) → array-type-lts.Need-same-length-5 (calls t) (array-type-at t) array-type.Post
 same-length-5 t c = returns-3 t c .step .ran .out .same

@@ -32,53 +32,53 @@ abbrev pub calls : ℕ → expr-to-ts-type-lts.Claims
 calls t = (mark-at-reads.Asked, mark-at-reads.Learnt, array-type-below t, array-type.Post, object-type-below t, object-type.Post, body-at-reads.Asked, body-at-reads.Learnt, expr-to-ts-type-below t, expr-to-ts-type.Post, as-type-reads.Asked, as-type-reads.Learnt, child-at-reads.Asked, child-at-reads.Learnt, function-type-below t, function-type.Post, call-type-below t, call-type.Post, leaf-type-reads.Asked, leaf-type-reads.Learnt, answer-of-reads.Asked, answer-of-reads.Learnt)
 
 pub mark-at-requires : (t : ℕ) → expr-to-ts-type-lts.Need-mark-at-requires (calls t) (expr-to-ts-type-at t) expr-to-ts-type.Post
-mark-at-requires t c κs = itself _ _ _ (c .before .before .before .pre .1 .accepted) .room
+mark-at-requires t c κs = itself _ _ _ (c .before .before .before .before .pre .1 .accepted) .room
 
 pub array-type-requires : (t : ℕ) → expr-to-ts-type-lts.Need-array-type-requires (calls t) (expr-to-ts-type-at t) expr-to-ts-type.Post
-array-type-requires t c κs = (omega (arith, c .before .before .before .before .before .before .before .pre .0), (c .before .before .before .before .before .before .before .pre .1, (sym (c .before .before .before .mark-at .ensures .0) ∙ c .before .before .match .keys1)))
+array-type-requires t c κs = (omega (arith, c .before .before .before .before .before .before .before .before .pre .0), (c .before .before .before .before .before .before .before .before .pre .1, (sym (c .before .before .before .mark-at .ensures .0) ∙ c .before .before .match .keys1)))
 
 pub object-type-requires : (t : ℕ) → expr-to-ts-type-lts.Need-object-type-requires (calls t) (expr-to-ts-type-at t) expr-to-ts-type.Post
-object-type-requires t c κs = (omega (arith, c .before .before .before .before .before .before .before .pre .0), (c .before .before .before .before .before .before .before .pre .1, (sym (c .before .before .before .mark-at .ensures .0) ∙ c .before .before .match .keys2)))
+object-type-requires t c κs = (omega (arith, c .before .before .before .before .before .before .before .before .pre .0), (c .before .before .before .before .before .before .before .before .pre .1, (sym (c .before .before .before .mark-at .ensures .0) ∙ c .before .before .match .keys2)))
 
 pub body-at-requires : (t : ℕ) → expr-to-ts-type-lts.Need-body-at-requires (calls t) (expr-to-ts-type-at t) expr-to-ts-type.Post
-body-at-requires t c κs = itself _ _ _ (c .before .before .before .before .before .pre .1 .accepted) .room
+body-at-requires t c κs = itself _ _ _ (c .before .before .before .before .before .before .pre .1 .accepted) .room
 
 pub sub-expr-to-ts-type : (t : ℕ) → expr-to-ts-type-lts.Need-sub-expr-to-ts-type (calls t) (expr-to-ts-type-at t) expr-to-ts-type.Post
-sub-expr-to-ts-type t c = omega (arith, some-left _ _ _ (c .before .before .before .before .before .before .pre .1 .accepted))
+sub-expr-to-ts-type t c = omega (arith, some-left _ _ _ (c .before .before .before .before .before .before .before .pre .1 .accepted))
 
 pub expr-to-ts-type-requires : (t : ℕ) → expr-to-ts-type-lts.Need-expr-to-ts-type-requires (calls t) (expr-to-ts-type-at t) expr-to-ts-type.Post
-expr-to-ts-type-requires t c κs = (omega (arith, c .before .before .before .before .before .before .before .before .pre .0, some-left _ _ _ (c .before .before .before .before .before .before .before .before .pre .1 .accepted)), ready-first (c .before .before .before .before .before .before .before .before .pre .1) (placed (tc-expr _ _ _ (c .before .before .before .before .before .before .before .before .pre .1 .accepted) (sym (c .before .before .before .before .mark-at .ensures .0) ∙ c .before .before .before .match .keys3)) (c .before .before .body-at .ensures)) (c .before .before .body-at .ensures))
+expr-to-ts-type-requires t c κs = (omega (arith, c .before .before .before .before .before .before .before .before .before .pre .0, some-left _ _ _ (c .before .before .before .before .before .before .before .before .before .pre .1 .accepted)), ready-first (c .before .before .before .before .before .before .before .before .before .pre .1) (placed (tc-expr _ _ _ (c .before .before .before .before .before .before .before .before .before .pre .1 .accepted) (sym (c .before .before .before .before .mark-at .ensures .0) ∙ c .before .before .before .match .keys3)) (c .before .before .body-at .ensures)) (c .before .before .body-at .ensures))
 
 pub body-at-requires-2 : (t : ℕ) → expr-to-ts-type-lts.Need-body-at-requires-2 (calls t) (expr-to-ts-type-at t) expr-to-ts-type.Post
-body-at-requires-2 t c κs = itself _ _ _ (c .before .before .before .before .before .pre .1 .accepted) .room
+body-at-requires-2 t c κs = itself _ _ _ (c .before .before .before .before .before .before .pre .1 .accepted) .room
 
 pub sub-expr-to-ts-type-2 : (t : ℕ) → expr-to-ts-type-lts.Need-sub-expr-to-ts-type-2 (calls t) (expr-to-ts-type-at t) expr-to-ts-type.Post
-sub-expr-to-ts-type-2 t c = omega (arith, some-left _ _ _ (c .before .before .before .before .before .before .pre .1 .accepted))
+sub-expr-to-ts-type-2 t c = omega (arith, some-left _ _ _ (c .before .before .before .before .before .before .before .pre .1 .accepted))
 
 pub expr-to-ts-type-requires-2 : (t : ℕ) → expr-to-ts-type-lts.Need-expr-to-ts-type-requires-2 (calls t) (expr-to-ts-type-at t) expr-to-ts-type.Post
-expr-to-ts-type-requires-2 t c κs = (omega (arith, c .before .before .before .before .before .before .before .before .pre .0, some-left _ _ _ (c .before .before .before .before .before .before .before .before .pre .1 .accepted)), ready-first (c .before .before .before .before .before .before .before .before .pre .1) (placed (ts-expr _ _ _ (c .before .before .before .before .before .before .before .before .pre .1 .accepted) (sym (c .before .before .before .before .mark-at .ensures .0) ∙ c .before .before .before .match .keys4)) (c .before .before .body-at2 .ensures)) (c .before .before .body-at2 .ensures))
+expr-to-ts-type-requires-2 t c κs = (omega (arith, c .before .before .before .before .before .before .before .before .before .pre .0, some-left _ _ _ (c .before .before .before .before .before .before .before .before .before .pre .1 .accepted)), ready-first (c .before .before .before .before .before .before .before .before .before .pre .1) (placed (ts-expr _ _ _ (c .before .before .before .before .before .before .before .before .before .pre .1 .accepted) (sym (c .before .before .before .before .mark-at .ensures .0) ∙ c .before .before .before .match .keys4)) (c .before .before .body-at2 .ensures)) (c .before .before .body-at2 .ensures))
 
 pub as-type-requires : (t : ℕ) → expr-to-ts-type-lts.Need-as-type-requires (calls t) (expr-to-ts-type-at t) expr-to-ts-type.Post
-as-type-requires t c κs = ((c .before .before .before .before .before .before .pre .1 .accepted), (sym (c .before .before .mark-at .ensures .0) ∙ c .before .match .keys5))
+as-type-requires t c κs = ((c .before .before .before .before .before .before .before .pre .1 .accepted), (sym (c .before .before .mark-at .ensures .0) ∙ c .before .match .keys5))
 
 pub child-at-requires : (t : ℕ) → expr-to-ts-type-lts.Need-child-at-requires (calls t) (expr-to-ts-type-at t) expr-to-ts-type.Post
-child-at-requires t c κs = ((c .before .before .before .before .before .pre .1 .accepted), omega (arith, fx-function _ _ _ (c .before .before .before .before .before .pre .1 .accepted) (sym (c .before .mark-at .ensures .0) ∙ c .match .keys6) .there))
+child-at-requires t c κs = ((c .before .before .before .before .before .before .pre .1 .accepted), omega (arith, fx-function _ _ _ (c .before .before .before .before .before .before .pre .1 .accepted) (sym (c .before .mark-at .ensures .0) ∙ c .match .keys6) .there))
 
 pub sub-function-type : (t : ℕ) → expr-to-ts-type-lts.Need-sub-function-type (calls t) (expr-to-ts-type-at t) expr-to-ts-type.Post
-sub-function-type t c = omega (arith, some-left _ _ _ (c .before .before .before .before .before .before .pre .1 .accepted))
+sub-function-type t c = omega (arith, some-left _ _ _ (c .before .before .before .before .before .before .before .pre .1 .accepted))
 
 pub function-type-requires : (t : ℕ) → expr-to-ts-type-lts.Need-function-type-requires (calls t) (expr-to-ts-type-at t) expr-to-ts-type.Post
 unfolding marks
-function-type-requires t c κs = (omega (arith, c .before .before .before .before .before .before .before .before .pre .0, some-left _ _ _ (c .before .before .before .before .before .before .before .before .pre .1 .accepted)), (ready-second (c .before .before .before .before .before .before .before .before .pre .1) (fx-ident _ _ _ (c .before .before .before .before .before .before .before .before .pre .1 .accepted) (sym (c .before .before .before .before .mark-at .ensures .0) ∙ c .before .before .before .match .keys6)) refl (placed (fx-function _ _ _ (c .before .before .before .before .before .before .before .before .pre .1 .accepted) (sym (c .before .before .before .before .mark-at .ensures .0) ∙ c .before .before .before .match .keys6)) (second-at _ _ _ (c .before .before .child-at .ensures))) (second-at _ _ _ (c .before .before .child-at .ensures)), member-one _ _ (placed (fx-function _ _ _ (c .before .before .before .before .before .before .before .before .pre .1 .accepted) (sym (c .before .before .before .before .mark-at .ensures .0) ∙ c .before .before .before .match .keys6)) (second-at _ _ _ (c .before .before .child-at .ensures)) .marks)))
+function-type-requires t c κs = (omega (arith, c .before .before .before .before .before .before .before .before .before .pre .0, some-left _ _ _ (c .before .before .before .before .before .before .before .before .before .pre .1 .accepted)), (ready-second (c .before .before .before .before .before .before .before .before .before .pre .1) (fx-ident _ _ _ (c .before .before .before .before .before .before .before .before .before .pre .1 .accepted) (sym (c .before .before .before .before .mark-at .ensures .0) ∙ c .before .before .before .match .keys6)) refl (placed (fx-function _ _ _ (c .before .before .before .before .before .before .before .before .before .pre .1 .accepted) (sym (c .before .before .before .before .mark-at .ensures .0) ∙ c .before .before .before .match .keys6)) (second-at _ _ _ (c .before .before .child-at .ensures))) (second-at _ _ _ (c .before .before .child-at .ensures)), member-one _ _ (placed (fx-function _ _ _ (c .before .before .before .before .before .before .before .before .before .pre .1 .accepted) (sym (c .before .before .before .before .mark-at .ensures .0) ∙ c .before .before .before .match .keys6)) (second-at _ _ _ (c .before .before .child-at .ensures)) .marks)))
 
 pub function-type-requires-2 : (t : ℕ) → expr-to-ts-type-lts.Need-function-type-requires-2 (calls t) (expr-to-ts-type-at t) expr-to-ts-type.Post
-function-type-requires-2 t c κs = (omega (arith, c .before .before .before .before .before .before .before .pre .0), (c .before .before .before .before .before .before .before .pre .1, (sym (c .before .before .before .mark-at .ensures .0) ∙ c .before .before .match .keys7)))
+function-type-requires-2 t c κs = (omega (arith, c .before .before .before .before .before .before .before .before .pre .0), (c .before .before .before .before .before .before .before .before .pre .1, (sym (c .before .before .before .mark-at .ensures .0) ∙ c .before .before .match .keys7)))
 
 pub call-type-requires : (t : ℕ) → expr-to-ts-type-lts.Need-call-type-requires (calls t) (expr-to-ts-type-at t) expr-to-ts-type.Post
-call-type-requires t c κs = (omega (arith, c .before .before .before .before .before .before .before .pre .0), (c .before .before .before .before .before .before .before .pre .1, (sym (c .before .before .before .mark-at .ensures .0) ∙ c .before .before .match .keys8)))
+call-type-requires t c κs = (omega (arith, c .before .before .before .before .before .before .before .before .pre .0), (c .before .before .before .before .before .before .before .before .pre .1, (sym (c .before .before .before .mark-at .ensures .0) ∙ c .before .before .match .keys8)))
 
 pub leaf-type-requires : (t : ℕ) → expr-to-ts-type-lts.Need-leaf-type-requires (calls t) (expr-to-ts-type-at t) expr-to-ts-type.Post
-leaf-type-requires t c κs = (c .before .before .before .before .before .before .pre .1 .accepted, (c .before .before .before .before .before .before .pre .1 .root, c .before .before .before .before .before .before .pre .1 .skips))
+leaf-type-requires t c κs = (c .before .before .before .before .before .before .before .pre .1 .accepted, c .before .before .before .before .before .before .before .pre .1 .indexed)
 
 pub answer-of-requires : (t : ℕ) → expr-to-ts-type-lts.Need-answer-of-requires (calls t) (expr-to-ts-type-at t) expr-to-ts-type.Post
 answer-of-requires t c κs = search needs
@@ -102,7 +102,7 @@ pub same-length-4 : (t : ℕ) → expr-to-ts-type-lts.Need-same-length-4 (calls 
 same-length-4 t c = returns-2 t c .step .ran .dia .same
 
 pub returns-3 : (t : ℕ) → expr-to-ts-type-lts.Need-returns-3 (calls t) (expr-to-ts-type-at t) expr-to-ts-type.Post
-returns-3 t c = did-as (c .before .before .before .before .expr-to-ts-type .ensures) (type-const (c .before .before .before .before .before .before .before .before .before .before .before .before .before .args .tree .now) (c .before .before .before .before .before .before .before .before .before .before .before .before .before .args .mode) (c .before .before .before .before .before .before .before .before .before .before .before .before .before .args .levels) (c .before .before .before .before .before .before .before .before .before .before .before .before .before .args .at) (c .before .before .before .before .before .before .before .before .before .before .before .before .before .args .s .counter) (c .before .before .before .before .before .before .before .before .before .before .before .before .before .pre .1 .accepted) (sym (c .before .before .before .before .before .before .before .before .before .mark-at .ensures .0) ∙ c .before .before .before .before .before .before .before .before .match .keys3) (placed (tc-expr _ _ _ (c .before .before .before .before .before .before .before .before .before .before .before .before .before .pre .1 .accepted) (sym (c .before .before .before .before .before .before .before .before .before .mark-at .ensures .0) ∙ c .before .before .before .before .before .before .before .before .match .keys3)) (c .before .before .before .before .before .before .before .body-at .ensures)))
+returns-3 t c = did-as (c .before .before .before .before .expr-to-ts-type .ensures) (type-const (c .before .before .before .before .before .before .before .before .before .before .before .before .before .before .args .tree .now) (c .before .before .before .before .before .before .before .before .before .before .before .before .before .before .args .mode) (c .before .before .before .before .before .before .before .before .before .before .before .before .before .before .args .levels) (c .before .before .before .before .before .before .before .before .before .before .before .before .before .before .args .at) (c .before .before .before .before .before .before .before .before .before .before .before .before .before .before .args .s .counter) (c .before .before .before .before .before .before .before .before .before .before .before .before .before .before .pre .1 .accepted) (sym (c .before .before .before .before .before .before .before .before .before .mark-at .ensures .0) ∙ c .before .before .before .before .before .before .before .before .match .keys3) (placed (tc-expr _ _ _ (c .before .before .before .before .before .before .before .before .before .before .before .before .before .before .pre .1 .accepted) (sym (c .before .before .before .before .before .before .before .before .before .mark-at .ensures .0) ∙ c .before .before .before .before .before .before .before .before .match .keys3)) (c .before .before .before .before .before .before .before .body-at .ensures)))
 
 pub same-length-5 : (t : ℕ) → expr-to-ts-type-lts.Need-same-length-5 (calls t) (expr-to-ts-type-at t) expr-to-ts-type.Post
 same-length-5 t c = returns-3 t c .step .ran .out .same
@@ -111,7 +111,7 @@ pub same-length-6 : (t : ℕ) → expr-to-ts-type-lts.Need-same-length-6 (calls 
 same-length-6 t c = returns-3 t c .step .ran .dia .same
 
 pub returns-4 : (t : ℕ) → expr-to-ts-type-lts.Need-returns-4 (calls t) (expr-to-ts-type-at t) expr-to-ts-type.Post
-returns-4 t c = did-as (c .before .before .before .before .expr-to-ts-type2 .ensures) (type-satisfies (c .before .before .before .before .before .before .before .before .before .before .before .before .before .args .tree .now) (c .before .before .before .before .before .before .before .before .before .before .before .before .before .args .mode) (c .before .before .before .before .before .before .before .before .before .before .before .before .before .args .levels) (c .before .before .before .before .before .before .before .before .before .before .before .before .before .args .at) (c .before .before .before .before .before .before .before .before .before .before .before .before .before .args .s .counter) (c .before .before .before .before .before .before .before .before .before .before .before .before .before .pre .1 .accepted) (sym (c .before .before .before .before .before .before .before .before .before .mark-at .ensures .0) ∙ c .before .before .before .before .before .before .before .before .match .keys4) (placed (ts-expr _ _ _ (c .before .before .before .before .before .before .before .before .before .before .before .before .before .pre .1 .accepted) (sym (c .before .before .before .before .before .before .before .before .before .mark-at .ensures .0) ∙ c .before .before .before .before .before .before .before .before .match .keys4)) (c .before .before .before .before .before .before .before .body-at2 .ensures)))
+returns-4 t c = did-as (c .before .before .before .before .expr-to-ts-type2 .ensures) (type-satisfies (c .before .before .before .before .before .before .before .before .before .before .before .before .before .before .args .tree .now) (c .before .before .before .before .before .before .before .before .before .before .before .before .before .before .args .mode) (c .before .before .before .before .before .before .before .before .before .before .before .before .before .before .args .levels) (c .before .before .before .before .before .before .before .before .before .before .before .before .before .before .args .at) (c .before .before .before .before .before .before .before .before .before .before .before .before .before .before .args .s .counter) (c .before .before .before .before .before .before .before .before .before .before .before .before .before .before .pre .1 .accepted) (sym (c .before .before .before .before .before .before .before .before .before .mark-at .ensures .0) ∙ c .before .before .before .before .before .before .before .before .match .keys4) (placed (ts-expr _ _ _ (c .before .before .before .before .before .before .before .before .before .before .before .before .before .before .pre .1 .accepted) (sym (c .before .before .before .before .before .before .before .before .before .mark-at .ensures .0) ∙ c .before .before .before .before .before .before .before .before .match .keys4)) (c .before .before .before .before .before .before .before .body-at2 .ensures)))
 
 pub same-length-7 : (t : ℕ) → expr-to-ts-type-lts.Need-same-length-7 (calls t) (expr-to-ts-type-at t) expr-to-ts-type.Post
 same-length-7 t c = returns-4 t c .step .ran .out .same
@@ -120,13 +120,13 @@ pub same-length-8 : (t : ℕ) → expr-to-ts-type-lts.Need-same-length-8 (calls 
 same-length-8 t c = returns-4 t c .step .ran .dia .same
 
 pub returns-5 : (t : ℕ) → expr-to-ts-type-lts.Need-returns-5 (calls t) (expr-to-ts-type-at t) expr-to-ts-type.Post
-returns-5 t c = let k = as-type-of _ _ _ (c .before .before .before .before .before .before .before .before .before .pre .1 .accepted) (sym (c .before .before .before .before .before .mark-at .ensures .0) ∙ (c .before .before .before .before .match .keys5)) in did-as (did-put _ (c .before .before .before .before .before .before .before .before .before .args .s) (omega (arith, c .before .before .before .before .before .before .before .before .before .good)) (as-fits (c .before .before .before .before .before .before .before .before .before .args .mode .frozen) _ (kid-fits 1 _ (kids-fit _ (tree-fits _ _ _ (c .before .before .before .before .before .before .before .before .before .pre .1 .accepted) (c .before .before .before .before .before .before .before .before .shared-slice-known .given))))) (c .before .before .as-type .ensures)) (sym (type-as (c .before .before .before .before .before .before .before .before .before .args .tree .now) (c .before .before .before .before .before .before .before .before .before .args .mode) (c .before .before .before .before .before .before .before .before .before .args .levels) (c .before .before .before .before .before .before .before .before .before .args .at) (c .before .before .before .before .before .before .before .before .before .args .s .counter) (sym (c .before .before .before .before .before .mark-at .ensures .0) ∙ (c .before .before .before .before .match .keys5)) k))
+returns-5 t c = let k = as-type-of _ _ _ (c .before .before .before .before .before .before .before .before .before .before .pre .1 .accepted) (sym (c .before .before .before .before .before .mark-at .ensures .0) ∙ (c .before .before .before .before .match .keys5)) in did-as (did-put _ (c .before .before .before .before .before .before .before .before .before .before .args .s) (omega (arith, c .before .before .before .before .before .before .before .before .before .before .good)) (as-fits (c .before .before .before .before .before .before .before .before .before .before .args .mode .frozen) _ (kid-fits 1 _ (kids-fit _ (tree-fits _ _ _ (c .before .before .before .before .before .before .before .before .before .before .pre .1 .accepted) (c .before .before .before .before .before .before .before .before .before .shared-slice-known .given))))) (c .before .before .as-type .ensures)) (sym (type-as (c .before .before .before .before .before .before .before .before .before .before .args .tree .now) (c .before .before .before .before .before .before .before .before .before .before .args .mode) (c .before .before .before .before .before .before .before .before .before .before .args .levels) (c .before .before .before .before .before .before .before .before .before .before .args .at) (c .before .before .before .before .before .before .before .before .before .before .args .s .counter) (sym (c .before .before .before .before .before .mark-at .ensures .0) ∙ (c .before .before .before .before .match .keys5)) k))
 
 pub same-length-9 : (t : ℕ) → expr-to-ts-type-lts.Need-same-length-9 (calls t) (expr-to-ts-type-at t) expr-to-ts-type.Post
 same-length-9 t c = returns-5 t c .step .ran .out .same
 
 pub returns-6 : (t : ℕ) → expr-to-ts-type-lts.Need-returns-6 (calls t) (expr-to-ts-type-at t) expr-to-ts-type.Post
-returns-6 t c = did-as (c .before .before .before .before .function-type .ensures) (type-fn (c .before .before .before .before .before .before .before .before .before .before .before .before .before .args .tree .now) (c .before .before .before .before .before .before .before .before .before .before .before .before .before .args .mode) (c .before .before .before .before .before .before .before .before .before .before .before .before .before .args .levels) (c .before .before .before .before .before .before .before .before .before .before .before .before .before .args .at) (c .before .before .before .before .before .before .before .before .before .before .before .before .before .args .s .counter) (c .before .before .before .before .before .before .before .before .before .before .before .before .before .pre .1 .accepted) (sym (c .before .before .before .before .before .before .before .before .before .mark-at .ensures .0) ∙ c .before .before .before .before .before .before .before .before .match .keys6) (placed (fx-function _ _ _ (c .before .before .before .before .before .before .before .before .before .before .before .before .before .pre .1 .accepted) (sym (c .before .before .before .before .before .before .before .before .before .mark-at .ensures .0) ∙ c .before .before .before .before .before .before .before .before .match .keys6)) (second-at _ _ _ (c .before .before .before .before .before .before .before .child-at .ensures))))
+returns-6 t c = did-as (c .before .before .before .before .function-type .ensures) (type-fn (c .before .before .before .before .before .before .before .before .before .before .before .before .before .before .args .tree .now) (c .before .before .before .before .before .before .before .before .before .before .before .before .before .before .args .mode) (c .before .before .before .before .before .before .before .before .before .before .before .before .before .before .args .levels) (c .before .before .before .before .before .before .before .before .before .before .before .before .before .before .args .at) (c .before .before .before .before .before .before .before .before .before .before .before .before .before .before .args .s .counter) (c .before .before .before .before .before .before .before .before .before .before .before .before .before .before .pre .1 .accepted) (sym (c .before .before .before .before .before .before .before .before .before .mark-at .ensures .0) ∙ c .before .before .before .before .before .before .before .before .match .keys6) (placed (fx-function _ _ _ (c .before .before .before .before .before .before .before .before .before .before .before .before .before .before .pre .1 .accepted) (sym (c .before .before .before .before .before .before .before .before .before .mark-at .ensures .0) ∙ c .before .before .before .before .before .before .before .before .match .keys6)) (second-at _ _ _ (c .before .before .before .before .before .before .before .child-at .ensures))))
 
 pub same-length-10 : (t : ℕ) → expr-to-ts-type-lts.Need-same-length-10 (calls t) (expr-to-ts-type-at t) expr-to-ts-type.Post
 same-length-10 t c = returns-6 t c .step .ran .out .same
@@ -135,7 +135,7 @@ pub same-length-11 : (t : ℕ) → expr-to-ts-type-lts.Need-same-length-11 (call
 same-length-11 t c = returns-6 t c .step .ran .dia .same
 
 pub returns-7 : (t : ℕ) → expr-to-ts-type-lts.Need-returns-7 (calls t) (expr-to-ts-type-at t) expr-to-ts-type.Post
-returns-7 t c = did-as (c .before .before .before .before .function-type2 .ensures) (type-arrow (c .before .before .before .before .before .before .before .before .before .before .before .before .args .tree .now) (c .before .before .before .before .before .before .before .before .before .before .before .before .args .mode) (c .before .before .before .before .before .before .before .before .before .before .before .before .args .levels) (c .before .before .before .before .before .before .before .before .before .before .before .before .args .at) (c .before .before .before .before .before .before .before .before .before .before .before .before .args .s .counter) (sym (c .before .before .before .before .before .before .before .before .mark-at .ensures .0) ∙ c .before .before .before .before .before .before .before .match .keys7))
+returns-7 t c = did-as (c .before .before .before .before .function-type2 .ensures) (type-arrow (c .before .before .before .before .before .before .before .before .before .before .before .before .before .args .tree .now) (c .before .before .before .before .before .before .before .before .before .before .before .before .before .args .mode) (c .before .before .before .before .before .before .before .before .before .before .before .before .before .args .levels) (c .before .before .before .before .before .before .before .before .before .before .before .before .before .args .at) (c .before .before .before .before .before .before .before .before .before .before .before .before .before .args .s .counter) (sym (c .before .before .before .before .before .before .before .before .mark-at .ensures .0) ∙ c .before .before .before .before .before .before .before .match .keys7))
 
 pub same-length-12 : (t : ℕ) → expr-to-ts-type-lts.Need-same-length-12 (calls t) (expr-to-ts-type-at t) expr-to-ts-type.Post
 same-length-12 t c = returns-7 t c .step .ran .out .same
@@ -153,7 +153,7 @@ pub same-length-15 : (t : ℕ) → expr-to-ts-type-lts.Need-same-length-15 (call
 same-length-15 t c = returns-8 t c .step .ran .dia .same
 
 pub returns-9 : (t : ℕ) → expr-to-ts-type-lts.Need-returns-9 (calls t) (expr-to-ts-type-at t) expr-to-ts-type.Post
-returns-9 t c = did-as (did-maybe _ (c .before .before .before .before .before .before .before .before .before .before .args .s) _ (omega (arith, c .before .before .before .before .before .before .before .before .before .before .good)) (omega (arith, c .before .before .before .before .before .before .before .before .before .before .good)) (leaf-fits (c .before .before .before .before .before .before .before .before .before .before .args .tree .now) (c .before .before .before .before .before .before .before .before .before .before .args .mode) (c .before .before .before .before .before .before .before .before .before .before .args .levels) (c .before .before .before .before .before .before .before .before .before .before .args .at) (tree-fits _ _ _ (c .before .before .before .before .before .before .before .before .before .before .pre .1 .accepted) (c .before .before .before .before .before .before .before .before .before .shared-slice-known .given))) (c .before .before .before .leaf-type .ensures) (c .answer-of .ensures)) (sym (leaf-is (c .before .before .before .before .before .before .before .before .before .before .args .tree .now) (c .before .before .before .before .before .before .before .before .before .before .args .mode) (c .before .before .before .before .before .before .before .before .before .before .args .levels) (c .before .before .before .before .before .before .before .before .before .before .args .at) (c .before .before .before .before .before .before .before .before .before .before .args .s .counter) (λ e. c .before .before .before .before .before .match .rest .0 .0 .0 .0 .0 .0 .0 .1 (c .before .before .before .before .before .before .mark-at .ensures .0 ∙ e)) (λ e. c .before .before .before .before .before .match .rest .0 .0 .0 .0 .0 .0 .1 (c .before .before .before .before .before .before .mark-at .ensures .0 ∙ e)) (λ e. c .before .before .before .before .before .match .rest .0 .0 .0 .0 .0 .1 (c .before .before .before .before .before .before .mark-at .ensures .0 ∙ e)) (λ e. c .before .before .before .before .before .match .rest .0 .0 .0 .0 .1 (c .before .before .before .before .before .before .mark-at .ensures .0 ∙ e)) (λ e. c .before .before .before .before .before .match .rest .0 .0 .0 .1 (c .before .before .before .before .before .before .mark-at .ensures .0 ∙ e)) (λ e. c .before .before .before .before .before .match .rest .0 .0 .1 (c .before .before .before .before .before .before .mark-at .ensures .0 ∙ e)) (λ e. c .before .before .before .before .before .match .rest .0 .1 (c .before .before .before .before .before .before .mark-at .ensures .0 ∙ e)) (λ e. c .before .before .before .before .before .match .rest .1 (c .before .before .before .before .before .before .mark-at .ensures .0 ∙ e))))
+returns-9 t c = did-as (did-maybe _ (c .before .before .before .before .before .before .before .before .before .before .before .args .s) _ (omega (arith, c .before .before .before .before .before .before .before .before .before .before .before .good)) (omega (arith, c .before .before .before .before .before .before .before .before .before .before .before .good)) (leaf-fits (c .before .before .before .before .before .before .before .before .before .before .before .args .tree .now) (c .before .before .before .before .before .before .before .before .before .before .before .args .mode) (c .before .before .before .before .before .before .before .before .before .before .before .args .levels) (c .before .before .before .before .before .before .before .before .before .before .before .args .at) (tree-fits _ _ _ (c .before .before .before .before .before .before .before .before .before .before .before .pre .1 .accepted) (c .before .before .before .before .before .before .before .before .before .before .shared-slice-known .given))) (c .before .before .before .leaf-type .ensures) (c .answer-of .ensures)) (sym (leaf-is (c .before .before .before .before .before .before .before .before .before .before .before .args .tree .now) (c .before .before .before .before .before .before .before .before .before .before .before .args .mode) (c .before .before .before .before .before .before .before .before .before .before .before .args .levels) (c .before .before .before .before .before .before .before .before .before .before .before .args .at) (c .before .before .before .before .before .before .before .before .before .before .before .args .s .counter) (λ e. c .before .before .before .before .before .match .rest .0 .0 .0 .0 .0 .0 .0 .1 (c .before .before .before .before .before .before .mark-at .ensures .0 ∙ e)) (λ e. c .before .before .before .before .before .match .rest .0 .0 .0 .0 .0 .0 .1 (c .before .before .before .before .before .before .mark-at .ensures .0 ∙ e)) (λ e. c .before .before .before .before .before .match .rest .0 .0 .0 .0 .0 .1 (c .before .before .before .before .before .before .mark-at .ensures .0 ∙ e)) (λ e. c .before .before .before .before .before .match .rest .0 .0 .0 .0 .1 (c .before .before .before .before .before .before .mark-at .ensures .0 ∙ e)) (λ e. c .before .before .before .before .before .match .rest .0 .0 .0 .1 (c .before .before .before .before .before .before .mark-at .ensures .0 ∙ e)) (λ e. c .before .before .before .before .before .match .rest .0 .0 .1 (c .before .before .before .before .before .before .mark-at .ensures .0 ∙ e)) (λ e. c .before .before .before .before .before .match .rest .0 .1 (c .before .before .before .before .before .before .mark-at .ensures .0 ∙ e)) (λ e. c .before .before .before .before .before .match .rest .1 (c .before .before .before .before .before .before .mark-at .ensures .0 ∙ e))))
 
 pub same-length-16 : (t : ℕ) → expr-to-ts-type-lts.Need-same-length-16 (calls t) (expr-to-ts-type-at t) expr-to-ts-type.Post
 same-length-16 t c = returns-9 t c .step .ran .out .same

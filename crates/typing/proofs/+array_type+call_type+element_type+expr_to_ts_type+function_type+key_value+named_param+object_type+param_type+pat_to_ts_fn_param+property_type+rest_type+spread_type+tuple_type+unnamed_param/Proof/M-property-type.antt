@@ -18,19 +18,19 @@ abbrev pub calls : ℕ → property-type-lts.Claims
 calls t = (mark-at-reads.Asked, mark-at-reads.Learnt, key-value-below t, key-value.Post, shorthand-reads.Asked, shorthand-reads.Learnt, skipped-reads.Asked, skipped-reads.Learnt)
 
 pub mark-at-requires : (t : ℕ) → property-type-lts.Need-mark-at-requires (calls t) (property-type-at t) property-type.Post
-mark-at-requires t c κs = itself _ _ _ (c .before .before .before .pre .1 .accepted) .room
+mark-at-requires t c κs = itself _ _ _ (c .before .before .before .before .pre .1 .accepted) .room
 
 pub key-value-requires : (t : ℕ) → property-type-lts.Need-key-value-requires (calls t) (property-type-at t) property-type.Post
-key-value-requires t c κs = (omega (arith, c .before .before .before .before .before .before .before .pre .0), (c .before .before .before .before .before .before .before .pre .1, (sym (c .before .before .before .mark-at .ensures .0) ∙ c .before .before .match .keys1)))
+key-value-requires t c κs = (omega (arith, c .before .before .before .before .before .before .before .before .pre .0), (c .before .before .before .before .before .before .before .before .pre .1, (sym (c .before .before .before .mark-at .ensures .0) ∙ c .before .before .match .keys1)))
 
 pub shorthand-requires : (t : ℕ) → property-type-lts.Need-shorthand-requires (calls t) (property-type-at t) property-type.Post
-shorthand-requires t c κs = (c .before .before .before .before .before .before .before .pre .1, (sym (c .before .before .before .mark-at .ensures .0) ∙ c .before .before .match .keys2))
+shorthand-requires t c κs = (c .before .before .before .before .before .before .before .before .pre .1, (sym (c .before .before .before .mark-at .ensures .0) ∙ c .before .before .match .keys2))
 
 pub skipped-requires : (t : ℕ) → property-type-lts.Need-skipped-requires (calls t) (property-type-at t) property-type.Post
-skipped-requires t c κs = itself _ _ _ (c .before .before .before .before .before .before .pre .1 .accepted) .room
+skipped-requires t c κs = itself _ _ _ (c .before .before .before .before .before .before .before .pre .1 .accepted) .room
 
 pub skipped-requires-2 : (t : ℕ) → property-type-lts.Need-skipped-requires-2 (calls t) (property-type-at t) property-type.Post
-skipped-requires-2 t c κs = itself _ _ _ (c .before .before .before .before .before .before .pre .1 .accepted) .room
+skipped-requires-2 t c κs = itself _ _ _ (c .before .before .before .before .before .before .before .pre .1 .accepted) .room
 
 pub returns : (t : ℕ) → property-type-lts.Need-returns (calls t) (property-type-at t) property-type.Post
 returns t c = c .before .before .before .before .key-value .ensures
@@ -51,16 +51,16 @@ pub same-length-4 : (t : ℕ) → property-type-lts.Need-same-length-4 (calls t)
 same-length-4 t c = returns-2 t c .step .ran .dia .same
 
 pub returns-3 : (t : ℕ) → property-type-lts.Need-returns-3 (calls t) (property-type-at t) property-type.Post
-returns-3 t c = gives-mark (c .before .before .before .before .before .before .before .before .before .args .s) (step-none _ _ (c .before .before .before .before .before .before .before .before .before .args .s) (omega (arith, c .before .before .before .before .before .before .before .before .before .good)) (omega (arith, c .before .before .before .before .before .before .before .before .before .good))) (omega (arith, c .before .before .before .before .before .before .before .before .before .good)) (c .before .before .skipped .ensures .0) (c .before .before .skipped .ensures .1) (member-spread (c .before .before .before .before .before .before .before .before .before .args .tree .now) (c .before .before .before .before .before .before .before .before .before .args .mode) (c .before .before .before .before .before .before .before .before .before .args .levels) (c .before .before .before .before .before .before .before .before .before .args .at) (c .before .before .before .before .before .before .before .before .before .args .s .counter) (sym (c .before .before .before .before .before .mark-at .ensures .0) ∙ c .before .before .before .before .match .keys3))
+returns-3 t c = gives-mark (c .before .before .before .before .before .before .before .before .before .before .args .s) (step-none _ _ (c .before .before .before .before .before .before .before .before .before .before .args .s) (omega (arith, c .before .before .before .before .before .before .before .before .before .before .good)) (omega (arith, c .before .before .before .before .before .before .before .before .before .before .good))) (omega (arith, c .before .before .before .before .before .before .before .before .before .before .good)) (c .before .before .skipped .ensures .0) (c .before .before .skipped .ensures .1) (member-spread (c .before .before .before .before .before .before .before .before .before .before .args .tree .now) (c .before .before .before .before .before .before .before .before .before .before .args .mode) (c .before .before .before .before .before .before .before .before .before .before .args .levels) (c .before .before .before .before .before .before .before .before .before .before .args .at) (c .before .before .before .before .before .before .before .before .before .before .args .s .counter) (sym (c .before .before .before .before .before .mark-at .ensures .0) ∙ c .before .before .before .before .match .keys3))
 
 pub same-length-5 : (t : ℕ) → property-type-lts.Need-same-length-5 (calls t) (property-type-at t) property-type.Post
 same-length-5 t c = returns-3 t c .step .ran .dia .same
 
 pub returns-4 : (t : ℕ) → property-type-lts.Need-returns-4 (calls t) (property-type-at t) property-type.Post
-returns-4 t c = gives-none _ _ (c .before .before .before .before .before .args .s) (omega (arith, c .before .before .before .before .before .good)) (omega (arith, c .before .before .before .before .before .good)) (member-op (c .before .before .before .before .before .args .tree .now) (c .before .before .before .before .before .args .mode) (c .before .before .before .before .before .args .levels) (c .before .before .before .before .before .args .at) (c .before .before .before .before .before .args .s .counter) (sym (c .before .mark-at .ensures .0) ∙ c .match .keys4))
+returns-4 t c = gives-none _ _ (c .before .before .before .before .before .before .args .s) (omega (arith, c .before .before .before .before .before .before .good)) (omega (arith, c .before .before .before .before .before .before .good)) (member-op (c .before .before .before .before .before .before .args .tree .now) (c .before .before .before .before .before .before .args .mode) (c .before .before .before .before .before .before .args .levels) (c .before .before .before .before .before .before .args .at) (c .before .before .before .before .before .before .args .s .counter) (sym (c .before .mark-at .ensures .0) ∙ c .match .keys4))
 
 pub returns-5 : (t : ℕ) → property-type-lts.Need-returns-5 (calls t) (property-type-at t) property-type.Post
-returns-5 t c = gives-mark (c .before .before .before .before .before .before .before .before .before .args .s) (step-none _ _ (c .before .before .before .before .before .before .before .before .before .args .s) (omega (arith, c .before .before .before .before .before .before .before .before .before .good)) (omega (arith, c .before .before .before .before .before .before .before .before .before .good))) (omega (arith, c .before .before .before .before .before .before .before .before .before .good)) (c .before .before .skipped2 .ensures .0) (c .before .before .skipped2 .ensures .1) (member-other (c .before .before .before .before .before .before .before .before .before .args .tree .now) (c .before .before .before .before .before .before .before .before .before .args .mode) (c .before .before .before .before .before .before .before .before .before .args .levels) (c .before .before .before .before .before .before .before .before .before .args .at) (c .before .before .before .before .before .before .before .before .before .args .s .counter) (λ e. c .before .before .before .before .match .rest .0 .0 .0 .1 (c .before .before .before .before .before .mark-at .ensures .0 ∙ e)) (λ e. c .before .before .before .before .match .rest .0 .0 .1 (c .before .before .before .before .before .mark-at .ensures .0 ∙ e)) (λ e. c .before .before .before .before .match .rest .0 .1 (c .before .before .before .before .before .mark-at .ensures .0 ∙ e)) (λ e. c .before .before .before .before .match .rest .1 (c .before .before .before .before .before .mark-at .ensures .0 ∙ e)))
+returns-5 t c = gives-mark (c .before .before .before .before .before .before .before .before .before .before .args .s) (step-none _ _ (c .before .before .before .before .before .before .before .before .before .before .args .s) (omega (arith, c .before .before .before .before .before .before .before .before .before .before .good)) (omega (arith, c .before .before .before .before .before .before .before .before .before .before .good))) (omega (arith, c .before .before .before .before .before .before .before .before .before .before .good)) (c .before .before .skipped2 .ensures .0) (c .before .before .skipped2 .ensures .1) (member-other (c .before .before .before .before .before .before .before .before .before .before .args .tree .now) (c .before .before .before .before .before .before .before .before .before .before .args .mode) (c .before .before .before .before .before .before .before .before .before .before .args .levels) (c .before .before .before .before .before .before .before .before .before .before .args .at) (c .before .before .before .before .before .before .before .before .before .before .args .s .counter) (λ e. c .before .before .before .before .match .rest .0 .0 .0 .1 (c .before .before .before .before .before .mark-at .ensures .0 ∙ e)) (λ e. c .before .before .before .before .match .rest .0 .0 .1 (c .before .before .before .before .before .mark-at .ensures .0 ∙ e)) (λ e. c .before .before .before .before .match .rest .0 .1 (c .before .before .before .before .before .mark-at .ensures .0 ∙ e)) (λ e. c .before .before .before .before .match .rest .1 (c .before .before .before .before .before .mark-at .ensures .0 ∙ e)))
 
 pub same-length-6 : (t : ℕ) → property-type-lts.Need-same-length-6 (calls t) (property-type-at t) property-type.Post
 same-length-6 t c = returns-5 t c .step .ran .dia .same

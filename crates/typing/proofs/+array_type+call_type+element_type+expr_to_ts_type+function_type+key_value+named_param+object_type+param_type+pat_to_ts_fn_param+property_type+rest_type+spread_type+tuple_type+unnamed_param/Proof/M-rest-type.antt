@@ -23,25 +23,25 @@ abbrev pub calls : ℕ → rest-type-lts.Claims
 calls t = (mark-at-reads.Asked, mark-at-reads.Learnt, array-ident-reads.Asked, array-ident-reads.Learnt, answer-of-reads.Asked, answer-of-reads.Learnt, expr-to-ts-type-below t, expr-to-ts-type.Post)
 
 pub mark-at-requires : (t : ℕ) → rest-type-lts.Need-mark-at-requires (calls t) (rest-type-at t) rest-type.Post
-mark-at-requires t c κs = itself _ _ _ (c .before .before .before .pre .1 .accepted) .room
+mark-at-requires t c κs = itself _ _ _ (c .before .before .before .before .pre .1 .accepted) .room
 
 pub array-ident-requires : (t : ℕ) → rest-type-lts.Need-array-ident-requires (calls t) (rest-type-at t) rest-type.Post
-array-ident-requires t c κs = (c .before .before .before .before .before .before .pre .1 .accepted, (c .before .before .before .before .before .before .pre .1 .root, c .before .before .before .before .before .before .pre .1 .skips))
+array-ident-requires t c κs = (c .before .before .before .before .before .before .before .pre .1 .accepted, c .before .before .before .before .before .before .before .pre .1 .indexed)
 
 pub answer-of-requires : (t : ℕ) → rest-type-lts.Need-answer-of-requires (calls t) (rest-type-at t) rest-type.Post
 answer-of-requires t c κs = search needs
 
 pub expr-to-ts-type-requires : (t : ℕ) → rest-type-lts.Need-expr-to-ts-type-requires (calls t) (rest-type-at t) rest-type.Post
-expr-to-ts-type-requires t c κs = (omega (arith, c .before .before .before .before .before .before .before .pre .0), c .before .before .before .before .before .before .before .pre .1)
+expr-to-ts-type-requires t c κs = (omega (arith, c .before .before .before .before .before .before .before .before .pre .0), c .before .before .before .before .before .before .before .before .pre .1)
 
 pub returns : (t : ℕ) → rest-type-lts.Need-returns (calls t) (rest-type-at t) rest-type.Post
-returns t c = did-as (did-maybe _ (c .before .before .before .before .before .before .before .before .before .before .args .s) _ (omega (arith, c .before .before .before .before .before .before .before .before .before .before .good)) (omega (arith, c .before .before .before .before .before .before .before .before .before .before .good)) (query-fits-if (idsOf (c .before .before .before .before .before .before .before .before .before .before .args .tree .now) .arrayTyped (textAt (c .before .before .before .before .before .before .before .before .before .before .args .tree .now) (c .before .before .before .before .before .before .before .before .before .before .args .at))) _ (tree-fits _ _ _ (c .before .before .before .before .before .before .before .before .before .before .pre .1 .accepted) (c .before .before .before .before .before .before .before .before .before .shared-slice-known .given))) (c .before .before .before .array-ident .ensures) (c .answer-of .ensures)) (sym (rest-ident (c .before .before .before .before .before .before .before .before .before .before .args .tree .now) (c .before .before .before .before .before .before .before .before .before .before .args .mode) (c .before .before .before .before .before .before .before .before .before .before .args .levels) (c .before .before .before .before .before .before .before .before .before .before .args .at) (c .before .before .before .before .before .before .before .before .before .before .args .s .counter) (sym (c .before .before .before .before .before .before .mark-at .ensures .0) ∙ c .before .before .before .before .before .match .keys1)))
+returns t c = did-as (did-maybe _ (c .before .before .before .before .before .before .before .before .before .before .before .args .s) _ (omega (arith, c .before .before .before .before .before .before .before .before .before .before .before .good)) (omega (arith, c .before .before .before .before .before .before .before .before .before .before .before .good)) (query-fits-if (idsOf (c .before .before .before .before .before .before .before .before .before .before .before .args .tree .now) .arrayTyped (textAt (c .before .before .before .before .before .before .before .before .before .before .before .args .tree .now) (c .before .before .before .before .before .before .before .before .before .before .before .args .at))) _ (tree-fits _ _ _ (c .before .before .before .before .before .before .before .before .before .before .before .pre .1 .accepted) (c .before .before .before .before .before .before .before .before .before .before .shared-slice-known .given))) (c .before .before .before .array-ident .ensures) (c .answer-of .ensures)) (sym (rest-ident (c .before .before .before .before .before .before .before .before .before .before .before .args .tree .now) (c .before .before .before .before .before .before .before .before .before .before .before .args .mode) (c .before .before .before .before .before .before .before .before .before .before .before .args .levels) (c .before .before .before .before .before .before .before .before .before .before .before .args .at) (c .before .before .before .before .before .before .before .before .before .before .before .args .s .counter) (sym (c .before .before .before .before .before .before .mark-at .ensures .0) ∙ c .before .before .before .before .before .match .keys1)))
 
 pub same-length : (t : ℕ) → rest-type-lts.Need-same-length (calls t) (rest-type-at t) rest-type.Post
 same-length t c = returns t c .step .ran .out .same
 
 pub returns-2 : (t : ℕ) → rest-type-lts.Need-returns-2 (calls t) (rest-type-at t) rest-type.Post
-returns-2 t c = did-as (c .before .before .before .before .expr-to-ts-type .ensures) (sym (rest-array (c .before .before .before .before .before .before .before .before .before .before .before .before .args .tree .now) (c .before .before .before .before .before .before .before .before .before .before .before .before .args .mode) (c .before .before .before .before .before .before .before .before .before .before .before .before .args .levels) (c .before .before .before .before .before .before .before .before .before .before .before .before .args .at) (c .before .before .before .before .before .before .before .before .before .before .before .before .args .s .counter) (sym (c .before .before .before .before .before .before .before .before .mark-at .ensures .0) ∙ c .before .before .before .before .before .before .before .match .keys2)))
+returns-2 t c = did-as (c .before .before .before .before .expr-to-ts-type .ensures) (sym (rest-array (c .before .before .before .before .before .before .before .before .before .before .before .before .before .args .tree .now) (c .before .before .before .before .before .before .before .before .before .before .before .before .before .args .mode) (c .before .before .before .before .before .before .before .before .before .before .before .before .before .args .levels) (c .before .before .before .before .before .before .before .before .before .before .before .before .before .args .at) (c .before .before .before .before .before .before .before .before .before .before .before .before .before .args .s .counter) (sym (c .before .before .before .before .before .before .before .before .mark-at .ensures .0) ∙ c .before .before .before .before .before .before .before .match .keys2)))
 
 pub same-length-2 : (t : ℕ) → rest-type-lts.Need-same-length-2 (calls t) (rest-type-at t) rest-type.Post
 same-length-2 t c = returns-2 t c .step .ran .out .same
@@ -50,4 +50,4 @@ pub same-length-3 : (t : ℕ) → rest-type-lts.Need-same-length-3 (calls t) (re
 same-length-3 t c = returns-2 t c .step .ran .dia .same
 
 pub returns-3 : (t : ℕ) → rest-type-lts.Need-returns-3 (calls t) (rest-type-at t) rest-type.Post
-returns-3 t c = did-as (did-none (step-none _ _ (c .before .before .before .before .before .args .s) (omega (arith, c .before .before .before .before .before .good)) (omega (arith, c .before .before .before .before .before .good)))) (sym (rest-other (c .before .before .before .before .before .args .tree .now) (c .before .before .before .before .before .args .mode) (c .before .before .before .before .before .args .levels) (c .before .before .before .before .before .args .at) (c .before .before .before .before .before .args .s .counter) (λ e. c .match .rest .0 .1 (c .before .mark-at .ensures .0 ∙ e)) (λ e. c .match .rest .1 (c .before .mark-at .ensures .0 ∙ e))))
+returns-3 t c = did-as (did-none (step-none _ _ (c .before .before .before .before .before .before .args .s) (omega (arith, c .before .before .before .before .before .before .good)) (omega (arith, c .before .before .before .before .before .before .good)))) (sym (rest-other (c .before .before .before .before .before .before .args .tree .now) (c .before .before .before .before .before .before .args .mode) (c .before .before .before .before .before .before .args .levels) (c .before .before .before .before .before .before .args .at) (c .before .before .before .before .before .before .args .s .counter) (λ e. c .match .rest .0 .1 (c .before .mark-at .ensures .0 ∙ e)) (λ e. c .match .rest .1 (c .before .mark-at .ensures .0 ∙ e))))

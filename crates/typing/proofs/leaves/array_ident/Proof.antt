@@ -7,11 +7,11 @@ use Rattle.typing.proofs.leaves.array_ident.Statement.{statement}
 use Rattle.typing.proofs.leaves.array_ident.Tie as tie
 use Rattle.typing.proofs.leaves.array_ident.Reads as reads
 use Rattle.typing.proofs.leaves.array_ident.Lts as lts
-use Rattle.prescan.proofs.asked.Reads as asked-reads
+use Rattle.prescan.proofs.look_up.Reads as look-up-reads
 use Rattle.swc_helpers.proofs.ts_type_query.Reads as ts-type-query-reads
 
-asked-requires : tie.Need-asked-requires
-asked-requires c κs = search needs
+look-up-requires : tie.Need-look-up-requires
+look-up-requires c κs = search needs
 
 ts-type-query-requires : tie.Need-ts-type-query-requires
 ts-type-query-requires c κs = search needs
@@ -20,11 +20,11 @@ same-length : tie.Need-same-length
 same-length c = search needs
 
 returns : tie.Need-returns
-returns c = maybe-some (c .before .before .ts-type-query .ensures) (rw (array-test (c .before .before .before .before .before .before .before .before .args .levels) (c .before .before .before .before .before .before .before .before .args .tree .now) (c .before .before .before .before .before .before .before .before .args .at) (c .before .before .before .before .before .asked .ensures) (c .before .before .before .before .if1 .taken)) refl)
+returns c = maybe-some (c .before .before .ts-type-query .ensures) (rw (array-test (c .before .before .before .before .before .before .before .before .before .args .levels) (c .before .before .before .before .before .before .before .before .before .args .tree .now) (c .before .before .before .before .before .before .before .before .before .args .at) (c .before .before .before .before .before .look-up .ensures) (c .before .before .before .before .if1 .taken)) refl)
 
 returns-2 : tie.Need-returns-2
-returns-2 c = maybe-none _ _ (rw (array-test (c .before .before .before .before .args .levels) (c .before .before .before .before .args .tree .now) (c .before .before .before .before .args .at) (c .before .asked .ensures) (c .if1 .left)) refl)
+returns-2 c = maybe-none _ _ (rw (array-test (c .before .before .before .before .before .args .levels) (c .before .before .before .before .before .args .tree .now) (c .before .before .before .before .before .args .at) (c .before .look-up .ensures) (c .if1 .left)) refl)
 
 pub array-ident-spec : {M : Type 1} → statement M
 array-ident-spec =
-    tie.close (tie.spec asked-requires ts-type-query-requires same-length returns returns-2)
+    tie.close (tie.spec look-up-requires ts-type-query-requires same-length returns returns-2)

@@ -24,7 +24,7 @@ decl-kind-requires : tie.Need-decl-kind-requires
 decl-kind-requires c κs = search needs
 
 mark-at-requires : tie.Need-mark-at-requires
-mark-at-requires c κs = itself _ _ _ (c .before .before .before .pre .0) .room
+mark-at-requires c κs = itself _ _ _ (c .before .before .before .before .pre .0) .room
 
 maybe-lit-to-ts-type-requires : tie.Need-maybe-lit-to-ts-type-requires
 maybe-lit-to-ts-type-requires c κs = search needs
@@ -36,13 +36,13 @@ ident-to-ts-type-requires : tie.Need-ident-to-ts-type-requires
 ident-to-ts-type-requires c κs = search needs
 
 body-at-requires : tie.Need-body-at-requires
-body-at-requires c κs = itself _ _ _ (c .before .before .before .before .before .pre .0) .room
+body-at-requires c κs = itself _ _ _ (c .before .before .before .before .before .before .pre .0) .room
 
 sub-minus-lit-to-ts-type : tie.Need-sub-minus-lit-to-ts-type
-sub-minus-lit-to-ts-type c = omega (arith, some-left _ _ _ (c .before .before .before .before .before .before .pre .0))
+sub-minus-lit-to-ts-type c = omega (arith, some-left _ _ _ (c .before .before .before .before .before .before .before .pre .0))
 
 minus-lit-to-ts-type-requires : tie.Need-minus-lit-to-ts-type-requires
-minus-lit-to-ts-type-requires c κs = (placed (mi-expr _ _ _ (c .before .before .before .before .before .before .before .pre .0) (rw (c .before .before .before .mark-at .ensures .0) at (c .before .before .match .keys4))) (c .before .body-at .ensures)) .accepted
+minus-lit-to-ts-type-requires c κs = (placed (mi-expr _ _ _ (c .before .before .before .before .before .before .before .before .pre .0) (rw (c .before .before .before .mark-at .ensures .0) at (c .before .before .match .keys4))) (c .before .body-at .ensures)) .accepted
 
 new-type-requires : tie.Need-new-type-requires
 new-type-requires c κs = search needs
@@ -51,34 +51,34 @@ same-length : tie.Need-same-length
 same-length c = search needs
 
 returns : tie.Need-returns
-returns c = as-type (c .before .before .maybe-lit-to-ts-type .ensures) (leaf-lit (c .before .before .before .before .before .before .before .before .before .args .tree .now) (c .before .before .before .before .before .before .before .before .before .args .mode) (c .before .before .before .before .before .before .before .before .before .args .levels) (c .before .before .before .before .before .before .before .before .before .args .at) (rw (c .before .before .before .before .before .mark-at .ensures .0) at (c .before .before .before .before .match .keys1)) (c .before .before .before .before .before .before .decl-kind .ensures))
+returns c = as-type (c .before .before .maybe-lit-to-ts-type .ensures) (leaf-lit (c .before .before .before .before .before .before .before .before .before .before .args .tree .now) (c .before .before .before .before .before .before .before .before .before .before .args .mode) (c .before .before .before .before .before .before .before .before .before .before .args .levels) (c .before .before .before .before .before .before .before .before .before .before .args .at) (rw (c .before .before .before .before .before .mark-at .ensures .0) at (c .before .before .before .before .match .keys1)) (c .before .before .before .before .before .before .decl-kind .ensures))
 
 same-length-2 : tie.Need-same-length-2
 same-length-2 c = search needs
 
 returns-2 : tie.Need-returns-2
-returns-2 c = maybe-some (c .before .before .tpl-to-ts-type .ensures) (leaf-tpl (c .before .before .before .before .before .before .before .before .before .args .tree .now) (c .before .before .before .before .before .before .before .before .before .args .mode) (c .before .before .before .before .before .before .before .before .before .args .levels) (c .before .before .before .before .before .before .before .before .before .args .at) (rw (c .before .before .before .before .before .mark-at .ensures .0) at (c .before .before .before .before .match .keys2)) (c .before .before .before .before .before .before .decl-kind .ensures))
+returns-2 c = maybe-some (c .before .before .tpl-to-ts-type .ensures) (leaf-tpl (c .before .before .before .before .before .before .before .before .before .before .args .tree .now) (c .before .before .before .before .before .before .before .before .before .before .args .mode) (c .before .before .before .before .before .before .before .before .before .before .args .levels) (c .before .before .before .before .before .before .before .before .before .before .args .at) (rw (c .before .before .before .before .before .mark-at .ensures .0) at (c .before .before .before .before .match .keys2)) (c .before .before .before .before .before .before .decl-kind .ensures))
 
 same-length-3 : tie.Need-same-length-3
 same-length-3 c = search needs
 
 returns-3 : tie.Need-returns-3
-returns-3 c = as-type (c .before .before .ident-to-ts-type .ensures) (leaf-ident (c .before .before .before .before .before .before .before .before .before .args .tree .now) (c .before .before .before .before .before .before .before .before .before .args .mode) (c .before .before .before .before .before .before .before .before .before .args .levels) (c .before .before .before .before .before .before .before .before .before .args .at) (rw (c .before .before .before .before .before .mark-at .ensures .0) at (c .before .before .before .before .match .keys3)))
+returns-3 c = as-type (c .before .before .ident-to-ts-type .ensures) (leaf-ident (c .before .before .before .before .before .before .before .before .before .before .args .tree .now) (c .before .before .before .before .before .before .before .before .before .before .args .mode) (c .before .before .before .before .before .before .before .before .before .before .args .levels) (c .before .before .before .before .before .before .before .before .before .before .args .at) (rw (c .before .before .before .before .before .mark-at .ensures .0) at (c .before .before .before .before .match .keys3)))
 
 same-length-4 : tie.Need-same-length-4
 same-length-4 c = search needs
 
 returns-4 : tie.Need-returns-4
-returns-4 c = as-type (c .before .before .minus-lit-to-ts-type .ensures) (leaf-unary (c .before .before .before .before .before .before .before .before .before .before .args .tree .now) (c .before .before .before .before .before .before .before .before .before .before .args .mode) (c .before .before .before .before .before .before .before .before .before .before .args .levels) (c .before .before .before .before .before .before .before .before .before .before .args .at) (rw (c .before .before .before .before .before .before .mark-at .ensures .0) at (c .before .before .before .before .before .match .keys4)) (placed (mi-expr _ _ _ (c .before .before .before .before .before .before .before .before .before .before .pre .0) (rw (c .before .before .before .before .before .before .mark-at .ensures .0) at (c .before .before .before .before .before .match .keys4))) (c .before .before .before .before .body-at .ensures)) (c .before .before .before .before .before .before .before .decl-kind .ensures))
+returns-4 c = as-type (c .before .before .minus-lit-to-ts-type .ensures) (leaf-unary (c .before .before .before .before .before .before .before .before .before .before .before .args .tree .now) (c .before .before .before .before .before .before .before .before .before .before .before .args .mode) (c .before .before .before .before .before .before .before .before .before .before .before .args .levels) (c .before .before .before .before .before .before .before .before .before .before .before .args .at) (rw (c .before .before .before .before .before .before .mark-at .ensures .0) at (c .before .before .before .before .before .match .keys4)) (placed (mi-expr _ _ _ (c .before .before .before .before .before .before .before .before .before .before .before .pre .0) (rw (c .before .before .before .before .before .before .mark-at .ensures .0) at (c .before .before .before .before .before .match .keys4))) (c .before .before .before .before .body-at .ensures)) (c .before .before .before .before .before .before .before .decl-kind .ensures))
 
 same-length-5 : tie.Need-same-length-5
 same-length-5 c = search needs
 
 returns-5 : tie.Need-returns-5
-returns-5 c = as-type (c .before .before .new-type .ensures) (leaf-new (c .before .before .before .before .before .before .before .before .before .args .tree .now) (c .before .before .before .before .before .before .before .before .before .args .mode) (c .before .before .before .before .before .before .before .before .before .args .levels) (c .before .before .before .before .before .before .before .before .before .args .at) (rw (c .before .before .before .before .before .mark-at .ensures .0) at (c .before .before .before .before .match .keys5)))
+returns-5 c = as-type (c .before .before .new-type .ensures) (leaf-new (c .before .before .before .before .before .before .before .before .before .before .args .tree .now) (c .before .before .before .before .before .before .before .before .before .before .args .mode) (c .before .before .before .before .before .before .before .before .before .before .args .levels) (c .before .before .before .before .before .before .before .before .before .before .args .at) (rw (c .before .before .before .before .before .mark-at .ensures .0) at (c .before .before .before .before .match .keys5)))
 
 returns-6 : tie.Need-returns-6
-returns-6 c = maybe-none _ _ (leaf-none (c .before .before .before .before .before .args .tree .now) (c .before .before .before .before .before .args .mode) (c .before .before .before .before .before .args .levels) (c .before .before .before .before .before .args .at) (rw (c .before .mark-at .ensures .0) at (c .match .rest .0 .0 .0 .0 .1)) (rw (c .before .mark-at .ensures .0) at (c .match .rest .0 .0 .0 .1)) (rw (c .before .mark-at .ensures .0) at (c .match .rest .0 .0 .1)) (rw (c .before .mark-at .ensures .0) at (c .match .rest .0 .1)) (rw (c .before .mark-at .ensures .0) at (c .match .rest .1)))
+returns-6 c = maybe-none _ _ (leaf-none (c .before .before .before .before .before .before .args .tree .now) (c .before .before .before .before .before .before .args .mode) (c .before .before .before .before .before .before .args .levels) (c .before .before .before .before .before .before .args .at) (rw (c .before .mark-at .ensures .0) at (c .match .rest .0 .0 .0 .0 .1)) (rw (c .before .mark-at .ensures .0) at (c .match .rest .0 .0 .0 .1)) (rw (c .before .mark-at .ensures .0) at (c .match .rest .0 .0 .1)) (rw (c .before .mark-at .ensures .0) at (c .match .rest .0 .1)) (rw (c .before .mark-at .ensures .0) at (c .match .rest .1)))
 
 pub leaf-type-spec : {M : Type 1} → statement M
 leaf-type-spec =
