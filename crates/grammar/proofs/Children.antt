@@ -67,5 +67,10 @@ module _ (levels : ℕ) (s : List ℕ) (r : Checked) (n p : ℕ) (qs : List Part
           same = first ∙ rw (whole (fine q) f);
         }
 
+        -- it has no children
+        pub passed-leaf : m ≡ 0 → Passed levels s r (n - 1) b (after qs (markAt s p))
+        unfolding checkAll
+        passed-leaf z = passed-turn b (rw z)
+
         pub passed-refused : (k q : ℕ) → refused k q ≡ checkAll (checkAt (levels - 1) s) s m b ps → refused k q ≡ r
         passed-refused k q f = sym (first ∙ rw (whole (refused k q) f))

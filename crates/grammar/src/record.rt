@@ -117,11 +117,15 @@ fn check_all(
                 return Checked::Refused(refusal, p);
             }
             Opening::Opened(body, kids, first, next) => {
-                let found = check_all(tree, body, levels - 1, kids, first, parts, rows, sets);
-                let Checked::Fine(end) = found else {
-                    return found;
-                };
-                p = end;
+                if kids == 0 {
+                    p = body;
+                } else {
+                    let found = check_all(tree, body, levels - 1, kids, first, parts, rows, sets);
+                    let Checked::Fine(end) = found else {
+                        return found;
+                    };
+                    p = end;
+                }
                 slot = next;
             }
         }
@@ -130,7 +134,7 @@ fn check_all(
     Checked::Fine(p)
 }
 
-// The record at `at`, which stands at the slot k, with what it holds.
+// The record at `at`, which stands at the slot k, with what it holds; `levels` is how many levels are left.
 pub fn check_record(tree: &[u8], at: usize, levels: usize, k: usize) -> Checked
     requires { ⌜ at ≤ length (now tree) ⌝ }
     ensures { λ r. ⌜ checked r ≡ checkAt levels (now (tree .entry)) at (partsFrom k) ⌝ }

@@ -1,6 +1,7 @@
 -- The proof of the cycle of calls {check_all}: the measure is what is left of the levels, and the loop's invariant that the records before the next
 -- one are accepted.
 use mathlib.Core.Path.{_≡_, refl, sym, ap, _∙_, subst}
+use mathlib.Core.Logic.{⊎-elim}
 use Prim.Native.Nat.{ℕ, _<_}
 use native.Mathlib.Omega.{arith}
 use borrow.Author.Needs.{needs}
@@ -12,7 +13,7 @@ use Rattle.definition.specs.Check.{checkAll, checkAt}
 use Rattle.grammar.specs.Slots.{partsFrom}
 use Rattle.grammar.specs.Answers.{Before, opening, checked}
 use Rattle.grammar.specs.declared.record.Opening.{Opening}
-use Rattle.grammar.proofs.Children.{body-inside, Passed, passed-all, no-level, stopped-here, passed-turn, passed-refused}
+use Rattle.grammar.proofs.Children.{body-inside, Passed, passed-all, no-level, stopped-here, passed-turn, passed-leaf, passed-refused}
 use Rattle.grammar.proofs.record.check_all.Reads as check-all
 use Rattle.grammar.proofs.record.check_all.Kinds as check-all-kinds
 use Rattle.grammar.proofs.record.+check_all.Lts-check_all as check-all-lts
@@ -60,22 +61,22 @@ check-all-returns-2 : (t : ℕ) → check-all-lts.Need-returns-2 (calls t) (chec
 check-all-returns-2 t c =
     let a = c .before .before .before .before .before .before .before .before .args in
     let l = c .before .before .before .before .before .before .loop in
-    stopped-here (a .levels) (a .tree .now) _ (l .n) (l .p) (partsFrom (l .slot)) (l .inv) (c .before .before .before .before .before .loop-test .taken) (c .before .before .before .before .if1 .left) _ (sym (ap opening (c .before .refusal .given .1)) ∙ c .before .before .before .open-record .ensures .0)
+    stopped-here (a .levels) (a .tree .now) _ (l .n) (l .p) (partsFrom (l .slot)) (l .inv) (c .before .before .before .before .before .loop-test .taken) (c .before .before .before .before .if1 .left) _ (sym (ap opening (c .before .refusal .given .1)) ∙ (c .before .before .before .open-record .ensures .0))
 
 check-all-enum-known-body : (t : ℕ) → check-all-lts.Need-enum-known-body (calls t) (check-all-at t) check-all.Post check-all-Inv-loop check-all-μ-loop
 check-all-enum-known-body t c = search needs
 
 check-all-sub-check-all : (t : ℕ) → check-all-lts.Need-sub-check-all (calls t) (check-all-at t) check-all.Post check-all-Inv-loop check-all-μ-loop
-check-all-sub-check-all t c = omega (arith, c .before .before .before .before .if1 .left)
+check-all-sub-check-all t c = omega (arith, c .before .before .before .before .before .if1 .left)
 
 check-all-check-all-requires : (t : ℕ) → check-all-lts.Need-check-all-requires (calls t) (check-all-at t) check-all.Post check-all-Inv-loop check-all-μ-loop
 check-all-check-all-requires t c κs =
-    let a = c .before .before .before .before .before .before .before .before .args in
-    let l = c .before .before .before .before .before .before .loop in
-    let g = c .before .body .given in
-    let e = sym (ap opening (g .1)) ∙ c .before .before .before .open-record .ensures .0 in
-    let z = c .before .before .before .before .before .before .before .before .pre in
-    (omega (arith, z .0, c .before .before .before .before .if1 .left), (body-inside (a .tree .now) (l .p) (partsFrom (l .slot)) _ _ _ e, z .1 .1, z .1 .2, z .1 .3))
+    let a = c .before .before .before .before .before .before .before .before .before .args in
+    let l = c .before .before .before .before .before .before .before .loop in
+    let g = c .before .before .body .given in
+    let e = sym (ap opening (g .1)) ∙ (c .before .before .before .before .open-record .ensures .0) in
+    let z = c .before .before .before .before .before .before .before .before .before .pre in
+    (omega (arith, z .0, c .before .before .before .before .before .if1 .left), (body-inside (a .tree .now) (l .p) (partsFrom (l .slot)) _ _ _ e, z .1 .1, z .1 .2, z .1 .3))
 
 check-all-enum-known-found : (t : ℕ) → check-all-lts.Need-enum-known-found (calls t) (check-all-at t) check-all.Post check-all-Inv-loop check-all-μ-loop
 check-all-enum-known-found t c = search needs
@@ -85,12 +86,12 @@ check-all-enum-told t c = search needs
 
 check-all-returns-3 : (t : ℕ) → check-all-lts.Need-returns-3 (calls t) (check-all-at t) check-all.Post check-all-Inv-loop check-all-μ-loop
 check-all-returns-3 t c =
-    let a = c .before .before .before .before .before .before .before .before .before .before .before .args in
-    let l = c .before .before .before .before .before .before .before .before .before .loop in
-    let g = c .before .before .before .before .body .given in
-    let e = sym (ap opening (g .1)) ∙ c .before .before .before .before .before .before .open-record .ensures .0 in
+    let a = c .before .before .before .before .before .before .before .before .before .before .before .before .args in
+    let l = c .before .before .before .before .before .before .before .before .before .before .loop in
+    let g = c .before .before .before .before .before .body .given in
+    let e = sym (ap opening (g .1)) ∙ (c .before .before .before .before .before .before .before .open-record .ensures .0) in
     let r = ap checked (c .enum-told .given .1) in
-    r ∙ passed-refused (a .levels) (a .tree .now) _ (l .n) (l .p) (partsFrom (l .slot)) (l .inv) (c .before .before .before .before .before .before .before .before .loop-test .taken) (c .before .before .before .before .before .before .before .if1 .left) _ _ _ e _ _ (sym r ∙ c .before .before .check-all .ensures)
+    r ∙ passed-refused (a .levels) (a .tree .now) _ (l .n) (l .p) (partsFrom (l .slot)) (l .inv) (c .before .before .before .before .before .before .before .before .before .loop-test .taken) (c .before .before .before .before .before .before .before .before .if1 .left) _ _ _ e _ _ (sym r ∙ (c .before .before .check-all .ensures))
 
 check-all-sub-n : (t : ℕ) → check-all-lts.Need-sub-n (calls t) (check-all-at t) check-all.Post check-all-Inv-loop check-all-μ-loop
 check-all-sub-n t c = omega arith
@@ -100,14 +101,16 @@ check-all-loop-less t c = omega arith
 
 check-all-loop-again : (t : ℕ) → check-all-lts.Need-loop-again (calls t) (check-all-at t) check-all.Post check-all-Inv-loop check-all-μ-loop
 check-all-loop-again t c =
-    let a = c .before .before .before .before .before .before .before .before .before .before .before .before .args in
-    let l = c .before .before .before .before .before .before .before .before .before .before .loop in
-    let g = c .before .before .before .before .before .body .given in
-    let e = sym (ap opening (g .1)) ∙ c .before .before .before .before .before .before .before .open-record .ensures .0 in
-    let r = ap checked (c .before .found .given .1) in
+    let a = c .before .before .before .before .before .before .before .before .before .args in
+    let l = c .before .before .before .before .before .before .before .loop in
+    let g = c .before .before .body .given in
+    let e = sym (ap opening (g .1)) ∙ (c .before .before .before .before .open-record .ensures .0) in
     let q : partsFrom (g .0 .1 .1 .1 .0) ≡ after (partsFrom (l .slot)) (markAt (a .tree .now) (l .p)) =
-    subst (λ (o : Opening). Before o (after (partsFrom (l .slot)) (markAt (a .tree .now) (l .p)))) (g .1) (c .before .before .before .before .before .before .before .open-record .ensures .1) in
-    rw q (passed-turn (a .levels) (a .tree .now) _ (l .n) (l .p) (partsFrom (l .slot)) (l .inv) (c .before .before .before .before .before .before .before .before .before .loop-test .taken) (c .before .before .before .before .before .before .before .before .if1 .left) _ _ _ e _ (sym r ∙ c .before .before .before .check-all .ensures))
+    subst (λ (o : Opening). Before o (after (partsFrom (l .slot)) (markAt (a .tree .now) (l .p)))) (g .1) (c .before .before .before .before .open-record .ensures .1) in
+    ⊎-elim
+    (λ w. rw (w .1, w .2, q) (passed-leaf (a .levels) (a .tree .now) _ (l .n) (l .p) (partsFrom (l .slot)) (l .inv) (c .before .before .before .before .before .before .loop-test .taken) (c .before .before .before .before .before .if1 .left) _ _ _ e (w .0 .taken)))
+    (λ w. rw (w .5, w .6, q) (passed-turn (a .levels) (a .tree .now) _ (l .n) (l .p) (partsFrom (l .slot)) (l .inv) (c .before .before .before .before .before .before .loop-test .taken) (c .before .before .before .before .before .if1 .left) _ _ _ e _ (sym (ap checked (w .3 .given .1)) ∙ w .1 .ensures)))
+    (c .if2 .came)
 
 check-all-returns-4 : (t : ℕ) → check-all-lts.Need-returns-4 (calls t) (check-all-at t) check-all.Post check-all-Inv-loop check-all-μ-loop
 check-all-returns-4 t c =
