@@ -1,67 +1,76 @@
--- A record with what it holds: the loop over its children, and a law for each answer of the code.
-use mathlib.Core.Path.{_≡_, sym, ap, _∙_}
+-- Records in a row with what they hold: the loop over them, and a law for each answer of the code.
+use mathlib.Core.Path.{_≡_, refl, sym, ap, _∙_}
 use mathlib.Core.List.{List}
-use Prim.Native.Nat.{ℕ, suc, _+_, _-_, _<_, _≤_}
+use Prim.Native.Nat.{ℕ, suc, _-_, _<_, _≤_}
 use native.Mathlib.Omega.{arith}
 use lib.ListN.{length}
 use Rattle.definition.specs.Tree.{markAt, bodyAt}
 use Rattle.definition.specs.Grammar.{Part, after}
-use Rattle.definition.specs.Check.{Opening.opened, Opening.stopped, openAt, Checked.fine, Checked.refused, checkAll, checkAt}
-use Rattle.definition.proofs.Accepted.{Open, record-open, accepted, accepted-left, check-lies}
+use Rattle.definition.specs.Check.{Opening.opened, Opening.stopped, openAt, Checked, Checked.fine, Checked.refused, onward, checkAll, checkAt}
+use Rattle.definition.proofs.Accepted.{record-open, check-lies}
 
-pub no-level : (s : List ℕ) (at : ℕ) (ps : List Part) (levels : ℕ) → levels ≡ 0 → refused 7 at ≡ checkAt levels s at ps
-unfolding checkAt
-no-level s at ps levels e = rw e
+-- a row of one record
+alone : (r : Checked) → onward r (λ e. fine e) ≡ r
+alone (fine e) = refl
+alone (refused k q) = refl
 
--- an accepted record is in order by itself
-pub fine-open : (levels : ℕ) (s : List ℕ) (at : ℕ) (ps : List Part) (e : ℕ) → checkAt levels s at ps ≡ fine e → Open s at ps
-fine-open levels s at ps e f =
-    accepted (levels - 1) s at ps e (sym (ap (λ (d : ℕ). checkAt d s at ps) (accepted-left levels s at ps e f)) ∙ f) .itself
+pub check-alone : (levels : ℕ) (s : List ℕ) (at : ℕ) (ps : List Part) → checkAll (checkAt levels s) s 1 at ps ≡ checkAt levels s at ps
+unfolding checkAll
+check-alone levels s at ps = alone (checkAt levels s at ps)
 
-module _ (levels : ℕ) (s : List ℕ) (at : ℕ) (ps : List Part) where
-  -- i of the record's n children are accepted, and the next one begins at p, at the slots qs: the rest of the check is the check of those left
-  pub record Passed (n i p : ℕ) (qs : List Part) : Type 0 where
-    pub within : i ≤ n
-    pub inside : p ≤ length s
-    pub same : checkAt levels s at ps ≡ checkAll (checkAt (levels - 1) s) s (n - i) p qs
+-- the children of a record that is in order by itself begin in the bytes
+pub body-inside : (s : List ℕ) (at : ℕ) (ps : List Part) (b n : ℕ) (qs : List Part) → opened b n qs ≡ openAt s at ps → b ≤ length s
+body-inside s at ps b n qs e =
+    let o = record-open s at ps b n qs (sym e) in
+    let b≡ : bodyAt s at ≡ b = cc (o .1) in
+    omega (arith, o .0 .fits)
 
-  module _ (h : levels ≡ 0 → ⊥) where
-    some-left : levels ≡ suc (levels - 1)
-    some-left = omega arith
+-- n records are left, the first of them at p, at the slots qs: r is what their check finds
+pub record Passed (levels : ℕ) (s : List ℕ) (r : Checked) (n p : ℕ) (qs : List Part) : Type 0 where
+  pub inside : p ≤ length s
+  pub same : r ≡ checkAll (checkAt levels s) s n p qs
 
-    pub stopped-here : (k : ℕ) → stopped k ≡ openAt s at ps → refused k at ≡ checkAt levels s at ps
+module _ (levels : ℕ) (s : List ℕ) (r : Checked) (n p : ℕ) (qs : List Part) (d : Passed levels s r n p qs) where
+  pub passed-all : n ≤ 0 → fine p ≡ r
+  unfolding checkAll
+  passed-all h = let z : n ≡ 0 = omega arith in sym (d .same ∙ rw z)
+
+  module _ (h : 0 < n) where
+    one-more : n ≡ suc (n - 1)
+    one-more = omega arith
+
+    first : r ≡ onward (checkAt levels s p qs) (λ e. checkAll (checkAt levels s) s (n - 1) e (after qs (markAt s p)))
+    unfolding checkAll
+    first = d .same ∙ ap (λ (k : ℕ). checkAll (checkAt levels s) s k p qs) one-more
+
+    pub no-level : levels ≡ 0 → refused 7 p ≡ r
     unfolding checkAt
-    stopped-here k e = rw (some-left, ← e)
+    no-level e = sym (first ∙ rw e)
 
-    pub passed-start : (b n : ℕ) (qs : List Part) → opened b n qs ≡ openAt s at ps → Passed n 0 b qs
-    unfolding checkAt
-    passed-start b n qs e =
-        let o = record-open s at ps b n qs (sym e) in
-        let z : n - 0 ≡ n = omega arith in
-        let b≡ : bodyAt s at ≡ b = cc (o .1) in
-        record {
-          within = omega arith;
-          inside = omega (arith, o .0 .fits);
-          same = ap (λ (d : ℕ). checkAt d s at ps) some-left ∙ rw (← e, z);
+    module _ (l : levels ≡ 0 → ⊥) where
+      some-left : levels ≡ suc (levels - 1)
+      some-left = omega arith
+
+      pub stopped-here : (k : ℕ) → stopped k ≡ openAt s p qs → refused k p ≡ r
+      unfolding checkAt
+      stopped-here k e = sym (first ∙ rw (some-left, ← e))
+
+      -- the first one is in order by itself, and the check of its m children from b on, at the slots ps, finds x
+      module _ (b m : ℕ) (ps : List Part) (e : opened b m ps ≡ openAt s p qs) where
+        whole : (x : Checked) → x ≡ checkAll (checkAt (levels - 1) s) s m b ps → checkAt levels s p qs ≡ x
+        unfolding checkAt
+        whole x f = ap (λ (k : ℕ). checkAt k s p qs) some-left ∙ rw (← e, ← f)
+
+        pub passed-turn : (q : ℕ) → fine q ≡ checkAll (checkAt (levels - 1) s) s m b ps → Passed levels s r (n - 1) q (after qs (markAt s p))
+        passed-turn q f = record {
+          inside = check-lies levels s p qs q (whole (fine q) f) .inside;
+          same = first ∙ rw (whole (fine q) f);
         }
 
-  module _ (n i p : ℕ) (qs : List Part) (d : Passed n i p qs) where
-    module _ (h : i < n) where
-      one-more : n - i ≡ suc (n - (i + 1))
-      one-more = omega arith
+        -- it has no children
+        pub passed-leaf : m ≡ 0 → Passed levels s r (n - 1) b (after qs (markAt s p))
+        unfolding checkAll
+        passed-leaf z = passed-turn b (rw z)
 
-      pub passed-turn : (e : ℕ) → checkAt (levels - 1) s p qs ≡ fine e → Passed n (i + 1) e (after qs (markAt s p))
-      unfolding checkAll
-      passed-turn e f = record {
-        within = omega arith;
-        inside = check-lies (levels - 1) s p qs e f .inside;
-        same = d .same ∙ rw (one-more, f);
-      }
-
-      pub passed-refused : (k q : ℕ) → checkAt (levels - 1) s p qs ≡ refused k q → refused k q ≡ checkAt levels s at ps
-      unfolding checkAll
-      passed-refused k q f = sym (d .same ∙ rw (one-more, f))
-
-    pub passed-all : n ≤ i → fine p ≡ checkAt levels s at ps
-    unfolding checkAll
-    passed-all h = let z : n - i ≡ 0 = omega arith in sym (d .same ∙ rw z)
+        pub passed-refused : (k q : ℕ) → refused k q ≡ checkAll (checkAt (levels - 1) s) s m b ps → refused k q ≡ r
+        passed-refused k q f = sym (first ∙ rw (whole (refused k q) f))

@@ -1,4 +1,4 @@
--- The look-ups in the code's tables of marks and of sets: each table agrees with the grammar, by one computation over the whole of it.
+-- The code's tables of marks and of sets, and the look-ups in them: each table agrees with the grammar, by one computation over the whole of it.
 use mathlib.Core.Path.{_≡_, refl, sym, _∙_, subst}
 use mathlib.Core.List.{List, [], _∷_, map}
 use mathlib.Core.Bool.{Bool, true, false, _&&_, _||_, Bool·beq}
@@ -11,7 +11,7 @@ use lib.Dec.{T, eqb, leb, ltb}
 use lib.ListN.{length, getD, List·getD-map, List·getD-eq-default}
 use Rattle.definition.specs.Grammar.{known, forms, slots, least, marks, member}
 use Rattle.grammar.specs.Printed.{setsTable, partsTable}
-use Rattle.grammar.specs.Slots.{setAt, partsFrom, decode, formAt}
+use Rattle.grammar.specs.Slots.{setAt, partsFrom, decode, formAt, RowsRight, inRun, SetsRight}
 use Rattle.grammar.proofs.Printed.{rows, sets, formsTable, startsTable, lowsTable, highsTable, othersTable}
 
 -- ---- by mark: the code's FORMS and STARTS; its LEASTS is `map least slots`
@@ -46,13 +46,13 @@ least-none = refl
 
 -- what the code finds for a mark, and what it answers where there is none
 module _ (c : ℕ) where
-  pub form-is : formAt (getD formsTable c 0) ≡ getD forms c (formAt 0)
+  form-is : formAt (getD formsTable c 0) ≡ getD forms c (formAt 0)
   form-is = rw (← forms-are) (sym (List·getD-map formAt formsTable c 0))
 
-  pub start-is : partsFrom (getD startsTable c 0) ≡ getD slots c []
+  start-is : partsFrom (getD startsTable c 0) ≡ getD slots c []
   start-is = rw (← slots-are, ← none-at-0) (sym (List·getD-map partsFrom startsTable c 0))
 
-  pub least-is : getD (map least slots) c 0 ≡ least (getD slots c [])
+  least-is : getD (map least slots) c 0 ≡ least (getD slots c [])
   least-is = rw (← least-none) (List·getD-map least slots c [])
 
   module _ (h : rows ≤ c) where
@@ -71,11 +71,13 @@ module _ (c : ℕ) where
     no-mark : getD known c 0 ≡ 0
     no-mark = List·getD-eq-default known 0 (omega (arith, known-long))
 
+pub rows-right : RowsRight (formsTable ∷ startsTable ∷ map least slots ∷ [])
+rows-right = record { forms-right = form-is; starts-right = start-is; leasts-right = least-is }
+
 -- ---- by set: the code's LOWS, HIGHS and OTHERS
 
--- whether c is in the run of the set k, or its one mark more
-abbrev run : ℕ → ℕ → Bool
-run k c = (leb (getD lowsTable k 0) c && ltb c (getD highsTable k 0)) || eqb c (getD othersTable k 0)
+abbrev columns : List (List ℕ)
+columns = lowsTable ∷ highsTable ∷ othersTable ∷ []
 
 -- a test that passes at every entry of a list and its place, counted from i, passes at each
 both : (a b : Bool) → T (a && b) → T a × T b
@@ -105,7 +107,7 @@ module _ {A : Type 0} (f : ℕ → A → Bool) (d : A) where
 
 -- the run of the set k is the set s: of every mark the code says what the grammar says, and 0, which is no mark, is not in s
 in-run : ℕ → String → ℕ → ℕ → Bool
-in-run k s c m = Bool·beq (run k c) (member m (marks s))
+in-run k s c m = Bool·beq (inRun columns k c) (member m (marks s))
 
 right : ℕ → String → Bool
 unfolding in-run
@@ -137,16 +139,23 @@ module _ (k c : ℕ) where
     pub not-in-set : rows ≤ c → false ≡ member (getD known c 0) (marks (setAt k))
     not-in-set l = rw (no-mark c l) (agree _ _ (set-right .1))
 
-    module _ (l : c < rows) where
-      set-is : run k c ≡ member (getD known c 0) (marks (setAt k))
-      unfolding in-run
-      set-is = agree _ _ (at-each (in-run k (setAt k)) 0 known (set-right .0) c (omega (arith, known-long)))
+    set-is : c < rows → inRun columns k c ≡ member (getD known c 0) (marks (setAt k))
+    unfolding in-run
+    set-is l = agree _ _ (at-each (in-run k (setAt k)) 0 known (set-right .0) c (omega (arith, known-long)))
 
-      pub below-run : c < getD lowsTable k 0 → eqb c (getD othersTable k 0) ≡ member (getD known c 0) (marks (setAt k))
-      below-run a = rw (lt-leb _ _ a) at set-is
+pub sets-right : SetsRight (lowsTable ∷ highsTable ∷ othersTable ∷ [])
+sets-right = record { sets-right = λ k c h l. set-is k c (omega (arith, sets-long)) (omega (arith, known-long)) }
 
-      pub above-run : getD lowsTable k 0 ≤ c → getD highsTable k 0 ≤ c → eqb c (getD othersTable k 0) ≡ member (getD known c 0) (marks (setAt k))
-      above-run a b = rw (le-leb _ _ a, le-ltb _ _ b) at set-is
+-- what the code finds for a set and a mark in such tables
+module _ (t : List (List ℕ)) (r : SetsRight t) (k c : ℕ) (h : k < sets) (l : c < rows) where
+  run-is : inRun t k c ≡ member (getD known c 0) (marks (setAt k))
+  run-is = r .sets-right k c (omega (arith, sets-long)) (omega (arith, known-long))
 
-      pub within-run : getD lowsTable k 0 ≤ c → c < getD highsTable k 0 → true ≡ member (getD known c 0) (marks (setAt k))
-      within-run a b = rw (le-leb _ _ a, lt-ltb _ _ b) at set-is
+  pub below-run : c < getD (getD t 0 []) k 0 → eqb c (getD (getD t 2 []) k 0) ≡ member (getD known c 0) (marks (setAt k))
+  below-run a = rw (lt-leb _ _ a) at run-is
+
+  pub above-run : getD (getD t 0 []) k 0 ≤ c → getD (getD t 1 []) k 0 ≤ c → eqb c (getD (getD t 2 []) k 0) ≡ member (getD known c 0) (marks (setAt k))
+  above-run a b = rw (le-leb _ _ a, le-ltb _ _ b) at run-is
+
+  pub within-run : getD (getD t 0 []) k 0 ≤ c → c < getD (getD t 1 []) k 0 → true ≡ member (getD known c 0) (marks (setAt k))
+  within-run a b = rw (le-leb _ _ a, lt-ltb _ _ b) at run-is

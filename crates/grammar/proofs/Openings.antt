@@ -9,7 +9,7 @@ use borrow.Author.Tests.{lt-ltb, le-ltb, le-leb, lt-leb, eqb-true}
 use lib.Dec.{eqb}
 use lib.ListN.{length, getD, take, drop}
 use Rattle.definition.specs.Tree.{headSize, markAt, lengthAt, countAt, flagsAt, startAt, lastAt, textAt}
-use Rattle.definition.specs.Grammar.{Part, known, forms, slots, place, least, allowed}
+use Rattle.definition.specs.Grammar.{Part, known, forms, slots, place, least, allowed, after}
 use Rattle.definition.specs.Check.{hasForm, formOf, slotsOf, inside, Opening, Opening.opened, Opening.stopped, openBody, openAt}
 use Rattle.records.specs.Fields.{fieldsAt}
 use Rattle.records.specs.declared.Head.{Head}
@@ -57,6 +57,10 @@ module _ (s : List ℕ) (at : ℕ) (ps : List Part) (h : Head) (code : ℕ) (is 
 
       same-mark : getD known code 0 ≡ markAt s at
       same-mark = mark-back code (h .mark) num b ∙ mark-is
+
+      -- the slots that come after the record
+      pub slots-after : (qs : List Part) → qs ≡ after ps (getD known code 0) → qs ≡ after ps (markAt s at)
+      slots-after qs q = q ∙ ap (after ps) same-mark
 
       pub wrong-slot : allowed ps (getD known code 0) ≡ false → stopped 5 ≡ openAt s at ps
       unfolding openAt

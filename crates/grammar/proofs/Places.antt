@@ -1,7 +1,7 @@
 -- What stands at a place of the table of slots, and what the code's search through it says of the slots.
 use mathlib.Core.Path.{_≡_, refl, _∙_}
-use mathlib.Core.List.{[], _∷_}
-use mathlib.Core.Bool.{true, false}
+use mathlib.Core.List.{List, [], _∷_}
+use mathlib.Core.Bool.{Bool, true, false, cond}
 use Prim.Native.Nat.{ℕ, _+_, _-_, _<_, _≤_}
 use native.Mathlib.Numerals.{add-one}
 use native.Mathlib.Decide.{decLt, ℕ-discrete}
@@ -9,7 +9,7 @@ use native.Mathlib.Omega.{arith}
 use borrow.Author.Tests.{eq-eqb, ne-eqb, lt-ltb, le-ltb}
 use lib.ListN.{length, getD, drop-of-length-le, List·getD-eq-default}
 use lib.Seq.{drop-cons}
-use Rattle.definition.specs.Grammar.{Part.one, Part.many, Part.property, allowed, after, member, marks, isProperty, root, undestructured}
+use Rattle.definition.specs.Grammar.{Part, Part.one, Part.many, Part.property, allowed, after, member, marks, isProperty, root, undestructured}
 use Rattle.grammar.specs.Printed.{setsTable, partsTable}
 use Rattle.grammar.specs.Slots.{setAt, partsFrom, decode, decodeOne}
 use Rattle.grammar.proofs.Printed.{places, propertySet, undestructuredAt, rootAt}
@@ -114,6 +114,11 @@ module _ (k p m : ℕ) (h : k < places) (q : p ≡ getD partsTable k 0) where
           pub after-out : after (partsFrom k) m ≡ after (partsFrom (k + 1)) m
           unfolding after
           after-out = rw (parts-many, e)
+
+-- a mark other than Ag has the same slots at a Pp and elsewhere
+pub either-way : (b : Bool) (ps : List Part) → ps ≡ cond b ps ps
+either-way true ps = refl
+either-way false ps = refl
 
 -- the code's test for the slot of a Pp
 module _ (k p : ℕ) (q : p ≡ getD partsTable k 0) where

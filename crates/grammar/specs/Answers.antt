@@ -1,5 +1,8 @@
 -- The code's answers in the terms of document 01: each refusal's number in its table.
 use Prim.Native.Nat.{ℕ}
+use mathlib.Core.Path.{_≡_}
+use mathlib.Core.List.{List}
+use Rattle.definition.specs.Grammar.{Part}
 use Rattle.definition.specs.Check.{Opening.opened, Opening.stopped, Checked.fine, Checked.refused}
 use Rattle.definition.specs.Check as Check
 use Rattle.grammar.specs.Slots.{partsFrom}
@@ -30,5 +33,10 @@ checked (Refused n p) = refused (number n) p
 
 -- what the tests of a record by itself found; a slot of the code is a place in the table of slots
 abbrev pub opening : Opening → Check.Opening
-opening (Opened body count slot) = opened body count (partsFrom slot)
+opening (Opened body count slot next) = opened body count (partsFrom slot)
 opening (Stopped n) = stopped (number n)
+
+-- the slots ps come after it
+abbrev pub Before : Opening → List Part → Type 0
+Before (Opened body count slot next) ps = partsFrom next ≡ ps
+Before (Stopped n) ps = Unit {0}

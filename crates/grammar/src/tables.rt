@@ -8,7 +8,7 @@ ghost use lib.ListN.{getD};
 ghost use Rattle.definition.specs.Grammar.{known, forms, slots, place, member, marks, allowed, after, least};
 ghost use Rattle.definition.specs.Check.{inside};
 ghost use Rattle.grammar.specs.Printed.{partsTable};
-ghost use Rattle.grammar.specs.Slots.{setAt, partsFrom, formAt};
+ghost use Rattle.grammar.specs.Slots.{setAt, partsFrom, formAt, RowsRight, SetsRight};
 use records::marks::AG;
 use records::marks::KNOWN;
 
@@ -66,6 +66,52 @@ const OTHERS: [u8; SETS] =
 
 // end of what is printed
 
+// A table that a function names is made anew at each call of it, so a check makes the tables once and lends them. PARTS:
+pub type Parts = [u8; PLACES];
+
+// FORMS, STARTS and LEASTS, by their places here:
+pub type Rows = [[u8; KNOWN]; 3];
+
+const FORM: usize = 0;
+
+const START: usize = 1;
+
+const LEAST: usize = 2;
+
+// LOWS, HIGHS and OTHERS, by their places here:
+pub type Sets = [[u8; SETS]; 3];
+
+const LOW: usize = 0;
+
+const HIGH: usize = 1;
+
+const OTHER: usize = 2;
+
+// What a record finds at the slots: whether it may stand there, and the slot after it.
+pub struct Taken {
+    pub placed: bool,
+    pub next: usize,
+}
+
+// The tables to lend.
+pub fn parts() -> Parts
+    ensures { λ r. ⌜ r ≡ partsTable ⌝ }
+{
+    PARTS
+}
+
+pub fn rows() -> Rows
+    ensures { λ r. ⌜ RowsRight r ⌝ }
+{
+    [FORMS, STARTS, LEASTS]
+}
+
+pub fn sets() -> Sets
+    ensures { λ r. ⌜ SetsRight r ⌝ }
+{
+    [LOWS, HIGHS, OTHERS]
+}
+
 // An entry of a table as a number to count with.
 fn wide(x: u8) -> usize
     ensures { λ r. ⌜ (r ≡ x) × (r < 256) ⌝ }
@@ -74,28 +120,40 @@ fn wide(x: u8) -> usize
 }
 
 // The form of the text of the mark with the number `code`.
-pub fn form_of(code: usize) -> u8
+pub fn form_of(rows: &Rows, code: usize) -> u8
+    requires { ⌜ RowsRight (now rows) ⌝ }
     ensures { λ r. ⌜ formAt r ≡ getD forms code (formAt 0) ⌝ }
 {
-    if code < KNOWN { FORMS[code] } else { 0 }
+    if code < KNOWN { rows[FORM][code] } else { 0 }
 }
 
 // The first slot of its children.
-pub fn start_of(code: usize) -> usize
+pub fn start_of(rows: &Rows, code: usize) -> usize
+    requires { ⌜ RowsRight (now rows) ⌝ }
     ensures { λ r. ⌜ partsFrom r ≡ getD slots code [] ⌝ }
 {
-    if code < KNOWN { wide(STARTS[code]) } else { 0 }
+    if code < KNOWN {
+        wide(rows[START][code])
+    } else {
+        0
+    }
 }
 
 // How many children it has at least.
-pub fn least_of(code: usize) -> usize
+pub fn least_of(rows: &Rows, code: usize) -> usize
+    requires { ⌜ RowsRight (now rows) ⌝ }
     ensures { λ r. ⌜ r ≡ least (getD slots code []) ⌝ }
 {
-    if code < KNOWN { wide(LEASTS[code]) } else { 0 }
+    if code < KNOWN {
+        wide(rows[LEAST][code])
+    } else {
+        0
+    }
 }
 
 // Whether it is one of the set k.
-fn in_set(k: usize, code: usize) -> bool
+fn in_set(sets: &Sets, k: usize, code: usize) -> bool
+    requires { ⌜ SetsRight (now sets) ⌝ }
     ensures { λ r. ⌜ r ≡ member (getD known code 0) (marks (setAt k)) ⌝ }
 {
     if SETS <= k {
@@ -104,80 +162,73 @@ fn in_set(k: usize, code: usize) -> bool
     if KNOWN <= code {
         return false;
     }
-    if code < wide(LOWS[k]) {
-        return code == wide(OTHERS[k]);
+    if code < wide(sets[LOW][k]) {
+        return code == wide(sets[OTHER][k]);
     }
-    if wide(HIGHS[k]) <= code {
-        return code == wide(OTHERS[k]);
+    if wide(sets[HIGH][k]) <= code {
+        return code == wide(sets[OTHER][k]);
     }
     true
 }
 
 // The entry of PARTS at the place k.
-fn part_at(k: usize) -> usize
+fn part_at(parts: &Parts, k: usize) -> usize
+    requires { ⌜ now parts ≡ partsTable ⌝ }
     ensures { λ r. ⌜ r ≡ getD partsTable k 0 ⌝ }
 {
-    if k < PLACES { wide(PARTS[k]) } else { 0 }
+    if k < PLACES { wide(parts[k]) } else { 0 }
 }
 
-// Whether it may stand at the slot k.
-pub fn allows(k: usize, code: usize) -> bool
-    ensures { λ r. ⌜ r ≡ allowed (partsFrom k) (getD known code 0) ⌝ }
+// What a record with that mark finds at the slot k.
+pub fn take_slot(parts: &Parts, sets: &Sets, k: usize, code: usize) -> Taken
+    requires { ⌜ (now parts ≡ partsTable) × SetsRight (now sets) ⌝ }
+    ensures { λ r. ⌜
+        (r .placed ≡ allowed (partsFrom k) (getD known code 0)) × (partsFrom (r .next) ≡ after (partsFrom k) (getD known code 0))
+        ⌝ }
 {
     let mut i = k;
     while i < PLACES {
-        let p = part_at(i);
+        let p = part_at(parts, i);
         if p == 0 {
-            return false;
+            return Taken {
+                placed: false,
+                next: i,
+            };
         }
         if p < MANY {
-            return in_set(p - ONE, code);
+            let placed = in_set(sets, p - ONE, code);
+            let next = i + 1;
+            return Taken { placed, next };
         }
         if PROPERTY <= p {
-            return in_set(PROPERTY_SET, code);
+            let placed = in_set(sets, PROPERTY_SET, code);
+            let next = i + 1;
+            return Taken { placed, next };
         }
-        if in_set(p - MANY, code) {
-            return true;
+        if in_set(sets, p - MANY, code) {
+            return Taken {
+                placed: true,
+                next: i,
+            };
         }
         i += 1;
     }
-    false
-}
-
-// The slot after a record with that mark at the slot k.
-pub fn next_slot(k: usize, code: usize) -> usize
-    ensures { λ r. ⌜ partsFrom r ≡ after (partsFrom k) (getD known code 0) ⌝ }
-{
-    let mut i = k;
-    while i < PLACES {
-        let p = part_at(i);
-        if p == 0 {
-            return i;
-        }
-        if p < MANY {
-            return i + 1;
-        }
-        if PROPERTY <= p {
-            return i + 1;
-        }
-        if in_set(p - MANY, code) {
-            return i;
-        }
-        i += 1;
+    Taken {
+        placed: false,
+        next: i,
     }
-    i
 }
 
 // The first slot of the children of a record with the mark `mark`, whose number is `code`, at the slot k.
-pub fn kids_slot(k: usize, mark: u16, code: usize) -> usize
-    requires { ⌜ code ≡ place known mark ⌝ }
+pub fn kids_slot(parts: &Parts, rows: &Rows, k: usize, mark: u16, code: usize) -> usize
+    requires { ⌜ (now parts ≡ partsTable) × RowsRight (now rows) × (code ≡ place known mark) ⌝ }
     ensures { λ r. ⌜ partsFrom r ≡ inside (partsFrom k) mark ⌝ }
 {
-    if part_at(k) < PROPERTY {
-        return start_of(code);
+    if mark != AG {
+        return start_of(rows, code);
     }
-    if mark == AG {
-        return UNDESTRUCTURED;
+    if part_at(parts, k) < PROPERTY {
+        return start_of(rows, code);
     }
-    start_of(code)
+    UNDESTRUCTURED
 }

@@ -1,7 +1,7 @@
 -- Laws of `Whole`: a record that lies in the bytes, its children, where it ends; and that an accepted record is whole.
-use mathlib.Core.Path.{_≡_, sym, _∙_, ap, subst}
+use mathlib.Core.Path.{_≡_, refl, sym, _∙_, ap, subst}
 use mathlib.Core.List.{List}
-use Prim.Native.Nat.{ℕ, zero, suc, _+_, _-_, _≤_, _<_}
+use Prim.Native.Nat.{ℕ, zero, suc, _+_, _*_, _-_, _≤_, _<_}
 use native.Mathlib.Omega.{arith}
 use lib.ListN.{length, getD}
 use mir.Syntax.{w8}
@@ -15,15 +15,7 @@ use Rattle.definition.proofs.Converse.{encode-treeAt}
 use Rattle.records.specs.Whole.{Each, Whole, partAt}
 use Rattle.records.specs.Wrote.{Put}
 
-one-less : (n : ℕ) → n ≡ suc n - 1
-one-less n = omega arith
-
 -- ---- a record that is whole
-
-pub whole-pos : (levels : ℕ) (s : List ℕ) (at : ℕ) → Whole levels s at → 0 < levels
-unfolding Whole
-whole-pos zero s at w = absurd w
-whole-pos (suc levels) s at w = omega arith
 
 -- its head and its text lie in the bytes
 pub whole-body : (levels : ℕ) (s : List ℕ) (at : ℕ) → Whole levels s at → bodyAt s at ≤ length s
@@ -31,28 +23,17 @@ unfolding Whole
 whole-body zero s at w = absurd w
 whole-body (suc levels) s at w = w .0
 
--- and so do its children, with one level less
-pub whole-kids : (levels : ℕ) (s : List ℕ) (at : ℕ) → Whole levels s at → Each (Whole (levels - 1) s) (endAt (levels - 1) s) (countAt s at) (bodyAt s at)
-unfolding Whole
-whole-kids zero s at w = absurd w
-whole-kids (suc levels) s at w = subst (λ (k : ℕ). Each (Whole k s) (endAt k s) (countAt s at) (bodyAt s at)) (one-less levels) (w .1)
-
--- ---- one step down, and one step on
-
-pub end-step : (levels : ℕ) (s : List ℕ) (at : ℕ) → 0 < levels → endAt levels s at ≡ endOfAll (endAt (levels - 1) s) (countAt s at) (bodyAt s at)
-unfolding endAt
-end-step zero s at h = absurd (omega arith)
-end-step (suc levels) s at h = ap (λ (k : ℕ). endOfAll (endAt k s) (countAt s at) (bodyAt s at)) (one-less levels)
+-- ---- the first of some records, and the others
 
 module _ (n : ℕ) (h : 0 < n) where
   one-more : n ≡ suc (n - 1)
   one-more = omega arith
 
-  pub each-first : (P : ℕ → Type 0) (end : ℕ → ℕ) (at : ℕ) → Each P end n at → P at
+  each-first : (P : ℕ → Type 0) (end : ℕ → ℕ) (at : ℕ) → Each P end n at → P at
   unfolding Each
   each-first P end at e = (subst (λ (k : ℕ). Each P end k at) one-more e) .0
 
-  pub each-rest : (P : ℕ → Type 0) (end : ℕ → ℕ) (at : ℕ) → Each P end n at → Each P end (n - 1) (end at)
+  each-rest : (P : ℕ → Type 0) (end : ℕ → ℕ) (at : ℕ) → Each P end n at → Each P end (n - 1) (end at)
   unfolding Each
   each-rest P end at e = (subst (λ (k : ℕ). Each P end k at) one-more e) .1
 
@@ -75,32 +56,85 @@ whole-span (suc levels) s at w =
     let q = each-span (Whole levels s) (endAt levels s) (length s) (λ (a : ℕ) (v : Whole levels s a). (omega (arith, whole-span levels s a v), whole-span levels s a v .1)) (countAt s at) (bodyAt s at) (w .0) (w .1) in
     (omega arith, q .1)
 
--- ---- a loop over the children of a record
+-- ---- one level more, and one row behind another
 
--- with n children of the record at `at` left, the first of them at c: they are whole, and behind them the record ends
-pub record Siblings (levels : ℕ) (s : List ℕ) (at n c : ℕ) : Type 0 where
-  pub pos : 0 < levels
-  pub kids : Each (Whole (levels - 1) s) (endAt (levels - 1) s) n c
-  pub rest : endOfAll (endAt (levels - 1) s) n c ≡ endAt levels s at
+each-more : (P Q : ℕ → Type 0) (f g : ℕ → ℕ) → ((a : ℕ) → P a → Q a × (g a ≡ f a)) → (n at : ℕ) → Each P f n at
+    → Each Q g n at × (endOfAll g n at ≡ endOfAll f n at)
+unfolding Each endOfAll
+each-more P Q f g h zero at e = (tt, refl)
+each-more P Q f g h (suc n) at e =
+    let a = h at (e .0) in
+    let r = each-more P Q f g h n (f at) (e .1) in
+    ((a .0, subst (λ (k : ℕ). Each Q g n k) (sym (a .1)) (r .0)), ap (endOfAll g n) (a .1) ∙ r .1)
 
-pub siblings-start : (levels : ℕ) (s : List ℕ) (at : ℕ) → Whole levels s at → Siblings levels s at (countAt s at) (bodyAt s at)
-siblings-start levels s at w =
-    let h = whole-pos levels s at w in
-    record { pos = h; kids = whole-kids levels s at w; rest = sym (end-step levels s at h) }
+-- a whole record is whole with one level more, and ends at the same place
+whole-more : (levels : ℕ) (s : List ℕ) (at : ℕ) → Whole levels s at → Whole (suc levels) s at × (endAt (suc levels) s at ≡ endAt levels s at)
+unfolding Whole endAt
+whole-more zero s at w = absurd w
+whole-more (suc levels) s at w =
+    let r = each-more (Whole levels s) (Whole (suc levels) s) (endAt levels s) (endAt (suc levels) s) (λ a v. whole-more levels s a v) (countAt s at) (bodyAt s at) (w .1) in
+    ((w .0, r .0), r .1)
 
-module _ (levels : ℕ) (s : List ℕ) (at n c : ℕ) (i : Siblings levels s at n c) where
-  pub siblings-first : 0 < n → Whole (levels - 1) s c
-  siblings-first h = each-first n h (Whole (levels - 1) s) (endAt (levels - 1) s) c (i .kids)
+row-end : (end : ℕ → ℕ) (m n at : ℕ) → endOfAll end (m + n) at ≡ endOfAll end n (endOfAll end m at)
+unfolding endOfAll
+row-end end zero n at = let e : zero + n ≡ n = omega arith in rw e
+row-end end (suc m) n at = let e : suc m + n ≡ suc (m + n) = omega arith in rw e (row-end end m n (end at))
 
-  pub siblings-next : 0 < n → Siblings levels s at (n - 1) (endAt (levels - 1) s c)
-  siblings-next h = record {
-    pos = i .pos;
-    kids = each-rest n h (Whole (levels - 1) s) (endAt (levels - 1) s) c (i .kids);
-    rest = sym (endOfAll-more (endAt (levels - 1) s) n c h) ∙ i .rest;
-  }
+row-each : (P : ℕ → Type 0) (end : ℕ → ℕ) (m n at : ℕ) → Each P end m at → Each P end n (endOfAll end m at) → Each P end (m + n) at
+unfolding Each endOfAll
+row-each P end zero n at a b = let e : zero + n ≡ n = omega arith in rw e b
+row-each P end (suc m) n at a b = let e : suc m + n ≡ suc (m + n) = omega arith in rw e (a .0, row-each P end m n (end at) (a .1) b)
 
-  pub siblings-done : n ≤ 0 → c ≡ endAt levels s at
-  siblings-done h = sym (endOfAll-none (endAt (levels - 1) s) n c h) ∙ i .rest
+-- ---- the loop of `record_end`
+
+-- n records are pending in one row, the first of them at c: they are whole, and behind them is e
+pub record Pending (levels : ℕ) (s : List ℕ) (n c e : ℕ) : Type 0 where
+  pub all : Each (Whole levels s) (endAt levels s) n c
+  pub end : endOfAll (endAt levels s) n c ≡ e
+
+-- each of them takes a head
+each-room : (levels : ℕ) (s : List ℕ) (n c : ℕ) → c ≤ length s → Each (Whole levels s) (endAt levels s) n c → c + headSize * n ≤ length s
+unfolding Each
+each-room levels s zero c h a = omega arith
+each-room levels s (suc n) c h a =
+    let w = whole-span levels s c (a .0) in
+    omega (arith, each-room levels s n (endAt levels s c) (w .1) (a .1))
+
+pub pending-start : (levels : ℕ) (s : List ℕ) (at : ℕ) → Whole levels s at → Pending levels s 1 at (endAt levels s at)
+unfolding Each endOfAll
+pending-start levels s at w = record { all = (w, tt); end = refl }
+
+module _ (levels : ℕ) (s : List ℕ) (n c e : ℕ) (l : Pending levels s n c e) where
+  pending-first : 0 < n → Whole levels s c
+  pending-first h = each-first n h (Whole levels s) (endAt levels s) c (l .all)
+
+  pub pending-body : 0 < n → bodyAt s c ≤ length s
+  pending-body h = whole-body levels s c (pending-first h)
+
+  pub pending-room : 0 < n → c + headSize * n ≤ length s
+  pending-room h = each-room levels s n c (omega (arith, pending-body h)) (l .all)
+
+  pub pending-done : n ≤ 0 → c ≡ e
+  pending-done h = sym (endOfAll-none (endAt levels s) n c h) ∙ l .end
+
+-- the children of the first one take its place, with a level more than they need
+pub pending-turn : (levels : ℕ) (s : List ℕ) (n c e : ℕ) → Pending levels s n c e → 0 < n → Pending levels s (n - 1 + countAt s c) (bodyAt s c) e
+unfolding Whole endAt
+pending-turn zero s n c e l h = absurd (each-first n h (Whole zero s) (endAt zero s) c (l .all))
+pending-turn (suc k) s n c e l h =
+    let P = Whole (suc k) s in
+    let f = endAt (suc k) s in
+    let w : Whole (suc k) s c = each-first n h P f c (l .all) in
+    let r = each-more (Whole k s) P (endAt k s) f (λ a v. whole-more k s a v) (countAt s c) (bodyAt s c) (w .1) in
+    let others = each-rest n h P f c (l .all) in
+    let q : n - 1 + countAt s c ≡ countAt s c + (n - 1) = omega arith in
+    record {
+      all = subst (λ (m : ℕ). Each P f m (bodyAt s c)) (sym q)
+          (row-each P f (countAt s c) (n - 1) (bodyAt s c) (r .0) (subst (λ (a : ℕ). Each P f (n - 1) a) (sym (r .1)) others));
+      end = ap (λ (m : ℕ). endOfAll f m (bodyAt s c)) q
+          ∙ (row-end f (countAt s c) (n - 1) (bodyAt s c)
+          ∙ (ap (endOfAll f (n - 1)) (r .1) ∙ (sym (endOfAll-more f n c h) ∙ l .end)));
+    }
 
 -- ---- an accepted record
 

@@ -169,16 +169,17 @@ pub fn text_at(tree: &[u8], at: usize) -> &[u8]
     &tree[start..end]
 }
 
-// The offset behind the record at `at`, which is at most `levels` levels deep: behind its head, its text and its children.
+// The offset behind the record at `at`, which is at most `levels` levels deep: behind its head, its text and its children, which take its place
+// among the records that are pending.
 pub fn record_end(tree: &[u8], at: usize, levels: usize) -> usize
     requires { ⌜ Whole levels (now tree) at ⌝ }
     ensures { λ r. ⌜ r ≡ endAt levels (now (tree .entry)) at ⌝ }
 {
-    let mut n = count_at(tree, at);
-    let mut end = body_at(tree, at);
-    while 0 < n {
-        end = record_end(tree, end, levels - 1);
-        n -= 1;
+    let mut end = at;
+    let mut pending: usize = 1;
+    while 0 < pending {
+        pending = pending - 1 + count_at(tree, end);
+        end = body_at(tree, end);
     }
     end
 }

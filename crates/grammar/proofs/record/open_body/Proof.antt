@@ -1,5 +1,5 @@
 -- `grammar::record::open_body` meets its contract.
-use mathlib.Core.Path.{sym, _∙_}
+use mathlib.Core.Path.{refl, sym, _∙_}
 use borrow.Author.Tests.{not-true, not-false}
 use borrow.Author.Needs.{needs}
 use Rattle.grammar.specs.Slots.{partsFrom}
@@ -17,7 +17,7 @@ returns : tie.Need-returns
 returns c =
     let a = c .before .before .args in
     let z = c .before .before .pre in
-    cut-text _ _ (partsFrom (a .k)) (a .h) _ (z .1) (z .2) (c .if1 .taken)
+    (cut-text _ _ (partsFrom (a .k)) (a .h) _ (z .1) (z .2) (c .if1 .taken), tt)
 
 add-body : tie.Need-add-body
 add-body c = search needs
@@ -41,7 +41,7 @@ returns-2 : tie.Need-returns-2
 returns-2 c =
     let a = c .before .before .before .before .before .before .args in
     let z = c .before .before .before .before .before .before .pre in
-    wrong-text _ _ (partsFrom (a .k)) (a .h) _ (z .1) (z .2) _ (c .before .before .before .form-of .ensures) (c .before .before .before .before .if1 .left) (sym (c .before .has-form .ensures) ∙ not-true _ (c .if2 .taken))
+    (wrong-text _ _ (partsFrom (a .k)) (a .h) _ (z .1) (z .2) _ (c .before .before .before .form-of .ensures) (c .before .before .before .before .if1 .left) (sym (c .before .has-form .ensures) ∙ not-true _ (c .if2 .taken)), tt)
 
 least-of-requires : tie.Need-least-of-requires
 least-of-requires c κs = search needs
@@ -51,7 +51,7 @@ returns-3 c =
     let a = c .before .before .before .before .before .before .before .before .args in
     let z = c .before .before .before .before .before .before .before .before .pre in
     let good = sym (c .before .before .before .has-form .ensures) ∙ not-false _ (c .before .before .if2 .left) in
-    too-few _ _ (partsFrom (a .k)) (a .h) _ (z .1) (z .2) _ (c .before .before .before .before .before .form-of .ensures) (c .before .before .before .before .before .before .if1 .left) good _ (c .before .least-of .ensures) (c .if3 .taken)
+    (too-few _ _ (partsFrom (a .k)) (a .h) _ (z .1) (z .2) _ (c .before .before .before .before .before .form-of .ensures) (c .before .before .before .before .before .before .if1 .left) good _ (c .before .least-of .ensures) (c .if3 .taken), tt)
 
 kids-slot-requires : tie.Need-kids-slot-requires
 kids-slot-requires c κs = search needs
@@ -61,7 +61,7 @@ returns-4 c =
     let a = c .before .before .before .before .before .before .before .before .before .args in
     let z = c .before .before .before .before .before .before .before .before .before .pre in
     let good = sym (c .before .before .before .before .has-form .ensures) ∙ not-false _ (c .before .before .before .if2 .left) in
-    body-fine _ _ (partsFrom (a .k)) (a .h) _ (z .1) (z .2) _ (c .before .before .before .before .before .before .form-of .ensures) (c .before .before .before .before .before .before .before .if1 .left) good _ (c .before .before .least-of .ensures) (c .before .if3 .left) _ (c .kids-slot .ensures)
+    (body-fine _ _ (partsFrom (a .k)) (a .h) _ (z .1) (z .2) _ (c .before .before .before .before .before .before .form-of .ensures) (c .before .before .before .before .before .before .before .if1 .left) good _ (c .before .before .least-of .ensures) (c .before .if3 .left) _ (c .kids-slot .ensures), refl)
 
 pub open-body-spec : {M : Type 1} → statement M
 open-body-spec =

@@ -1,19 +1,20 @@
--- `grammar::tables::form_of` meets its contract: its table is the grammar's column of forms.
+-- `grammar::tables::form_of` meets its contract.
 use borrow.Author.Needs.{needs}
-use Rattle.grammar.proofs.Printed.{formsTable}
-use Rattle.grammar.proofs.Lookups.{form-is, no-form}
+use Rattle.grammar.proofs.Lookups.{no-form}
 use Rattle.grammar.proofs.tables.form_of.Statement.{statement}
 use Rattle.grammar.proofs.tables.form_of.Tie as tie
 
-array-read-result : tie.Need-array-read-result
-array-read-result c = search needs
+index-1-result : tie.Need-index-1-result
+index-1-result c = search needs
+
+index-2-result : tie.Need-index-2-result
+index-2-result c = search needs
 
 returns : tie.Need-returns
-unfolding formsTable
-returns c = form-is (c .before .args .code)
+returns c = c .before .before .pre .forms-right _
 
 returns-2 : tie.Need-returns-2
 returns-2 c = no-form _ (c .if1 .left)
 
 pub form-of-spec : {M : Type 1} → statement M
-form-of-spec = tie.close (tie.spec array-read-result returns returns-2)
+form-of-spec = tie.close (tie.spec index-1-result index-2-result returns returns-2)
