@@ -1,4 +1,7 @@
 //! The exported calls of `include/dts.h`, as `rt staticlib dts` writes them, and records to try.
+mod shapes;
+
+pub use shapes::{constant, leaf, name, record, shapes};
 
 unsafe extern "C" {
     fn dts_check(tree: *const u8, tree_len: usize, list: *const u8, list_len: usize, answer: *mut [u64; 2]) -> u32;
@@ -30,17 +33,4 @@ pub fn transform(tree: &[u8], out: &mut [u8], diagnostics: &mut [u8]) -> (u32, [
     let (out, diagnostics) = (out.as_mut_ptr(), diagnostics.as_mut_ptr());
     let number = unsafe { dts_transform(tree.as_ptr(), tree.len(), tree.as_ptr(), 0, 1, out, o, diagnostics, d, &mut answer) };
     (number, answer)
-}
-
-/// A record without flags and range.
-pub fn record(mark: &str, text: &[u8], children: &[Vec<u8>]) -> Vec<u8> {
-    let mut bytes = mark.as_bytes().to_vec();
-    bytes.extend([0; 9]);
-    bytes.extend((text.len() as u16).to_le_bytes());
-    bytes.extend((children.len() as u16).to_le_bytes());
-    bytes.extend(text);
-    for child in children {
-        bytes.extend(child);
-    }
-    bytes
 }

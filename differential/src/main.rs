@@ -1,6 +1,8 @@
 //! `differential cases N SEED`: the proved call beside the unchanged Rust on the cases at the limits and N random ones, good and damaged, with
 //! exact, short and long buffers; each buffer holds noise first and is compared whole, and so is a second pass over what was written.
 //! `differential speed`: their times, as ratios in one run.
+#[path = "../../bench/src/shapes.rs"]
+mod shapes;
 mod speed;
 
 use std::process::ExitCode;

@@ -1,4 +1,5 @@
-//! The proved call against the Rust's transform alone, and against it with decoding and encoding, on generated modules; and how its time grows.
+//! The proved call against the Rust's transform alone, and against it with decoding and encoding, on generated modules and on the largest
+//! trees of the shapes that put many questions about names; and how its time grows.
 use std::hint::black_box;
 use std::time::Duration;
 use std::time::Instant;
@@ -10,6 +11,11 @@ use oracle::generate::Rng;
 use oracle::generate::tree;
 use oracle::grammar::check;
 use oracle::record::Rec;
+
+use crate::shapes::shapes;
+
+/// The largest tree.
+const LARGEST: usize = 524_288;
 
 /// The unresolved context of the modules.
 const UNRESOLVED: u32 = 1;
@@ -47,52 +53,58 @@ fn time<T>(mut make: impl FnMut() -> T, mut run: impl FnMut(T)) -> Duration {
     (0..15).map(|_| once(times)).min().expect("a run")
 }
 
+/// The proved call's time on a module, and its ratio to that of the Rust's transform alone and to that with decoding and encoding.
+fn beside(bytes: &[u8]) -> (Duration, f64, f64) {
+    let (tree, _) = Rec::read(bytes, 0).expect("a tree");
+    let (swc, _) = decode::module(&tree);
+    let mut out = vec![0; 8 * bytes.len()];
+    let mut diagnostics = vec![0; bytes.len()];
+    let ours = time(
+        || (),
+        |()| {
+            black_box(crate::proved(bytes, &[], UNRESOLVED, &mut out, &mut diagnostics));
+        },
+    );
+    let alone = time(
+        || swc.clone(),
+        |swc| {
+            black_box(call::run(swc, &[], UNRESOLVED));
+        },
+    );
+    let whole = time(
+        || (),
+        |()| {
+            let (tree, _) = Rec::read(bytes, 0).expect("a tree");
+            let (swc, notes) = decode::module(&tree);
+            let (swc, found) = call::run(swc, &[], UNRESOLVED);
+            black_box((encode::module(&swc, &notes).encode(), found));
+        },
+    );
+    let ratio = |other: Duration| ours.as_secs_f64() / other.as_secs_f64();
+    (ours, ratio(alone), ratio(whole))
+}
+
+fn line(bytes: usize, (ours, alone, whole): (Duration, f64, f64), what: &str) {
+    println!("{bytes:<9} {:>8.1} us   {alone:>6.2} of its time   {whole:>6.2} of its time            {what}", ours.as_secs_f64() * 1e6);
+}
+
+/// Generated modules, with the growth of the time, and the largest tree of each shape.
 pub fn print() {
-    println!("bytes     proved call   transform alone   with decoding and encoding   growth of the proved call");
+    println!("bytes     proved call   transform alone   with decoding and encoding   what");
     let mut before: Option<(usize, Duration)> = None;
     for size in [2_000, 20_000, 200_000] {
-        let tree = module(size);
-        let bytes = tree.encode().expect("a tree");
-        let (swc, _) = decode::module(&tree);
-        let mut out = vec![0; 4 * bytes.len()];
-        let mut diagnostics = vec![0; bytes.len()];
-        let ours = time(
-            || (),
-            |()| {
-                black_box(crate::proved(&bytes, &[], UNRESOLVED, &mut out, &mut diagnostics));
-            },
-        );
-        let alone = time(
-            || swc.clone(),
-            |swc| {
-                black_box(call::run(swc, &[], UNRESOLVED));
-            },
-        );
-        let whole = time(
-            || (),
-            |()| {
-                let (tree, _) = Rec::read(&bytes, 0).expect("a tree");
-                let (swc, notes) = decode::module(&tree);
-                let (swc, found) = call::run(swc, &[], UNRESOLVED);
-                black_box((encode::module(&swc, &notes).encode(), found));
-            },
-        );
-        let ratio = |other: Duration| ours.as_secs_f64() / other.as_secs_f64();
+        let bytes = module(size).encode().expect("a tree");
+        let found = beside(&bytes);
         let growth = match before {
             None => "".to_string(),
-            Some((length, time)) => format!(
-                "{:.1} times the time for {:.1} times the bytes",
-                ours.as_secs_f64() / time.as_secs_f64(),
-                bytes.len() as f64 / length as f64
-            ),
+            Some((length, time)) => {
+                format!(": {:.1} times the time for {:.1} times the bytes", found.0.as_secs_f64() / time.as_secs_f64(), bytes.len() as f64 / length as f64)
+            }
         };
-        println!(
-            "{:<9} {:>8.1} us   {:>6.2} of its time   {:>6.2} of its time            {growth}",
-            bytes.len(),
-            ours.as_secs_f64() * 1e6,
-            ratio(alone),
-            ratio(whole)
-        );
-        before = Some((bytes.len(), ours));
+        line(bytes.len(), found, &format!("a generated module{growth}"));
+        before = Some((bytes.len(), found.0));
+    }
+    for (shape, bytes) in shapes(LARGEST) {
+        line(bytes.len(), beside(&bytes), shape);
     }
 }

@@ -1,10 +1,6 @@
-//! The exported call on wide expressions, timed: how many times the time twice the elements take.
-use bench::{record, transform};
+//! The exported call on wide expressions and on modules that put many questions about names, timed: how many times the time twice as much takes.
+use bench::{constant, leaf, name, record, shapes, transform};
 use std::time::{Duration, Instant};
-
-fn leaf(mark: &str) -> Vec<u8> {
-    record(mark, &[], &[])
-}
 
 /// An expression around so many of the same element.
 fn wide(mark: &str, first: &[Vec<u8>], element: Vec<u8>, count: usize) -> Vec<u8> {
@@ -36,19 +32,6 @@ fn kinds(n: usize) -> Vec<(&'static str, Vec<u8>)> {
     ];
     let alone = |expression: Vec<u8>| record("Mo", &[], &[default_export(expression)]);
     expressions.into_iter().map(|(kind, expression)| (kind, alone(expression))).collect()
-}
-
-/// A resolved name.
-fn name(symbol: &str) -> Vec<u8> {
-    record("Id", &[b"\x02\0\0\0", symbol.as_bytes()].concat(), &[])
-}
-
-/// A Vd of one declarator, with the flag of a const.
-fn constant(symbol: &str, ty: Vec<u8>, init: Vec<u8>) -> Vec<u8> {
-    let binding = record("Bd", &[], &[name(symbol), ty]);
-    let mut bytes = record("Vd", &[], &[record("Vr", &[], &[binding, init])]);
-    bytes[2] = 2;
-    bytes
 }
 
 /// Expressions of resolved names, each of which is a question put to the module: by `list` and `Class`, which it declares, and by a name that it
@@ -107,6 +90,9 @@ fn times(small: &[u8], large: &[u8]) -> f64 {
     best[1].as_secs_f64() / best[0].as_secs_f64()
 }
 
+/// The largest tree.
+const LARGEST: usize = 524_288;
+
 fn main() {
     let mut linear = true;
     for (small, large) in kinds(7_000).into_iter().zip(kinds(14_000)) {
@@ -118,6 +104,11 @@ fn main() {
         let [first, middle, last] = [0, 1, 2].map(|i| times(&small.1[i], &large.1[i]));
         println!("{}, as the first, middle and last item: twice the elements, {first:.2}, {middle:.2}, {last:.2} times the time", small.0);
         linear &= first.max(middle).max(last) <= 2.3;
+    }
+    for ((quarter, half), whole) in shapes(LARGEST / 4).into_iter().zip(shapes(LARGEST / 2)).zip(shapes(LARGEST)) {
+        let [first, second] = [times(&quarter.1, &half.1), times(&half.1, &whole.1)];
+        println!("{}: twice the bytes, {first:.2}, and twice again, {second:.2} times the time", whole.0);
+        linear &= first.max(second) <= 2.3;
     }
     if !linear {
         println!("not linear: twice the elements took over 2.3 times the time");

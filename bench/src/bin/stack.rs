@@ -1,0 +1,81 @@
+//! How much stack the exported call takes on trees of 64 levels: each is tried in a thread whose stack gets smaller, in a process of its own.
+use bench::{leaf, name, record, transform};
+use std::process::{Command, ExitCode, Stdio};
+
+/// The levels that a tree may have.
+const DEEPEST: usize = 64;
+
+/// A stack in which every call ends, in KiB: what README promises.
+const ENOUGH: usize = 512;
+
+/// Modules of 64 levels, each with imports before the deep item, so that the table of names is the largest.
+fn deep() -> Vec<(&'static str, Vec<u8>)> {
+    let no = || leaf("No");
+    let nest = |levels: usize, around: &dyn Fn(Vec<u8>) -> Vec<u8>, inner: Vec<u8>| (0..levels).fold(inner, |inner, _| around(inner));
+    let array = |inner| record("Ar", &[], &[inner]);
+    let object = |inner| record("Ob", &[], &[record("Kv", &[], &[record("Ki", b"key", &[]), inner])]);
+    let function = |inner| {
+        let default = record("Ag", &[], &[record("Bd", &[], &[name("a"), no()]), inner]);
+        record("Aw", &[], &[no(), no(), default])
+    };
+    let frozen = |inner| {
+        let freeze = record("Mb", &[], &[record("Id", b"\x01\0\0\0Object", &[]), record("Ki", b"freeze", &[])]);
+        record("Ca", &[], &[freeze, inner])
+    };
+    let namespace = |inner| record("Ns", &[], &[record("Op", b"n", &[]), record("Nb", &[], &[inner])]);
+    let default = |expression| record("Xe", &[], &[expression]);
+    // Mo, Xe and the innermost record are three levels.
+    let items = vec![
+        ("arrays", default(nest(DEEPEST - 3, &array, leaf("Oe")))),
+        ("objects", default(nest((DEEPEST - 3) / 2, &object, leaf("Oe")))),
+        ("arrows with defaults", default(nest((DEEPEST - 4) / 2, &function, leaf("Oe")))),
+        ("frozen objects", default(nest(DEEPEST - 4, &frozen, leaf("Ob")))),
+        ("namespaces", nest((DEEPEST - 2) / 2, &namespace, leaf("Im"))),
+    ];
+    let module = |item: Vec<u8>| {
+        let imports = (500_000 - item.len()) / 15;
+        let mut items = vec![leaf("Im"); imports];
+        items.push(item);
+        record("Mo", &[], &items)
+    };
+    items.into_iter().map(|(kind, item)| (kind, module(item))).collect()
+}
+
+/// The call in a thread with so many KiB of stack; the process ends with a signal where they are too few.
+fn try_one(kind: usize, kib: usize) {
+    let (_, tree) = deep().swap_remove(kind);
+    let (mut out, mut diagnostics) = (vec![0; 2 << 20], vec![0; 1 << 20]);
+    let call = move || transform(&tree, &mut out, &mut diagnostics).0;
+    let number = std::thread::Builder::new().stack_size(kib << 10).spawn(call).expect("a thread").join().expect("an answer");
+    assert_eq!(number, 0, "the tree is accepted");
+}
+
+fn ends(kind: usize, kib: usize) -> bool {
+    let program = std::env::current_exe().expect("this program");
+    let words = [kind.to_string(), kib.to_string()];
+    Command::new(program).args(words).stderr(Stdio::null()).status().expect("a process").success()
+}
+
+fn main() -> ExitCode {
+    let words: Vec<usize> = std::env::args().skip(1).filter_map(|word| word.parse().ok()).collect();
+    if let [kind, kib] = words[..] {
+        try_one(kind, kib);
+        return ExitCode::SUCCESS;
+    }
+    let mut most = 0;
+    for (kind, (what, tree)) in deep().iter().enumerate() {
+        if !ends(kind, ENOUGH) {
+            println!("{what}: more than {ENOUGH} KiB of stack");
+            return ExitCode::FAILURE;
+        }
+        let (mut low, mut high) = (0, ENOUGH);
+        while 4 < high - low {
+            let middle = (low + high) / 2;
+            if ends(kind, middle) { high = middle } else { low = middle }
+        }
+        println!("{what}, {DEEPEST} levels, {} bytes: {high} KiB of stack are enough, {low} are not", tree.len());
+        most = most.max(high);
+    }
+    println!("{most} KiB for every call");
+    ExitCode::SUCCESS
+}
