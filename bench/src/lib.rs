@@ -1,7 +1,7 @@
 //! The exported calls of `include/dts.h`, as `rt staticlib dts` writes them, and records to try.
 mod shapes;
 
-pub use shapes::{constant, leaf, name, record, shapes};
+pub use shapes::{constant, leaf, name, record, shapes, unlisted};
 
 unsafe extern "C" {
     fn dts_check(tree: *const u8, tree_len: usize, list: *const u8, list_len: usize, answer: *mut [u64; 2]) -> u32;

@@ -50,6 +50,12 @@ fn fill(bytes: usize, make: impl Fn(usize) -> Vec<u8>) -> Vec<Vec<u8>> {
     vec![make(0); bytes / make(0).len()].into_iter().enumerate().map(|(number, _)| make(number)).collect()
 }
 
+/// A module of functions and a full overload list, in which none of them is found.
+pub fn unlisted(bytes: usize) -> (Vec<u8>, Vec<u8>) {
+    let entry = |number: u32| [b"ov", &number.to_le_bytes()[..], &number.to_le_bytes()[..]].concat();
+    (record("Mo", &[], &fill(bytes - 60, |number| function(&numbered(number)))), (1..=4096).flat_map(entry).collect())
+}
+
 /// The shapes in which each name is a question about the module: each a module of at most so many bytes, and nearly as many.
 pub fn shapes(bytes: usize) -> Vec<(&'static str, Vec<u8>)> {
     let half = bytes / 2 - 60;

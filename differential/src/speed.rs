@@ -13,6 +13,7 @@ use oracle::grammar::check;
 use oracle::record::Rec;
 
 use crate::shapes::shapes;
+use crate::shapes::unlisted;
 
 /// The largest tree.
 const LARGEST: usize = 524_288;
@@ -54,7 +55,7 @@ fn time<T>(mut make: impl FnMut() -> T, mut run: impl FnMut(T)) -> Duration {
 }
 
 /// The proved call's time on a module, and its ratio to that of the Rust's transform alone and to that with decoding and encoding.
-fn beside(bytes: &[u8]) -> (Duration, f64, f64) {
+fn beside(bytes: &[u8], list: &[u8]) -> (Duration, f64, f64) {
     let (tree, _) = Rec::read(bytes, 0).expect("a tree");
     let (swc, _) = decode::module(&tree);
     let mut out = vec![0; 8 * bytes.len()];
@@ -62,13 +63,13 @@ fn beside(bytes: &[u8]) -> (Duration, f64, f64) {
     let ours = time(
         || (),
         |()| {
-            black_box(crate::proved(bytes, &[], UNRESOLVED, &mut out, &mut diagnostics));
+            black_box(crate::proved(bytes, list, UNRESOLVED, &mut out, &mut diagnostics));
         },
     );
     let alone = time(
         || swc.clone(),
         |swc| {
-            black_box(call::run(swc, &[], UNRESOLVED));
+            black_box(call::run(swc, list, UNRESOLVED));
         },
     );
     let whole = time(
@@ -76,7 +77,7 @@ fn beside(bytes: &[u8]) -> (Duration, f64, f64) {
         |()| {
             let (tree, _) = Rec::read(bytes, 0).expect("a tree");
             let (swc, notes) = decode::module(&tree);
-            let (swc, found) = call::run(swc, &[], UNRESOLVED);
+            let (swc, found) = call::run(swc, list, UNRESOLVED);
             black_box((encode::module(&swc, &notes).encode(), found));
         },
     );
@@ -94,7 +95,7 @@ pub fn print() {
     let mut before: Option<(usize, Duration)> = None;
     for size in [2_000, 20_000, 200_000] {
         let bytes = module(size).encode().expect("a tree");
-        let found = beside(&bytes);
+        let found = beside(&bytes, &[]);
         let growth = match before {
             None => "".to_string(),
             Some((length, time)) => {
@@ -105,6 +106,8 @@ pub fn print() {
         before = Some((bytes.len(), found.0));
     }
     for (shape, bytes) in shapes(LARGEST) {
-        line(bytes.len(), beside(&bytes), shape);
+        line(bytes.len(), beside(&bytes, &[]), shape);
     }
+    let (bytes, list) = unlisted(LARGEST);
+    line(bytes.len(), beside(&bytes, &list), "functions beside a full overload list");
 }
