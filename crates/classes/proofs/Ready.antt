@@ -8,7 +8,7 @@ use Rattle.typing.specs.Did.{Ready}
 use Rattle.classes.specs.Typings.{ReadyAll}
 
 -- some children, at the same counter
-pub ready-all : {levels : ℕ} {tree : List ℕ} {at n : ℕ} {index : List ℕ} → Ready levels tree at n index → {k p m : ℕ} → AllAccepted (levels - 1) tree k p → at ≤ p → m ≡ n → ReadyAll (levels - 1) tree k p m index
+pub ready-all : {levels : ℕ} {tree : List ℕ} {at n : ℕ} {index : List ℕ} → Ready levels tree at n index → {l k p m : ℕ} → AllAccepted l tree k p → at ≤ p → m ≡ n → ReadyAll l tree k p m index
 ready-all r a h e = record { accepted = a; low = omega (arith, r .low, e); indexed = r .indexed }
 
 -- one of them

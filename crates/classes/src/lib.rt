@@ -15,6 +15,10 @@ use crate::overloads::is_impl_with_overloads;
 use crate::params::handle_func_params;
 use crate::params::handle_ts_param_props;
 use names::Key;
+use parts::frame::begin;
+use parts::frame::drop_next;
+use parts::frame::keep_next;
+use parts::frame::passed;
 use parts::front_size;
 use parts::keep;
 use parts::keep_all;
@@ -108,25 +112,28 @@ pub fn handle_function(
         (handleFunction (typingOf (now (tree .entry)) scope) setter (treeAt levels (now (tree .entry)) at) (s .counter))
         ⌝ }
 {
-    let head = read_head(tree, at);
-    let type_params = body_at(tree, at);
-    let return_type = record_end(tree, type_params, levels - 1);
-    let body = record_end(tree, return_type, levels - 1);
-    let params = record_end(tree, body, levels - 1);
-    let front = put_front(tree, at, levels, head.flags, head.count, out, s);
-    let kept = keep(tree, type_params, levels - 1, out, front);
-    let typed = keep_return_type(tree, return_type, levels - 1, setter, out, kept);
-    let bare = put_gone(tree, body, levels - 1, out, typed);
+    let type_params = begin(tree, at, levels, out, s);
+    let return_type = keep_next(tree, type_params, out);
+    let typed = keep_return_type(
+        tree,
+        return_type.at,
+        return_type.levels,
+        setter,
+        out,
+        return_type.s,
+    );
+    let body = passed(tree, return_type, typed);
+    let params = drop_next(tree, body, out);
     handle_func_params(
         tree,
-        params,
-        head.count - 3,
-        levels - 1,
+        params.at,
+        params.n,
+        params.levels,
         index,
         scope,
         out,
         diagnostics,
-        bare,
+        params.s,
     )
 }
 
@@ -147,21 +154,18 @@ fn constructor(
         (constructor (typingOf (now (tree .entry)) scope) (treeAt levels (now (tree .entry)) at) (s .counter))
         ⌝ }
 {
-    let head = read_head(tree, at);
-    let body = body_at(tree, at);
-    let params = record_end(tree, body, levels - 1);
-    let front = put_front(tree, at, levels, head.flags, head.count, out, s);
-    let bare = put_gone(tree, body, levels - 1, out, front);
+    let body = begin(tree, at, levels, out, s);
+    let params = drop_next(tree, body, out);
     let next = handle_ts_param_props(
         tree,
-        params,
-        head.count - 1,
-        levels - 1,
+        params.at,
+        params.n,
+        params.levels,
         index,
         scope,
         out,
         diagnostics,
-        bare,
+        params.s,
     );
     Counted { s: next, count: 1 }
 }

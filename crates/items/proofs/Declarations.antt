@@ -1,38 +1,31 @@
 -- Declarations with other flags, and functions without their body: what is written, as the definition has it.
 use mathlib.Core.Path.{_≡_, refl, sym, ap, _∙_}
-use mathlib.Core.List.{List}
+use mathlib.Core.List.{List, [], _++_}
 use mathlib.Core.Bool.{Bool, true, false}
 use mathlib.Core.Logic.{_⊎_, ⊎-elim}
-use Prim.Native.Nat.{ℕ, suc, _+_, _-_, _≤_, _<_, _^_}
-use mir.Syntax.{w8}
-use mir.Val
-use lib.ListN.{length, getD}
-use Rattle.definition.specs.Tree.{Head, Rec, Recs, rec, cons, count, markAt, countAt, bodyAt, headAt, endAt, treeAt}
+use Prim.Native.Nat.{ℕ, suc, _-_, _≤_}
+use native.Mathlib.Omega.{arith}
+use Rattle.definition.specs.Tree.{Rec, Recs, rec, nil, cons, count, markAt, countAt, bodyAt, endAt, treeAt}
 use Rattle.definition.specs.Grammar.{mark, marks, grammar, known, slots, place, least}
-use Rattle.definition.specs.Children.{AcceptedAt, AllAccepted}
-use Rattle.definition.specs.Record.{headOf, kidsOf, withFlags, withFlag, withoutFlag, flag1, gone, Out, pure, wrap, each, atKid}
+use Rattle.definition.specs.Children.{AcceptedAt}
+use Rattle.definition.specs.Record.{headOf, kidsOf, withFlags, withFlag, withoutFlag, flag1, gone, Diag, Out, pure, wrap, each}
 use Rattle.definition.specs.Enums.{enumMember}
 use Rattle.definition.specs.Items.{declarator, bodyPart, withoutBody}
-use Rattle.definition.proofs.Children.{tree-is, children}
 use Rattle.definition.proofs.Converse.{count-readAll}
-use Rattle.definition.proofs.Kids.{head-is, fixed, placed, member-one, second-in, has}
-use Rattle.records.specs.declared.Head.{Head as Fields}
-use Rattle.records.specs.Fields.{fieldsAt}
-use Rattle.records.specs.Wrote.{highest}
+use Rattle.definition.proofs.Kids.{fixed, placed, member-one, second-in, has}
 use Rattle.prescan.specs.declared.Scope.{Scope}
 use Rattle.typing.specs.declared.State.{State}
-use Rattle.typing.specs.Did.{Writes}
-use Rattle.typing.proofs.Loops.{rest}
+use Rattle.typing.specs.Did.{Ready}
 use Rattle.typing.proofs.Slots.{fx-function}
 use Rattle.typing.proofs.Written.{puts-as, puts-counter}
-use Rattle.parts.specs.Makes.{frontBytes, Keeps, KeepsAll, Makes, MakesAll}
+use Rattle.parts.specs.declared.frame.Frame.{Frame}
+use Rattle.parts.specs.Frame.{leftOf, nextOf, Begun, Kept}
+use Rattle.parts.specs.Makes.{Keeps, KeepsAll, Makes, MakesAll}
 use Rattle.parts.proofs.Each.{each-behind, each-pure, each-count}
-use Rattle.parts.proofs.Kept.{head-short, front-as, front-flags}
-use Rattle.parts.proofs.Kids.{Two, Three, kids-two, kids-three}
-use Rattle.parts.proofs.Makes.{makes-as, makes-front}
-use Rattle.classes.specs.Typings.{typingOf}
-use Rattle.items.specs.Steps.{recordsAt, withDeclarators, withMembers}
-use Rattle.items.proofs.Begun.{begun, begun-all, begun-done, keeps-third, makes-second}
+use Rattle.parts.proofs.Makes.{makes-as}
+use Rattle.parts.proofs.Framing.{rest-done, rest-kept, rest-framed, done-framed}
+use Rattle.classes.specs.Typings.{typingOf, ReadyAll}
+use Rattle.items.specs.Steps.{withDeclarators, withMembers}
 
 -- ---- "get declare at module level and lose it inside Nb"
 
@@ -44,64 +37,33 @@ declared-cleared b f e = rw e
 
 -- ---- a step on every child of a declaration
 
+module _ {levels : ℕ} {s : List ℕ} {at flags : ℕ} {o o1 : List ℕ} {x : State} {f : Frame} (b : Begun levels s at (withFlags (headOf (treeAt levels s at)) flags) o o1 x f) where
+  module _ (F : ℕ → Rec → ℕ → Out Rec) where
+    each-many : f .n ≡ count (each F 0 (leftOf s f) (f .s .counter) .0)
+    each-many = sym (each-count F 0 (leftOf s f) (f .s .counter) ∙ count-readAll (treeAt (f .levels) s) (endAt (f .levels) s) (f .n) (f .at))
+
+    each-is : wrap (withFlags (headOf (treeAt levels s at)) flags) (each F 0 (leftOf s f) (f .s .counter)) ≡ wrap (withFlags (headOf (treeAt levels s at)) flags) (each F 0 (kidsOf (treeAt levels s at)) (x .counter))
+    each-is =
+        ap (λ (n : ℕ). wrap (withFlags (headOf (treeAt levels s at)) flags) (each F 0 (leftOf s f) n)) (puts-counter (b .front))
+        ∙ ap (λ (ks : Recs). wrap (withFlags (headOf (treeAt levels s at)) flags) (each F 0 ks (x .counter))) (sym (b .kids))
+
+  pub members-written : {o2 : List ℕ} {x' : State} → KeepsAll o1 o2 (f .s) x' (each (λ i. enumMember) 0 (leftOf s f) (f .s .counter) .0) → Keeps o o2 x x' (withMembers flags (treeAt levels s at) (x .counter) .0)
+  members-written w = puts-as (rest-framed b (record { put = λ _. w; many = each-many (λ i. enumMember) })) (ap (λ (y : Out Rec). y .0) (each-is (λ i. enumMember)))
+
+  pub declarators-made : (scope : Scope) {o2 g g' : List ℕ} {x' : State} → MakesAll o1 o2 g g' (f .s) x' (each (λ i. declarator (typingOf s scope)) 0 (leftOf s f) (f .s .counter))
+      → Makes o o2 g g' x x' (withDeclarators s scope flags (treeAt levels s at) (x .counter))
+  declarators-made scope w =
+      makes-as (done-framed b (record { made = λ _ _. w; many = each-many (λ i. declarator (typingOf s scope)) })) (each-is (λ i. declarator (typingOf s scope)))
+
+  pub begun-ready : {index : List ℕ} → Ready levels s at (x .counter) index → ReadyAll (f .levels) s (f .n) (f .at) (f .s .counter) index
+  begun-ready r = record { accepted = b .left; low = omega (arith, r .low, b .place, puts-counter (b .front)); indexed = r .indexed }
+
 module _ (levels : ℕ) (s : List ℕ) (at : ℕ) (a : AcceptedAt levels s at) where
-  abbrev childrenOf : Recs
-  childrenOf = rest levels s (countAt s at) (bodyAt s at)
-
-  each-many : (f : ℕ → Rec → ℕ → Out Rec) (n : ℕ) → countAt s at ≡ count (each f 0 childrenOf n .0)
-  each-many f n = sym (each-count f 0 childrenOf n ∙ count-readAll (treeAt (levels - 1) s) (endAt (levels - 1) s) (countAt s at) (bodyAt s at))
-
-  pub all-kids : {h : Fields} {b : ℕ} → h ≡ fieldsAt s at → b ≡ bodyAt s at → AllAccepted (levels - 1) s (h .count) b
-  all-kids e f = rw (e, f) (children levels s at a)
-
-  each-is : (f : ℕ → Rec → ℕ → Out Rec) (flags n : ℕ) → wrap (withFlags (headAt s at) flags) (each f 0 childrenOf n) ≡ wrap (withFlags (headOf (treeAt levels s at)) flags) (each f 0 (kidsOf (treeAt levels s at)) n)
-  each-is f flags n = ap (λ (r : Rec). wrap (withFlags (headOf r) flags) (each f 0 (kidsOf r) n)) (sym (tree-is levels s at a))
-
-  pub members-written : ((i : ℕ) → mir.Val.Fits w8 (getD s i 0)) → (flags : ℕ) {o o1 o2 : List ℕ} {x x1 x2 : State} {h : Fields} {b : ℕ} → length o < 2 ^ 64 → h ≡ fieldsAt s at → b ≡ bodyAt s at
-      → Writes o o1 x x1 (frontBytes (withFlags (headAt s at) flags) (h .count)) true → KeepsAll o1 o2 x1 x2 (each (λ i. enumMember) 0 (recordsAt (levels - 1) s (h .count) b) (x1 .counter) .0)
-      → Keeps o o2 x x2 (withMembers flags (treeAt levels s at) (x .counter) .0)
-  members-written known flags {x = x} {x1 = x1} l e f v w =
-      let H : Head = withFlags (headAt s at) flags in
-      puts-as
-      (begun-done (begun-all l (begun H (countAt s at) (front-flags s at e (λ _. flags) v)) (each (λ i. enumMember) 0 childrenOf (x1 .counter) .0) (rw (e, f) at w)) (each-many (λ i. enumMember) (x1 .counter)) (head-short levels s at a known))
-      (ap (λ (n : ℕ). rec H (each (λ i. enumMember) 0 childrenOf n .0)) (puts-counter v) ∙ ap (λ (o : Out Rec). o .0) (each-is (λ i. enumMember) flags (x .counter)))
-
-  pub declarators-made : ((i : ℕ) → mir.Val.Fits w8 (getD s i 0)) → (scope : Scope) (flags : ℕ) {o o1 o2 g g' : List ℕ} {x x1 x2 : State} {h : Fields} {b : ℕ} → x .reported ≤ highest → h ≡ fieldsAt s at → b ≡ bodyAt s at
-      → Writes o o1 x x1 (frontBytes (withFlags (headAt s at) flags) (h .count)) true
-      → MakesAll o1 o2 g g' x1 x2 (each (λ i. declarator (typingOf s scope)) 0 (recordsAt (levels - 1) s (h .count) b) (x1 .counter))
-      → Makes o o2 g g' x x2 (withDeclarators s scope flags (treeAt levels s at) (x .counter))
-  declarators-made known scope flags {o} {o1} {o2} {g} {g'} {x} {x1} {x2} d e f v w =
-      let H : Head = withFlags (headAt s at) flags in
-      let y : Out Recs = each (λ i. declarator (typingOf s scope)) 0 childrenOf (x1 .counter) in
-      let w' : MakesAll o1 o2 g g' x1 x2 y = rw (e, f) at w in
-      makes-as (makes-front H {y = y} (front-flags s at e (λ _. flags) v) (each-many (λ i. declarator (typingOf s scope)) (x1 .counter)) w' (head-short levels s at a known) d)
-      (ap (λ (n : ℕ). wrap H (each (λ i. declarator (typingOf s scope)) 0 childrenOf n)) (puts-counter v) ∙ each-is (λ i. declarator (typingOf s scope)) flags (x .counter))
-
   -- ---- a function without its body
 
-  pub fu-kids : markAt s at ≡ mark "Fu" → {p0 p1 p2 p3 : ℕ} → p0 ≡ bodyAt s at → p1 ≡ endAt (levels - 1) s p0 → p2 ≡ endAt (levels - 1) s p1 → p3 ≡ endAt (levels - 1) s p2 → Three levels s at p0 p1 p2 p3
-  fu-kids m e f g h = kids-three levels s at a (has (mark "Fu") levels s at a m) e f g h
-
-  pub fx-kids : markAt s at ≡ mark "Fx" → {p0 p1 p2 : ℕ} → p0 ≡ bodyAt s at → p1 ≡ endAt (levels - 1) s p0 → p2 ≡ endAt (levels - 1) s p1 → Two levels s at p0 p1 p2
-  fx-kids m e f g = kids-two levels s at a (has (mark "Fx") levels s at a m) e f g
-
-  pub fx-fu : markAt s at ≡ mark "Fx" → {p0 p1 : ℕ} → p0 ≡ bodyAt s at → p1 ≡ endAt (levels - 1) s p0 → markAt s p1 ≡ mark "Fu"
+  pub fx-fu : markAt s at ≡ mark "Fx" → {p : ℕ} → p ≡ endAt (levels - 1) s (bodyAt s at) → markAt s p ≡ mark "Fu"
   unfolding marks
-  fx-fu m e f = member-one _ _ (placed (fx-function levels s at a m) (f ∙ ap (endAt (levels - 1) s) e) .marks)
-
-  body-gone : {p0 p1 p2 p3 : ℕ} → Three levels s at p0 p1 p2 p3 → (n : ℕ)
-      → rec (headAt s at) (cons (treeAt (levels - 1) s p0) (cons (treeAt (levels - 1) s p1) (cons (gone (treeAt (levels - 1) s p2)) (rest levels s (countAt s at - 3) p3)))) ≡ withoutBody (treeAt levels s at) n .0
-  unfolding withoutBody each
-  body-gone {p0} {p1} {p2} {p3} u n =
-      ap (λ (o : Out Recs). rec (headAt s at) (cons (treeAt (levels - 1) s p0) (cons (treeAt (levels - 1) s p1) (cons (gone (treeAt (levels - 1) s p2)) (o .0)))))
-      (sym (each-behind pure bodyPart (λ i. suc (suc (suc i))) (λ i. refl) (λ i r n. refl) 0 0 (rest levels s (countAt s at - 3) p3) n ∙ each-pure 0 (rest levels s (countAt s at - 3) p3) n))
-      ∙ ap (λ (r : Rec). withoutBody r n .0) (sym (u .is))
-
-  pub body-written : ((i : ℕ) → mir.Val.Fits w8 (getD s i 0)) → {o o1 o2 o3 o4 o5 : List ℕ} {x x1 x2 x3 x4 x5 : State} {h : Fields} {p0 p1 p2 p3 : ℕ} → Three levels s at p0 p1 p2 p3 → length o < 2 ^ 64 → h ≡ fieldsAt s at
-      → Writes o o1 x x1 (frontBytes (withFlags (headAt s at) (h .flags)) (h .count)) true → Keeps o1 o2 x1 x2 (treeAt (levels - 1) s p0) → Keeps o2 o3 x2 x3 (treeAt (levels - 1) s p1)
-      → Keeps o3 o4 x3 x4 (gone (treeAt (levels - 1) s p2)) → KeepsAll o4 o5 x4 x5 (rest levels s (h .count - 3) p3) → Keeps o o5 x x5 (withoutBody (treeAt levels s at) (x .counter) .0)
-  body-written known {x = x} {p2 = p2} u l e v b c d z =
-      puts-as (keeps-third levels s at e l (headAt s at) (front-as s at e v) (head-short levels s at a known) (gone (treeAt (levels - 1) s p2)) u b c d z) (body-gone u (x .counter))
+  fx-fu m e = member-one _ _ (placed (fx-function levels s at a m) e .marks)
 
   -- ---- a class, and a function
 
@@ -109,27 +71,39 @@ module _ (levels : ℕ) (s : List ℕ) (at : ℕ) (a : AcceptedAt levels s at) w
   unfolding grammar known slots place least
   class-two = ⊎-elim (λ e. has (mark "Cd") levels s at a e) (λ e. has (mark "Cx") levels s at a e)
 
-  pub class-kids : (markAt s at ≡ mark "Cd") ⊎ (markAt s at ≡ mark "Cx") → {p0 p1 p2 : ℕ} → p0 ≡ bodyAt s at → p1 ≡ endAt (levels - 1) s p0 → p2 ≡ endAt (levels - 1) s p1 → Two levels s at p0 p1 p2
-  class-kids m e f g = kids-two levels s at a (class-two m) e f g
-
-  pub class-cl : (markAt s at ≡ mark "Cd") ⊎ (markAt s at ≡ mark "Cx") → {p0 p1 : ℕ} → p0 ≡ bodyAt s at → p1 ≡ endAt (levels - 1) s p0 → markAt s p1 ≡ mark "Cl"
+  pub class-cl : (markAt s at ≡ mark "Cd") ⊎ (markAt s at ≡ mark "Cx") → {p : ℕ} → p ≡ endAt (levels - 1) s (bodyAt s at) → markAt s p ≡ mark "Cl"
   unfolding grammar known slots place fixed marks
-  class-cl m {p0} {p1} e f =
-      ⊎-elim (λ q. member-one (markAt s p1) (mark "Cl") (placed (second-in levels s at a (mark "Cd") q refl "Cl" refl) (f ∙ ap (endAt (levels - 1) s) e) .marks))
-      (λ q. member-one (markAt s p1) (mark "Cl") (placed (second-in levels s at a (mark "Cx") q refl "Cl" refl) (f ∙ ap (endAt (levels - 1) s) e) .marks)) m
+  class-cl m {p} e =
+      ⊎-elim (λ q. member-one (markAt s p) (mark "Cl") (placed (second-in levels s at a (mark "Cd") q refl "Cl" refl) e .marks))
+      (λ q. member-one (markAt s p) (mark "Cl") (placed (second-in levels s at a (mark "Cx") q refl "Cl" refl) e .marks)) m
 
-  pub fd-kids : markAt s at ≡ mark "Fd" → {p0 p1 p2 : ℕ} → p0 ≡ bodyAt s at → p1 ≡ endAt (levels - 1) s p0 → p2 ≡ endAt (levels - 1) s p1 → Two levels s at p0 p1 p2
-  fd-kids m e f g = kids-two levels s at a (has (mark "Fd") levels s at a m) e f g
-
-  pub fd-fu : markAt s at ≡ mark "Fd" → {p0 p1 : ℕ} → p0 ≡ bodyAt s at → p1 ≡ endAt (levels - 1) s p0 → markAt s p1 ≡ mark "Fu"
+  pub fd-fu : markAt s at ≡ mark "Fd" → {p : ℕ} → p ≡ endAt (levels - 1) s (bodyAt s at) → markAt s p ≡ mark "Fu"
   unfolding grammar known slots place fixed marks
-  fd-fu m {p0} {p1} e f = member-one (markAt s p1) (mark "Fu") (placed (second-in levels s at a (mark "Fd") m refl "Fu" refl) (f ∙ ap (endAt (levels - 1) s) e) .marks)
+  fd-fu m {p} e = member-one (markAt s p) (mark "Fu") (placed (second-in levels s at a (mark "Fd") m refl "Fu" refl) e .marks)
 
-  -- a step on the second child, with other flags
-  pub flagged-second : ((i : ℕ) → mir.Val.Fits w8 (getD s i 0)) → (f : Rec → ℕ → Out Rec) (flags : ℕ) {p0 p1 p2 : ℕ} → Two levels s at p0 p1 p2
-      → {o o1 o2 o3 o4 g g' : List ℕ} {x x1 x2 x3 x4 : State} {h : Fields} → x .reported ≤ highest → h ≡ fieldsAt s at
-      → Writes o o1 x x1 (frontBytes (withFlags (headAt s at) flags) (h .count)) true → Keeps o1 o2 x1 x2 (treeAt (levels - 1) s p0) → Makes o2 o3 g g' x2 x3 (f (treeAt (levels - 1) s p1) (x2 .counter))
-      → KeepsAll o3 o4 x3 x4 (rest levels s (h .count - 2) p2) → Makes o o4 g g' x x4 (wrap (withFlags (headOf (treeAt levels s at)) flags) (atKid 1 f (kidsOf (treeAt levels s at)) (x .counter)))
-  flagged-second known f flags u {x = x} d e v b c z =
-      makes-as (makes-second levels s at (withFlags (headAt s at) flags) (head-short levels s at a known) d (front-flags s at e (λ _. flags) v) e f u b c z)
-      (ap (λ (h : Head). wrap (withFlags h flags) (atKid 1 f (kidsOf (treeAt levels s at)) (x .counter))) (sym (head-is levels s at)))
+-- the body of a function goes
+module _ {levels : ℕ} {s : List ℕ} {at : ℕ} {o o1 o2 o3 o4 o5 : List ℕ} {x x' : State} {f f1 f2 f3 : Frame} (b : Begun levels s at (headOf (treeAt levels s at)) o o1 x f) where
+  pub body-written : Kept s o1 o2 f f1 (nextOf s f) → Kept s o2 o3 f1 f2 (nextOf s f1) → Kept s o3 o4 f2 f3 (gone (nextOf s f2)) → KeepsAll o4 o5 (f3 .s) x' (leftOf s f3)
+      → Keeps o o5 x x' (withoutBody (treeAt levels s at) (x .counter) .0)
+  unfolding withoutBody each
+  body-written u v w z =
+      puts-as (rest-framed b (rest-kept u (rest-kept v (rest-kept w (rest-done s f3 z)))))
+      (ap (λ (ks : Recs). rec (headOf (treeAt levels s at)) (cons (nextOf s f) (cons (nextOf s f1) (cons (gone (nextOf s f2)) ks))))
+      (ap (λ (o : Out Recs). o .0) (sym (each-behind pure bodyPart (λ i. suc (suc (suc i))) (λ i. refl) (λ i r n. refl) 0 0 (leftOf s f3) (x .counter) ∙ each-pure 0 (leftOf s f3) (x .counter))))
+      ∙ ap (λ (ks : Recs). rec (headOf (treeAt levels s at)) (each bodyPart 0 ks (x .counter) .0))
+      (sym (b .kids ∙ (u .passed .kids ∙ ap (cons (nextOf s f)) (v .passed .kids ∙ ap (cons (nextOf s f1)) (w .passed .kids))))))
+
+-- ---- steps that leave no diagnostic, and the counter as it is
+
+pub each-silent : (f : ℕ → Rec → ℕ → Out Rec) → ((i : ℕ) (r : Rec) (n : ℕ) → f i r n ≡ pure (f i r n .0) n) → (i : ℕ) (ks : Recs) (n : ℕ) → each f i ks n ≡ pure (each f i ks n .0) n
+unfolding each
+each-silent f p i nil n = refl
+each-silent f p i (cons r rs) n =
+    let q : f i r n .2 ≡ n = ap (λ (o : Out Rec). o .2) (p i r n) in
+    let d : f i r n .1 ≡ [] = ap (λ (o : Out Rec). o .1) (p i r n) in
+    let z : each f (suc i) rs n ≡ pure (each f (suc i) rs n .0) n = each-silent f p (suc i) rs n in
+    λ j. (
+      cons (f i r n .0) (each f (suc i) rs (f i r n .2) .0),
+      (ap (λ (ds : List Diag). ds ++ each f (suc i) rs (f i r n .2) .1) d ∙ (ap (λ (m : ℕ). each f (suc i) rs m .1) q ∙ ap (λ (o : Out Recs). o .1) z)) j,
+      (ap (λ (m : ℕ). each f (suc i) rs m .2) q ∙ ap (λ (o : Out Recs). o .2) z) j,
+    )

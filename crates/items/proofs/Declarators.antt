@@ -1,21 +1,18 @@
 -- Declarators and their types: the arms of `declarator` from the marks at offsets, and the loop over a Vd.
-use mathlib.Core.Path.{_≡_, refl, sym, ap, _∙_}
+use mathlib.Core.Path.{_≡_, sym, ap, _∙_}
 use mathlib.Core.List.{List, [], _∷_}
-use mathlib.Core.Bool.{true}
 use Prim.Native.Nat.{ℕ, _-_, _≤_, _<_}
 use native.Mathlib.Omega.{arith}
-use mir.Syntax.{w8}
-use mir.Val
-use lib.ListN.{length, getD}
-use Rattle.definition.specs.Tree.{Rec, Recs, rec, cons, markAt, countAt, bodyAt, headAt, endAt, treeAt}
-use Rattle.definition.specs.Grammar.{mark, grammar, known, slots, place, least}
+use lib.ListN.{length}
+use Rattle.definition.specs.Tree.{Head, Rec, Recs, rec, cons, markAt, bodyAt, headAt, endAt, treeAt}
+use Rattle.definition.specs.Grammar.{mark}
 use Rattle.definition.specs.Children.{AcceptedAt}
-use Rattle.definition.specs.Record.{headOf, kidsOf, is, dummySp, withFlags, kid, setKid, gone, Out, Typing, pure, onValue, wrap, single, each, atKid}
+use Rattle.definition.specs.Record.{headOf, kidsOf, is, dummySp, kid, setKid, gone, Out, Typing, pure, onValue, wrap, single, each, atKid}
 use Rattle.definition.specs.Helpers.{anyTypeAnn}
 use Rattle.definition.specs.Typing.{orAny}
 use Rattle.definition.specs.Classes.{typeOr}
 use Rattle.definition.specs.Items.{declaratorType, declaratorPattern, declarator}
-use Rattle.definition.proofs.Children.{children}
+use Rattle.definition.proofs.Children.{children, readAll-more}
 use Rattle.definition.proofs.CountingItems.{declarator-within}
 use Rattle.definition.proofs.Counting.{exprToTsType-within}
 use Rattle.definition.proofs.Kids.{head-is, is-mark, not-mark, has}
@@ -26,27 +23,24 @@ use Rattle.prescan.specs.declared.Scope.{Scope}
 use Rattle.typing.specs.declared.State.{State}
 use Rattle.typing.specs.declared.Mode.{Mode}
 use Rattle.typing.specs.declared.Typed.{Typed}
-use Rattle.typing.specs.Did.{Ready, idsOf, typeOf, diagAt, Writes, Marks, MakesMaybe, Filled}
-use Rattle.typing.proofs.Loops.{rest}
+use Rattle.typing.specs.Did.{Ready, idsOf, typeOf, diagAt, Marks, MakesMaybe, Filled}
 use Rattle.typing.proofs.Steps.{filled}
 use Rattle.typing.proofs.Written.{puts-counter}
-use Rattle.parts.specs.Makes.{frontBytes, Keeps, KeepsAll, Makes, MakesAll}
+use Rattle.parts.specs.declared.frame.Frame.{Frame}
+use Rattle.parts.specs.Frame.{leftOf, nextOf, Begun, Passed, Kept}
+use Rattle.parts.specs.Makes.{Keeps, KeepsAll, Makes, MakesAll}
 use Rattle.parts.proofs.Each.{each-flat, Making, remaining, making-start, making-first, making-turn, making-done, making-out, making-diagnostics}
-use Rattle.parts.proofs.Kept.{head-short, kept-as, front-as}
+use Rattle.parts.proofs.Framing.{rest-done, rest-kept, rest-framed, done-step, done-framed, two-kids, makes-second}
 use Rattle.parts.proofs.Kids.{Two, kids-two}
-use Rattle.parts.proofs.Makes.{makes-as, makes-keeps, makes-mark, makes-front, all-as, all-one-is, all-behind, all-kept, made-diagnostics}
+use Rattle.parts.proofs.Makes.{makes-as, makes-keeps, makes-mark, all-as, all-one-is}
 use Rattle.classes.specs.Typings.{typingOf, ReadyAll}
 use Rattle.items.specs.Steps.{recordsAt, readonlyMode, patternOf}
-use Rattle.items.proofs.Begun.{makes-second}
 
 -- ---- the children
 
 module _ (levels : ℕ) (s : List ℕ) (at : ℕ) (a : AcceptedAt levels s at) where
   pub vr-kids : markAt s at ≡ mark "Vr" → {p0 p1 p2 : ℕ} → p0 ≡ bodyAt s at → p1 ≡ endAt (levels - 1) s p0 → p2 ≡ endAt (levels - 1) s p1 → Two levels s at p0 p1 p2
   vr-kids m e f g = kids-two levels s at a (has (mark "Vr") levels s at a m) e f g
-
-  pub bd-kids : markAt s at ≡ mark "Bd" → {p0 p1 p2 : ℕ} → p0 ≡ bodyAt s at → p1 ≡ endAt (levels - 1) s p0 → p2 ≡ endAt (levels - 1) s p1 → Two levels s at p0 p1 p2
-  bd-kids m e f g = kids-two levels s at a (has (mark "Bd") levels s at a m) e f g
 
 -- ---- the type of a Bd that has none
 
@@ -79,26 +73,27 @@ abbrev bindingOf : List ℕ → Scope → ℕ → ℕ → ℕ → ℕ → Out Re
 bindingOf tree scope levels at init n =
     wrap (headOf (treeAt levels tree at)) (atKid 1 (typeOr (declaratorType (typingOf tree scope) (headOf (treeAt levels tree at)) (treeAt levels tree init))) (kidsOf (treeAt levels tree at)) n)
 
-module _ (tree : List ℕ) (scope : Scope) (levels at init : ℕ) {p0 p1 p2 : ℕ} (u : Two levels tree at p0 p1 p2) where
+module _ (tree : List ℕ) (scope : Scope) (levels at init : ℕ) {o o1 o2 : List ℕ} {s : State} {f f1 : Frame} (b : Begun levels tree at (headOf (treeAt levels tree at)) o o1 s f) (k : Kept tree o1 o2 f f1 (nextOf tree f)) where
+  abbrev typeFor : ℕ → Out Rec
+  typeFor = declaratorType (typingOf tree scope) (headOf (treeAt levels tree at)) (treeAt levels tree init)
+
   -- it has a type
-  pub binding-kept : {o o' : List ℕ} (g : List ℕ) {s s' : State} → (markAt tree p1 ≡ mark "No" → ⊥) → Keeps o o' s s' (treeAt levels tree at) → s .reported ≤ highest → Makes o o' g g s s' (bindingOf tree scope levels at init (s .counter))
-  binding-kept g {s} m w d =
-      let f : ℕ → Out Rec = declaratorType (typingOf tree scope) (headOf (treeAt levels tree at)) (treeAt levels tree init) in
-      makes-as (makes-keeps g w d)
-      (ap (λ (r : Rec). pure r (s .counter)) (u .is)
-      ∙ (ap (λ (o : Out Rec). onValue (λ (v : Rec). rec (headAt tree at) (cons (treeAt (levels - 1) tree p0) (cons v (rest levels tree (countAt tree at - 2) p2)))) o) (type-kept f (levels - 1) tree p1 (s .counter) m)
-      ∙ ap (λ (r : Rec). wrap (headOf r) (atKid 1 (typeOr f) (kidsOf r) (s .counter))) (sym (u .is))))
+  pub binding-kept : {o' : List ℕ} (g : List ℕ) {s' : State} → (markAt tree (f1 .at) ≡ mark "No" → ⊥) → 0 < f1 .n → KeepsAll o2 o' (f1 .s) s' (leftOf tree f1) → Makes o o' g g s s' (bindingOf tree scope levels at init (s .counter))
+  binding-kept g m h z =
+      let e : leftOf tree f1 ≡ cons (nextOf tree f1) (recordsAt (f1 .levels) tree (f1 .n - 1) (endAt (f1 .levels) tree (f1 .at))) = readAll-more (treeAt (f1 .levels) tree) (endAt (f1 .levels) tree) (f1 .n) (f1 .at) h in
+      makes-as (makes-keeps g (rest-framed b (rest-kept k (rest-done tree f1 z))) (b .reported))
+      (ap (λ (ks : Recs). pure (rec (headOf (treeAt levels tree at)) (cons (nextOf tree f) ks)) (s .counter)) e
+      ∙ (ap (λ (y : Out Rec). wrap (headOf (treeAt levels tree at)) (onValue (λ (v : Rec). cons (nextOf tree f) (cons v (recordsAt (f1 .levels) tree (f1 .n - 1) (endAt (f1 .levels) tree (f1 .at))))) y))
+      (type-kept typeFor (f1 .levels) tree (f1 .at) (s .counter) m)
+      ∙ ap (λ (ks : Recs). wrap (headOf (treeAt levels tree at)) (atKid 1 (typeOr typeFor) ks (s .counter))) (sym (b .kids ∙ (k .passed .kids ∙ ap (cons (nextOf tree f)) e)))))
 
   -- it has none
-  pub binding-typed : AcceptedAt levels tree at → ((i : ℕ) → mir.Val.Fits w8 (getD tree i 0)) → {o o1 o2 o3 o4 g g' : List ℕ} {s s1 s2 s3 s4 : State} {h : Fields} → h ≡ fieldsAt tree at → markAt tree p1 ≡ mark "No" → s .reported ≤ highest
-      → Writes o o1 s s1 (frontBytes (withFlags (headAt tree at) (h .flags)) (h .count)) true → Keeps o1 o2 s1 s2 (treeAt (levels - 1) tree p0)
-      → Makes o2 o3 g g' s2 s3 (declaratorType (typingOf tree scope) (headAt tree at) (treeAt levels tree init) (s2 .counter)) → KeepsAll o3 o4 s3 s4 (rest levels tree (h .count - 2) p2)
-      → Makes o o4 g g' s s4 (bindingOf tree scope levels at init (s .counter))
-  binding-typed a known {s2 = s2} e m d v b c z =
-      rw (head-is levels tree at)
-      (makes-second levels tree at (headAt tree at) (head-short levels tree at a known) d (front-as tree at e v) e
-      (typeOr (declaratorType (typingOf tree scope) (headAt tree at) (treeAt levels tree init))) u b
-      (makes-as c (type-new (declaratorType (typingOf tree scope) (headAt tree at) (treeAt levels tree init)) (levels - 1) tree p1 (s2 .counter) m)) z)
+  pub binding-typed : {f2 : Frame} {s2 : State} → Passed tree f1 s2 f2 → markAt tree (f1 .at) ≡ mark "No" → {o3 o4 g g' : List ℕ} {s' : State}
+      → Makes o2 o3 g g' (f1 .s) s2 (declaratorType (typingOf tree scope) (headAt tree at) (treeAt levels tree init) (f1 .s .counter)) → KeepsAll o3 o4 (f2 .s) s' (leftOf tree f2)
+      → Makes o o4 g g' s s' (bindingOf tree scope levels at init (s .counter))
+  binding-typed p m w z =
+      makes-second b (typeOr typeFor) k p
+      (makes-as w (ap (λ (h : Head). declaratorType (typingOf tree scope) h (treeAt levels tree init) (f1 .s .counter)) (sym (head-is levels tree at)) ∙ type-new typeFor (f1 .levels) tree (f1 .at) (f1 .s .counter) m)) z
 
 -- ---- the pattern of a Vr
 
@@ -130,22 +125,19 @@ declarator-other tree scope levels at g {s} m w d =
     let z : pure (treeAt levels tree at) (s .counter) ≡ declarator (typingOf tree scope) (treeAt levels tree at) (s .counter) = rw (not-mark levels tree at (mark "Vr") m) in
     makes-as (makes-keeps g w d) z
 
-pub declarator-made : (tree : List ℕ) (scope : Scope) (levels at : ℕ) → AcceptedAt levels tree at → ((i : ℕ) → mir.Val.Fits w8 (getD tree i 0)) → {p0 p1 p2 : ℕ} → Two levels tree at p0 p1 p2 → markAt tree at ≡ mark "Vr"
-    → {o o1 o2 o3 o4 g g' : List ℕ} {s s1 s2 s3 s4 : State} {h : Fields} → h ≡ fieldsAt tree at → s .reported ≤ highest
-    → Writes o o1 s s1 (frontBytes (withFlags (headAt tree at) (h .flags)) (h .count)) true → Makes o1 o2 g g' s1 s2 (patternOf tree scope (treeAt levels tree at) (s1 .counter))
-    → Keeps o2 o3 s2 s3 (gone (treeAt (levels - 1) tree p1)) → KeepsAll o3 o4 s3 s4 (rest levels tree (h .count - 2) p2) → Makes o o4 g g' s s4 (declarator (typingOf tree scope) (treeAt levels tree at) (s .counter))
+pub declarator-made : (tree : List ℕ) (scope : Scope) {levels at : ℕ} → markAt tree at ≡ mark "Vr" → {o o1 o2 o3 o4 g g' : List ℕ} {s s1 s' : State} {f f1 f2 : Frame}
+    → Begun levels tree at (headOf (treeAt levels tree at)) o o1 s f → Makes o1 o2 g g' (f .s) s1 (patternOf tree scope (treeAt levels tree at) (f .s .counter)) → Passed tree f s1 f1
+    → Kept tree o2 o3 f1 f2 (gone (nextOf tree f1)) → KeepsAll o3 o4 (f2 .s) s' (leftOf tree f2) → Makes o o4 g g' s s' (declarator (typingOf tree scope) (treeAt levels tree at) (s .counter))
 unfolding declarator
-declarator-made tree scope levels at a known {p0} {p1} {p2} u m {g' = g'} {s = s} e d v b c z =
+declarator-made tree scope {levels} {at} m {s = s} {f1 = f1} {f2 = f2} b w p k z =
+    let h : Head = headOf (treeAt levels tree at) in
     let ty : Typing = typingOf tree scope in
-    let t : Rec = treeAt levels tree at in
-    let f : Out Rec → Out Rec = λ (o : Out Rec). onValue (λ (w : Rec). rec (headAt tree at) (cons w (cons (gone (treeAt (levels - 1) tree p1)) (rest levels tree (countAt tree at - 2) p2)))) o in
-    let q : onValue (λ (ks : Recs). rec (headOf t) (setKid 1 (gone (kid 1 (kidsOf t))) ks)) (atKid 0 (declaratorPattern ty (headOf t) (kid 1 (kidsOf t))) (kidsOf t) (s .counter)) ≡ declarator ty t (s .counter) =
-    rw (is-mark levels tree at (mark "Vr") m) in
-    makes-as
-    (makes-front (headAt tree at) (front-as tree at e v) (u .many) (all-behind b (all-kept g' c (kept-as tree at e (levels - 1) 2 p2 z) (made-diagnostics b))) (head-short levels tree at a known) d)
-    (ap (λ (n : ℕ). f (patternOf tree scope t n)) (puts-counter v)
-    ∙ (ap (λ (r : Rec). f (patternOf tree scope r (s .counter))) (u .is)
-    ∙ (ap (λ (r : Rec). onValue (λ (ks : Recs). rec (headOf r) (setKid 1 (gone (kid 1 (kidsOf r))) ks)) (atKid 0 (declaratorPattern ty (headOf r) (kid 1 (kidsOf r))) (kidsOf r) (s .counter))) (sym (u .is)) ∙ q)))
+    let F : Out Rec → Out Rec = λ (y : Out Rec). onValue (λ (v : Rec). rec h (cons v (cons (gone (nextOf tree f1)) (leftOf tree f2)))) y in
+    let G : Recs → Out Rec = λ (ks : Recs). onValue (λ (vs : Recs). rec h (setKid 1 (gone (kid 1 ks)) vs)) (atKid 0 (declaratorPattern ty h (kid 1 ks)) ks (s .counter)) in
+    let q : G (kidsOf (treeAt levels tree at)) ≡ declarator ty (treeAt levels tree at) (s .counter) = rw (is-mark levels tree at (mark "Vr") m) in
+    makes-as (done-framed b (done-step w p (rest-kept k (rest-done tree f2 z))))
+    (ap (λ (n : ℕ). F (patternOf tree scope (treeAt levels tree at) n)) (puts-counter (b .front))
+    ∙ (ap (λ (ks : Recs). F (declaratorPattern ty h (kid 1 ks) (kid 0 ks) (s .counter))) (two-kids b p (k .passed)) ∙ (ap G (sym (two-kids b p (k .passed))) ∙ q)))
 
 -- ---- the declarators, one after the other
 

@@ -13,7 +13,7 @@ use borrow.Author.Tests.{ne-eqb}
 use Rattle.definition.specs.Tree.{Head, Rec, Recs, rec, nil, cons, headBytes, encode, encodes, markAt, countAt, bodyAt, headAt, endAt, treeAt}
 use Rattle.definition.specs.Grammar.{mark, grammar, known, slots, place, least}
 use Rattle.definition.specs.Children.{AcceptedAt, childAt}
-use Rattle.definition.specs.Record.{headOf, kidsOf, markOf, is, dummySp, listed, fresh, absent, ident, withFlags, kid, setKid, one, Diag, Out, pure, ifM, onValue, wrap, single, atKid, second}
+use Rattle.definition.specs.Record.{headOf, kidsOf, markOf, is, dummySp, listed, fresh, absent, ident, withFlags, kid, setKid, one, Diag, Out, pure, ifM, onValue, single, second}
 use Rattle.definition.specs.Names.{genUniqueName}
 use Rattle.definition.specs.Classes.{class}
 use Rattle.definition.specs.Items.{Default, xClass, xFn, xOther, defaultKind, bodyPart, withoutBody, constOf, defaultTyped, exportDefaultDecl, exportDefaultExpr}
@@ -37,15 +37,18 @@ use Rattle.typing.proofs.Fits.{name-fits, all-one}
 use Rattle.typing.proofs.Loops.{rest, encodes-one}
 use Rattle.typing.proofs.Steps.{step-put, step-puts, step-then, step-as, step-back, IsSome, IsNone, is-some, is-none}
 use Rattle.typing.proofs.Written.{puts-fitting, puts-as}
+use Rattle.parts.specs.declared.frame.Frame.{Frame}
+use Rattle.parts.specs.Frame.{leftOf, nextOf, Begun, Passed}
 use Rattle.parts.specs.Makes.{frontBytes, Keeps, KeepsAll, Makes}
-use Rattle.parts.proofs.Kept.{head-short, front-as}
+use Rattle.parts.proofs.Kept.{puts-puts, puts-length, puts-front, head-short, kept-as, front-as}
+use Rattle.parts.proofs.Framing.{makes-first}
 use Rattle.parts.proofs.Kids.{One, kids-one}
 use Rattle.parts.proofs.Makes.{makes-as, makes-keeps, gives-one, gives-none}
 use Rattle.parts.proofs.Ready.{ready-at}
 use Rattle.typing.proofs.Whole.{gives-as}
 use Rattle.classes.specs.Typings.{typingOf}
 use Rattle.items.specs.Steps.{constFront, readonlyMode, withClass, defaultFn, defaultDeclOf, defaultExprOf}
-use Rattle.items.proofs.Begun.{keeps-first, makes-first, each-silent}
+use Rattle.items.proofs.Declarations.{each-silent}
 
 -- ---- records as the only ones
 
@@ -82,9 +85,11 @@ pub name-written : (levels : ℕ) (s : List ℕ) (at : ℕ) → AcceptedAt level
     → {o o1 o2 o3 : List ℕ} {x x1 x3 : State} {h : Fields} {q : ℕ} → length o < 2 ^ 64 → h ≡ fieldsAt s at
     → Writes o o1 x x1 (frontBytes (withFlags (headAt s at) (h .flags)) (h .count)) true → Put o1 o2 (x1 .written) (encode (ident dummySp (genUniqueName counter))) q
     → KeepsAll o2 o3 (movedTo x1 q) x3 (rest levels s (h .count - 1) p1) → Keeps o o3 x x3 (rec (headAt s at) (setKid 0 (ident dummySp (genUniqueName counter)) (kidsOf (treeAt levels s at))))
-name-written levels s at a known u counter small {x1 = x1} l e v w z =
+unfolding encodes allTextsFit
+name-written levels s at a known {p1} u counter small {x1 = x1} l e v w z =
     puts-as
-    (keeps-first levels s at e l (headAt s at) (front-as s at e v) (head-short levels s at a known) (ident dummySp (genUniqueName counter)) u (puts-fitting x1 w (unique-fits counter small)) z)
+    (puts-front (headAt s at) (cons (ident dummySp (genUniqueName counter)) (rest levels s (countAt s at - 1) p1)) l (head-short levels s at a known) (rw (u .many) at (front-as s at e v))
+    (puts-puts (omega (arith, l, puts-length v)) (puts-fitting x1 w (unique-fits counter small)) (kept-as s at e (levels - 1) 1 p1 z)))
     (ap (λ (r : Rec). rec (headAt s at) (setKid 0 (ident dummySp (genUniqueName counter)) (kidsOf r))) (sym (u .is)))
 
 -- where it stands
@@ -245,19 +250,17 @@ module _ (list tree : List ℕ) (scope : Scope) (levels at : ℕ) {p0 p1 : ℕ} 
       (sym e ∙ ap defaultKind (sym (mark-is (levels - 1) tree p0) ∙ ap (λ (r : Rec). markOf (kid 0 (kidsOf r))) (sym (u .is))))
 
   -- a class
-  pub default-class : AcceptedAt levels tree at → ((i : ℕ) → mir.Val.Fits w8 (getD tree i 0)) → markAt tree p0 ≡ mark "Cx" → {o o1 o2 o3 g g' : List ℕ} {s s1 s2 s3 : State} {h k : Fields} → s .reported ≤ highest
-      → h ≡ fieldsAt tree at → k ≡ fieldsAt tree p0 → Writes o o1 s s1 (frontBytes (withFlags (headAt tree at) (h .flags)) (h .count)) true
-      → Makes o1 o2 g g' s1 s2 (withClass list tree scope (k .flags) (treeAt (levels - 1) tree p0) (s1 .counter)) → KeepsAll o2 o3 s2 s3 (rest levels tree (h .count - 1) p1)
-      → MakesCounted o o3 g g' s (record { s = s3; count = 1 }) (defaultDeclOf list tree scope (treeAt levels tree at) (s .counter))
+  pub default-class : markAt tree p0 ≡ mark "Cx" → {o o1 o2 o3 g g' : List ℕ} {s s1 s' : State} {f f1 : Frame} {k : Fields} → Begun levels tree at (headOf (treeAt levels tree at)) o o1 s f → k ≡ fieldsAt tree (f .at)
+      → Passed tree f s1 f1 → Makes o1 o2 g g' (f .s) s1 (withClass list tree scope (k .flags) (nextOf tree f) (f .s .counter)) → KeepsAll o2 o3 (f1 .s) s' (leftOf tree f1)
+      → MakesCounted o o3 g g' s (record { s = s'; count = 1 }) (defaultDeclOf list tree scope (treeAt levels tree at) (s .counter))
   unfolding second defaultKind exportDefaultDecl
-  default-class a known m {s = s} {s1 = s1} {k = k} d e f v b z =
-      let F : Rec → ℕ → Out Rec = second (class list (scope .unresolved) (typingOf tree scope)) in
-      let t : Rec = treeAt (levels - 1) tree p0 in
-      let q : k .flags ≡ headOf t .flags = ap (λ (x : Fields). x .flags) f ∙ sym (flags-is (levels - 1) tree p0) in
-      let c : withClass list tree scope (k .flags) t (s1 .counter) ≡ F t (s1 .counter) = ap (λ (x : ℕ). withClass list tree scope x t (s1 .counter)) q in
+  default-class m {s = s} {f = f} {k = k} b e p w z =
+      let q : k .flags ≡ headOf (nextOf tree f) .flags = ap (λ (x : Fields). x .flags) e ∙ sym (flags-is (f .levels) tree (f .at)) in
       let kind : defaultKind (markAt tree p0) ≡ xClass = rw m in
-      gives-as (gives-one (makes-first levels tree at (headAt tree at) (head-short levels tree at a known) d (front-as tree at e v) e F u (makes-as b c) z))
-      (ap (λ (h : Head). single (wrap h (atKid 0 F (kidsOf (treeAt levels tree at)) (s .counter)))) (sym (head-is levels tree at)) ∙ default-by (s .counter) xClass kind)
+      gives-as
+      (gives-one
+      (makes-first b (second (class list (scope .unresolved) (typingOf tree scope))) p (makes-as w (ap (λ (x : ℕ). withClass list tree scope x (nextOf tree f) (f .s .counter)) q)) z))
+      (default-by (s .counter) xClass kind)
 
   -- a function: "goes if the range .. is in the overload list"
   fn-is : (n : ℕ) → markAt tree p0 ≡ mark "Fx" → ifM (listed list (headAt tree at)) (pure nil) (λ n. single (defaultFn (treeAt levels tree at) n)) n ≡ defaultDeclOf list tree scope (treeAt levels tree at) n

@@ -281,9 +281,6 @@ module _ (levels : ℕ) (s : List ℕ) (at n : ℕ) where
   unfolding enumMember
   member-is m = rw (is-mark levels s at (mark "Em") m)
 
-pub em-kids : (levels : ℕ) (s : List ℕ) (at : ℕ) → AcceptedAt levels s at → markAt s at ≡ mark "Em" → {p0 p1 : ℕ} → p0 ≡ bodyAt s at → p1 ≡ endAt (levels - 1) s p0 → {p2 : ℕ} → p2 ≡ endAt (levels - 1) s p1 → Two levels s at p0 p1 p2
-em-kids levels s at a m e f g = kids-two levels s at a (has (mark "Em") levels s at a m) e f g
-
 -- ---- the members, one after the other
 
 -- they leave no diagnostic, and the counter as it is

@@ -40,9 +40,6 @@ module _ (levels : ℕ) (s : List ℕ) (at : ℕ) (a : AcceptedAt levels s at) w
   pub ed-kids : markAt s at ≡ mark "Ed" → {p0 p1 : ℕ} → p0 ≡ bodyAt s at → p1 ≡ endAt (levels - 1) s p0 → One levels s at p0 p1
   ed-kids m e f = kids-one levels s at a (has (mark "Ed") levels s at a m) e f
 
-  pub ns-kids : markAt s at ≡ mark "Ns" → {p0 p1 p2 : ℕ} → p0 ≡ bodyAt s at → p1 ≡ endAt (levels - 1) s p0 → p2 ≡ endAt (levels - 1) s p1 → Two levels s at p0 p1 p2
-  ns-kids m e f g = kids-two levels s at a (has (mark "Ns") levels s at a m) e f g
-
   pub nd-kids : markAt s at ≡ mark "Nd" → {p0 p1 p2 : ℕ} → p0 ≡ bodyAt s at → p1 ≡ endAt (levels - 1) s p0 → p2 ≡ endAt (levels - 1) s p1 → Two levels s at p0 p1 p2
   nd-kids m e f g = kids-two levels s at a (has (mark "Nd") levels s at a m) e f g
 

@@ -1,4 +1,3 @@
-pub mod Begun
 pub mod Inits
 pub mod Declarators
 pub mod Declarations

@@ -2,7 +2,7 @@
 use mathlib.Core.Path.{_≡_, refl, sym, ap, _∙_, subst}
 use mathlib.Core.List.{List}
 use mathlib.Core.Bool.{true, false}
-use Prim.Native.Nat.{ℕ, _+_, _-_, _≤_}
+use Prim.Native.Nat.{ℕ, _+_, _-_}
 use mir.Syntax.{w8}
 use mir.Val
 use lib.ListN.{length, getD}
@@ -12,23 +12,25 @@ use Rattle.definition.specs.Children.{AcceptedAt}
 use Rattle.definition.specs.Record.{headOf, kidsOf, markOf, is, withFlags, Out, pure, wrap, atKid}
 use Rattle.definition.specs.Items.{Body, bBlock, bNested, bOther, bodyKind, bodyBy, nsParts, transformTsNsBody, nestedSecond}
 use Rattle.definition.proofs.Children.{tree-is}
-use Rattle.definition.proofs.Kids.{head-is, mark-is, text-length}
+use Rattle.definition.proofs.Kids.{mark-is, text-length}
 use Rattle.records.specs.declared.Head.{Head as Fields}
 use Rattle.records.specs.Fields.{fieldsAt}
-use Rattle.records.specs.Wrote.{highest, sat}
+use Rattle.records.specs.Wrote.{sat}
 use Rattle.prescan.specs.declared.Scope.{Scope}
 use Rattle.typing.specs.declared.State.{State}
 use Rattle.typing.specs.declared.Counted.{Counted}
 use Rattle.typing.specs.Did.{Writes, movedTo}
 use Rattle.typing.specs.Below.{MakesCounted}
 use Rattle.typing.proofs.Loops.{rest}
-use Rattle.parts.specs.Makes.{frontBytes, Keeps, KeepsAll, Makes, MakesAll}
-use Rattle.parts.proofs.Kept.{head-short, front-flags}
+use Rattle.parts.specs.declared.frame.Frame.{Frame}
+use Rattle.parts.specs.Frame.{leftOf, nextOf, Begun, Passed, Kept}
+use Rattle.parts.specs.Makes.{frontBytes, KeepsAll, Makes, MakesAll}
+use Rattle.parts.proofs.Kept.{head-short}
+use Rattle.parts.proofs.Framing.{two-kids, makes-second}
 use Rattle.parts.proofs.Kids.{Two}
 use Rattle.parts.proofs.Makes.{makes-as, makes-front-last}
 use Rattle.classes.specs.Typings.{typingOf}
 use Rattle.items.specs.Steps.{recordsAt, withBody, itemsOf, bodyOf}
-use Rattle.items.proofs.Begun.{makes-second}
 use Rattle.items.proofs.Exports.{whole}
 use Rattle.items.proofs.ItemKinds.{kind-block, kind-nested, kind-other}
 
@@ -68,22 +70,15 @@ module _ (list tree : List ℕ) (scope : Scope) (levels at : ℕ) {p0 p1 p2 : �
       ap (λ (r : Rec). nestedSecond list (scope .unresolved) (typingOf tree scope) (kidsOf r) n) (sym (u .is))
       ∙ body-nested list tree scope (treeAt levels tree at) n (mark-is levels tree at ∙ m)
 
-  -- the children of an Ns
-  parts-are : atKid 1 (bodyOf list tree scope) (kidsOf (treeAt levels tree at)) n ≡ nsParts list (scope .unresolved) (typingOf tree scope) (kidsOf (treeAt levels tree at)) n
-  unfolding nsParts
-  parts-are =
-      ap (λ (r : Rec). atKid 1 (bodyOf list tree scope) (kidsOf r) n) (u .is) ∙ ap (λ (r : Rec). nsParts list (scope .unresolved) (typingOf tree scope) (kidsOf r) n) (sym (u .is))
-
-pub body-made : (list tree : List ℕ) (scope : Scope) (levels at flags : ℕ) → AcceptedAt levels tree at → ((i : ℕ) → mir.Val.Fits w8 (getD tree i 0)) → {p0 p1 p2 : ℕ} → Two levels tree at p0 p1 p2
-    → {o o1 o2 o3 o4 g g' : List ℕ} {s s1 s2 s3 s4 : State} {h : Fields} → h ≡ fieldsAt tree at → s .reported ≤ highest
-    → Writes o o1 s s1 (frontBytes (withFlags (headAt tree at) flags) (h .count)) true → Keeps o1 o2 s1 s2 (treeAt (levels - 1) tree p0)
-    → Makes o2 o3 g g' s2 s3 (bodyOf list tree scope (treeAt (levels - 1) tree p1) (s2 .counter)) → KeepsAll o3 o4 s3 s4 (rest levels tree (h .count - 2) p2)
-    → Makes o o4 g g' s s4 (withBody list tree scope flags (treeAt levels tree at) (s .counter))
-body-made list tree scope levels at flags a known u {s = s} e d v b c z =
-    makes-as
-    (makes-second levels tree at (withFlags (headAt tree at) flags) (head-short levels tree at a known) d (front-flags tree at e (λ _. flags) v) e (bodyOf list tree scope) u b c z)
-    (ap (wrap (withFlags (headAt tree at) flags)) (parts-are list tree scope levels at u (s .counter))
-    ∙ ap (λ (h : Head). wrap (withFlags h flags) (nsParts list (scope .unresolved) (typingOf tree scope) (kidsOf (treeAt levels tree at)) (s .counter))) (sym (head-is levels tree at)))
+-- the children of an Ns
+pub body-made : (list tree : List ℕ) (scope : Scope) (flags : ℕ) {levels at : ℕ} {o o1 o2 o3 o4 g g' : List ℕ} {s s2 s' : State} {f f1 f2 : Frame} → Begun levels tree at (withFlags (headOf (treeAt levels tree at)) flags) o o1 s f
+    → Kept tree o1 o2 f f1 (nextOf tree f) → Passed tree f1 s2 f2 → Makes o2 o3 g g' (f1 .s) s2 (bodyOf list tree scope (nextOf tree f1) (f1 .s .counter)) → KeepsAll o3 o4 (f2 .s) s' (leftOf tree f2)
+    → Makes o o4 g g' s s' (withBody list tree scope flags (treeAt levels tree at) (s .counter))
+unfolding nsParts
+body-made list tree scope flags {levels} {at} {s = s} b k p w z =
+    makes-as (makes-second b (bodyOf list tree scope) k p w z)
+    (ap (λ (ks : Recs). wrap (withFlags (headOf (treeAt levels tree at)) flags) (atKid 1 (bodyOf list tree scope) ks (s .counter))) (two-kids b (k .passed) p)
+    ∙ ap (λ (ks : Recs). wrap (withFlags (headOf (treeAt levels tree at)) flags) (nsParts list (scope .unresolved) (typingOf tree scope) ks (s .counter))) (sym (two-kids b (k .passed) p)))
 
 text-size : (levels : ℕ) (tree : List ℕ) (at : ℕ) → AcceptedAt levels tree at → length (headAt tree at .text) ≡ lengthAt tree at
 unfolding headAt

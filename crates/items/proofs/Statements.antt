@@ -41,7 +41,7 @@ use Rattle.parts.proofs.Kids.{One}
 use Rattle.parts.proofs.Makes.{makes, makes-keeps, makes-front, all-rest, gives-one}
 use Rattle.classes.specs.Typings.{typingOf}
 use Rattle.items.specs.Steps.{withClass, withFunction, withDeclarators, withMembers, withBody, declOf, stmtOf, exportOf, defaultDeclOf, defaultExprOf, itemOf}
-use Rattle.items.proofs.Begun.{each-silent}
+use Rattle.items.proofs.Declarations.{each-silent}
 use Rattle.items.proofs.Inits.{member-silent}
 use Rattle.items.proofs.Exports.{whole}
 use Rattle.items.proofs.ItemKinds.{is-fn, isFn, kind-class, kind-decl, kind-default, kind-dropped, kind-enum, kind-export, kind-expr, kind-fn, kind-kept, kind-module, kind-type, kind-using, kind-var}

@@ -12,18 +12,17 @@ ghost use Rattle.parts.specs.Makes.{Keeps, Makes};
 ghost use Rattle.items.specs.Steps.{withClass, withFunction, withDeclarators, withMembers};
 use crate::enums::enum_members;
 use crate::vars::declarators;
-use parts::keep;
-use parts::keep_all;
-use parts::put_front;
-use parts::put_gone;
+use parts::frame::begin;
+use parts::frame::begin_with;
+use parts::frame::drop_next;
+use parts::frame::finish;
+use parts::frame::keep_next;
+use parts::frame::passed;
 use prescan::Scope;
-use records::body_at;
 use records::flags::DECLARE;
 use records::flags::Flags;
 use records::flags::with_flag;
 use records::flags::without_flag;
-use records::read_head;
-use records::record_end;
 use typing::State;
 
 // "get declare at module level and lose it inside Nb": the flags of a declaration.
@@ -56,24 +55,20 @@ pub fn with_class(
         (withClass (now (list .entry)) (now (tree .entry)) scope flags (treeAt levels (now (tree .entry)) at) (s .counter))
         ⌝ }
 {
-    let head = read_head(tree, at);
-    let ident = body_at(tree, at);
-    let class = record_end(tree, ident, levels - 1);
-    let rest = record_end(tree, class, levels - 1);
-    let front = put_front(tree, at, levels, flags, head.count, out, s);
-    let named = keep(tree, ident, levels - 1, out, front);
+    let ident = begin_with(tree, at, levels, flags, out, s);
+    let class = keep_next(tree, ident, out);
     let next = classes::class_body_to_type(
         tree,
-        class,
-        levels - 1,
+        class.at,
+        class.levels,
         index,
         scope,
         list,
         out,
         diagnostics,
-        named,
+        class.s,
     );
-    keep_all(tree, rest, head.count - 2, levels - 1, out, next)
+    finish(tree, passed(tree, class, next), out)
 }
 
 // An Fd: its function is the second child.
@@ -94,24 +89,20 @@ pub fn with_function(
         (withFunction (now (tree .entry)) scope flags (treeAt levels (now (tree .entry)) at) (s .counter))
         ⌝ }
 {
-    let head = read_head(tree, at);
-    let ident = body_at(tree, at);
-    let function = record_end(tree, ident, levels - 1);
-    let rest = record_end(tree, function, levels - 1);
-    let front = put_front(tree, at, levels, flags, head.count, out, s);
-    let named = keep(tree, ident, levels - 1, out, front);
+    let ident = begin_with(tree, at, levels, flags, out, s);
+    let function = keep_next(tree, ident, out);
     let next = classes::handle_function(
         tree,
-        function,
-        levels - 1,
+        function.at,
+        function.levels,
         index,
         scope,
         false,
         out,
         diagnostics,
-        named,
+        function.s,
     );
-    keep_all(tree, rest, head.count - 2, levels - 1, out, next)
+    finish(tree, passed(tree, function, next), out)
 }
 
 // A Vd.
@@ -132,19 +123,17 @@ pub fn with_declarators(
         (withDeclarators (now (tree .entry)) scope flags (treeAt levels (now (tree .entry)) at) (s .counter))
         ⌝ }
 {
-    let head = read_head(tree, at);
-    let first = body_at(tree, at);
-    let front = put_front(tree, at, levels, flags, head.count, out, s);
+    let first = begin_with(tree, at, levels, flags, out, s);
     declarators(
         tree,
-        first,
-        head.count,
-        levels - 1,
+        first.at,
+        first.n,
+        first.levels,
         index,
         scope,
         out,
         diagnostics,
-        front,
+        first.s,
     )
 }
 
@@ -160,10 +149,8 @@ pub fn with_members(
     requires { ⌜ AcceptedAt levels (now tree) at ⌝ }
     ensures { λ r. ⌜ Keeps (now (out .entry)) (now (out .exit)) s r (withMembers flags (treeAt levels (now (tree .entry)) at) (s .counter) .0) ⌝ }
 {
-    let head = read_head(tree, at);
-    let first = body_at(tree, at);
-    let front = put_front(tree, at, levels, flags, head.count, out, s);
-    enum_members(tree, first, head.count, levels - 1, out, front)
+    let first = begin_with(tree, at, levels, flags, out, s);
+    enum_members(tree, first.at, first.n, first.levels, out, first.s)
 }
 
 // The Fu at `at` of a function exported as default: it loses "the body only".
@@ -171,16 +158,10 @@ fn without_body(tree: &[u8], at: usize, levels: usize, out: &mut [u8], s: State)
     requires { ⌜ AcceptedAt levels (now tree) at × (markAt (now tree) at ≡ mark "Fu") ⌝ }
     ensures { λ r. ⌜ Keeps (now (out .entry)) (now (out .exit)) s r (withoutBody (treeAt levels (now (tree .entry)) at) (s .counter) .0) ⌝ }
 {
-    let head = read_head(tree, at);
-    let type_params = body_at(tree, at);
-    let return_type = record_end(tree, type_params, levels - 1);
-    let body = record_end(tree, return_type, levels - 1);
-    let rest = record_end(tree, body, levels - 1);
-    let front = put_front(tree, at, levels, head.flags, head.count, out, s);
-    let kept = keep(tree, type_params, levels - 1, out, front);
-    let typed = keep(tree, return_type, levels - 1, out, kept);
-    let bare = put_gone(tree, body, levels - 1, out, typed);
-    keep_all(tree, rest, head.count - 3, levels - 1, out, bare)
+    let type_params = begin(tree, at, levels, out, s);
+    let return_type = keep_next(tree, type_params, out);
+    let body = keep_next(tree, return_type, out);
+    finish(tree, drop_next(tree, body, out), out)
 }
 
 // The Fx of a function exported as default.
@@ -188,12 +169,8 @@ pub fn bodiless(tree: &[u8], at: usize, levels: usize, out: &mut [u8], s: State)
     requires { ⌜ AcceptedAt levels (now tree) at × (markAt (now tree) at ≡ mark "Fx") ⌝ }
     ensures { λ r. ⌜ Keeps (now (out .entry)) (now (out .exit)) s r (second withoutBody (treeAt levels (now (tree .entry)) at) (s .counter) .0) ⌝ }
 {
-    let head = read_head(tree, at);
-    let ident = body_at(tree, at);
-    let function = record_end(tree, ident, levels - 1);
-    let rest = record_end(tree, function, levels - 1);
-    let front = put_front(tree, at, levels, head.flags, head.count, out, s);
-    let named = keep(tree, ident, levels - 1, out, front);
-    let next = without_body(tree, function, levels - 1, out, named);
-    keep_all(tree, rest, head.count - 2, levels - 1, out, next)
+    let ident = begin(tree, at, levels, out, s);
+    let function = keep_next(tree, ident, out);
+    let next = without_body(tree, function.at, function.levels, out, function.s);
+    finish(tree, passed(tree, function, next), out)
 }

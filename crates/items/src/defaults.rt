@@ -17,6 +17,9 @@ use crate::vars::readonly;
 use classes::overloads::is_impl_with_overloads;
 use names::unique;
 use names::unique::Made;
+use parts::frame::begin;
+use parts::frame::finish;
+use parts::frame::passed;
 use parts::keep;
 use parts::keep_all;
 use parts::put_front;
@@ -59,24 +62,21 @@ fn default_class(
         (defaultDeclOf (now (list .entry)) (now (tree .entry)) scope (treeAt levels (now (tree .entry)) at) (s .counter))
         ⌝ }
 {
-    let head = read_head(tree, at);
-    let class = body_at(tree, at);
-    let rest = record_end(tree, class, levels - 1);
-    let flags = read_head(tree, class).flags;
-    let front = put_front(tree, at, levels, head.flags, head.count, out, s);
+    let class = begin(tree, at, levels, out, s);
+    let flags = read_head(tree, class.at).flags;
     let made = with_class(
         tree,
-        class,
-        levels - 1,
+        class.at,
+        class.levels,
         flags,
         index,
         scope,
         list,
         out,
         diagnostics,
-        front,
+        class.s,
     );
-    let next = keep_all(tree, rest, head.count - 1, levels - 1, out, made);
+    let next = finish(tree, passed(tree, class, made), out);
     Counted { s: next, count: 1 }
 }
 
@@ -86,12 +86,9 @@ fn default_fn(tree: &[u8], at: usize, levels: usize, out: &mut [u8], s: State) -
     requires { ⌜ markAt (now tree) (bodyAt (now tree) at) ≡ mark "Fx" ⌝ }
     ensures { λ r. ⌜ Keeps (now (out .entry)) (now (out .exit)) s r (defaultFn (treeAt levels (now (tree .entry)) at) (s .counter) .0) ⌝ }
 {
-    let head = read_head(tree, at);
-    let function = body_at(tree, at);
-    let rest = record_end(tree, function, levels - 1);
-    let front = put_front(tree, at, levels, head.flags, head.count, out, s);
-    let made = bodiless(tree, function, levels - 1, out, front);
-    keep_all(tree, rest, head.count - 1, levels - 1, out, made)
+    let function = begin(tree, at, levels, out, s);
+    let made = bodiless(tree, function.at, function.levels, out, function.s);
+    finish(tree, passed(tree, function, made), out)
 }
 
 // `ModuleDecl::ExportDefaultDecl`.

@@ -7,9 +7,11 @@ ghost use Rattle.definition.specs.Record.{kidsOf, is, each};
 ghost use Rattle.definition.specs.Enums.{validEnumTsType, validEnumInitExpr, validAll, enumInit, enumMember};
 ghost use Rattle.parts.specs.Makes.{Keeps, KeepsAll};
 ghost use Rattle.items.specs.Steps.{recordsAt};
+use parts::frame::begin;
+use parts::frame::finish;
+use parts::frame::keep_next;
+use parts::frame::passed;
 use parts::keep;
-use parts::keep_all;
-use parts::put_front;
 use reader::child_at;
 use records::body_at;
 use records::count_at;
@@ -30,7 +32,6 @@ use records::marks::SS;
 use records::marks::TA;
 use records::marks::TE;
 use records::marks::TL;
-use records::read_head;
 use records::record_end;
 use typing::State;
 
@@ -133,14 +134,10 @@ fn enum_member(tree: &[u8], at: usize, levels: usize, out: &mut [u8], s: State) 
     if mark_at(tree, at) != EM {
         return keep(tree, at, levels, out, s);
     }
-    let head = read_head(tree, at);
-    let name = body_at(tree, at);
-    let init = record_end(tree, name, levels - 1);
-    let rest = record_end(tree, init, levels - 1);
-    let front = put_front(tree, at, levels, head.flags, head.count, out, s);
-    let named = keep(tree, name, levels - 1, out, front);
-    let next = enum_init(tree, init, levels - 1, out, named);
-    keep_all(tree, rest, head.count - 2, levels - 1, out, next)
+    let name = begin(tree, at, levels, out, s);
+    let init = keep_next(tree, name, out);
+    let next = enum_init(tree, init.at, init.levels, out, init.s);
+    finish(tree, passed(tree, init, next), out)
 }
 
 // The children of an En, n records from `at` on.

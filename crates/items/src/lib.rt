@@ -21,6 +21,10 @@ use crate::decls::with_members;
 use crate::defaults::export_default_decl;
 use crate::defaults::export_default_expr;
 use classes::overloads::is_impl_with_overloads;
+use parts::frame::begin_with;
+use parts::frame::finish;
+use parts::frame::keep_next;
+use parts::frame::passed;
 use parts::front_size;
 use parts::keep;
 use parts::keep_all;
@@ -353,24 +357,20 @@ fn with_body(
         (withBody (now (list .entry)) (now (tree .entry)) scope flags (treeAt levels (now (tree .entry)) at) (s .counter))
         ⌝ }
 {
-    let head = read_head(tree, at);
-    let name = body_at(tree, at);
-    let body = record_end(tree, name, levels - 1);
-    let rest = record_end(tree, body, levels - 1);
-    let front = put_front(tree, at, levels, flags, head.count, out, s);
-    let named = keep(tree, name, levels - 1, out, front);
+    let name = begin_with(tree, at, levels, flags, out, s);
+    let body = keep_next(tree, name, out);
     let next = transform_ts_ns_body(
         tree,
-        body,
-        levels - 1,
+        body.at,
+        body.levels,
         index,
         scope,
         list,
         out,
         diagnostics,
-        named,
+        body.s,
     );
-    keep_all(tree, rest, head.count - 2, levels - 1, out, next)
+    finish(tree, passed(tree, body, next), out)
 }
 
 // `transform_ts_ns_body`: "Nd is replaced by its innermost Nb".

@@ -10,11 +10,13 @@ ghost use Rattle.typing.specs.Did.{Ready};
 ghost use Rattle.parts.specs.Makes.{Makes, MakesAll};
 ghost use Rattle.classes.specs.Typings.{typingOf, ReadyAll};
 ghost use Rattle.items.specs.Steps.{recordsAt, readonlyMode, patternOf};
+use parts::frame::begin;
+use parts::frame::drop_next;
+use parts::frame::finish;
+use parts::frame::keep_next;
+use parts::frame::passed;
 use parts::keep;
-use parts::keep_all;
 use parts::put_any;
-use parts::put_front;
-use parts::put_gone;
 use prescan::Scope;
 use records::DUMMY_SP;
 use records::body_at;
@@ -24,7 +26,6 @@ use records::marks::D1;
 use records::marks::D2;
 use records::marks::NO;
 use records::marks::VR;
-use records::read_head;
 use records::record_end;
 use typing::Mode;
 use typing::State;
@@ -98,15 +99,11 @@ fn declarator_ident(
         (treeAt levels (now (tree .entry)) init))) (kidsOf (treeAt levels (now (tree .entry)) at)) (s .counter)))
         ⌝ }
 {
-    let head = read_head(tree, at);
-    let ident = body_at(tree, at);
-    let type_ann = record_end(tree, ident, levels - 1);
-    if mark_at(tree, type_ann) != NO {
-        return keep(tree, at, levels, out, s);
+    let ident = begin(tree, at, levels, out, s);
+    let type_ann = keep_next(tree, ident, out);
+    if mark_at(tree, type_ann.at) != NO {
+        return finish(tree, type_ann, out);
     }
-    let rest = record_end(tree, type_ann, levels - 1);
-    let front = put_front(tree, at, levels, head.flags, head.count, out, s);
-    let named = keep(tree, ident, levels - 1, out, front);
     let typed = declarator_type(
         tree,
         at,
@@ -116,9 +113,9 @@ fn declarator_ident(
         scope,
         out,
         diagnostics,
-        named,
+        type_ann.s,
     );
-    keep_all(tree, rest, head.count - 2, levels - 1, out, typed)
+    finish(tree, passed(tree, type_ann, typed), out)
 }
 
 // The pattern of the Vr at `at`: "Other patterns give d1 at Vr".
@@ -177,14 +174,10 @@ fn declarator(
     if mark_at(tree, at) != VR {
         return keep(tree, at, levels, out, s);
     }
-    let head = read_head(tree, at);
-    let pattern = body_at(tree, at);
-    let init = record_end(tree, pattern, levels - 1);
-    let rest = record_end(tree, init, levels - 1);
-    let front = put_front(tree, at, levels, head.flags, head.count, out, s);
-    let named = declarator_pattern(tree, at, levels, index, scope, out, diagnostics, front);
-    let bare = put_gone(tree, init, levels - 1, out, named);
-    keep_all(tree, rest, head.count - 2, levels - 1, out, bare)
+    let pattern = begin(tree, at, levels, out, s);
+    let named = declarator_pattern(tree, at, levels, index, scope, out, diagnostics, pattern.s);
+    let init = passed(tree, pattern, named);
+    finish(tree, drop_next(tree, init, out), out)
 }
 
 // The declarators of a Vd, n records from `at` on.

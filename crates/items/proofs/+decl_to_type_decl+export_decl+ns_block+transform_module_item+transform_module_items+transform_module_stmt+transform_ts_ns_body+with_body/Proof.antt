@@ -46,4 +46,4 @@ pub +decl-to-type-decl+export-decl+ns-block+transform-module-item+transform-modu
     (λ t. transform-module-items-lts.spec (transform-module-items-m.calls t) (transform-module-items-at t) transform-module-items.Post transform-module-items-m.Inv-loop transform-module-items-m.μ-loop (transform-module-items-m.loop-holds t) (transform-module-items-m.transform-module-item-requires t) (transform-module-items-m.add-count t) (transform-module-items-m.next-at-requires t) (transform-module-items-m.sub-k t) (transform-module-items-m.loop-less t) (transform-module-items-m.loop-again t) (transform-module-items-m.same-length t) (transform-module-items-m.same-length-2 t) (transform-module-items-m.returns t))
     (λ t. transform-module-stmt-lts.spec (transform-module-stmt-m.calls t) (transform-module-stmt-at t) transform-module-stmt.Post (transform-module-stmt-m.is-overloaded-requires t) (transform-module-stmt-m.returns t) (transform-module-stmt-m.mark-at-requires t) (transform-module-stmt-m.decl-to-type-decl-requires t) (transform-module-stmt-m.enum-known-next t) (transform-module-stmt-m.enum-known-failed t) (transform-module-stmt-m.skipped-requires t) (transform-module-stmt-m.kept-requires t) (transform-module-stmt-m.same-length t) (transform-module-stmt-m.same-length-2 t) (transform-module-stmt-m.returns-2 t) (transform-module-stmt-m.same-length-3 t) (transform-module-stmt-m.same-length-4 t) (transform-module-stmt-m.returns-3 t) (transform-module-stmt-m.same-length-5 t) (transform-module-stmt-m.returns-4 t))
     (λ t. transform-ts-ns-body-lts.spec (transform-ts-ns-body-m.calls t) (transform-ts-ns-body-at t) transform-ts-ns-body.Post (transform-ts-ns-body-m.mark-at-requires t) (transform-ts-ns-body-m.ns-block-requires t) (transform-ts-ns-body-m.body-at-requires t) (transform-ts-ns-body-m.sub-record-end t) (transform-ts-ns-body-m.record-end-requires t) (transform-ts-ns-body-m.sub-transform-ts-ns-body t) (transform-ts-ns-body-m.transform-ts-ns-body-requires t) (transform-ts-ns-body-m.keep-requires t) (transform-ts-ns-body-m.same-length t) (transform-ts-ns-body-m.same-length-2 t) (transform-ts-ns-body-m.returns t) (transform-ts-ns-body-m.same-length-3 t) (transform-ts-ns-body-m.same-length-4 t) (transform-ts-ns-body-m.returns-2 t) (transform-ts-ns-body-m.same-length-5 t) (transform-ts-ns-body-m.returns-3 t))
-    λ t. with-body-lts.spec (with-body-m.calls t) (with-body-at t) with-body.Post (with-body-m.read-head-requires t) (with-body-m.body-at-requires t) (with-body-m.sub-record-end t) (with-body-m.record-end-requires t) (with-body-m.sub-record-end-2 t) (with-body-m.record-end-requires-2 t) (with-body-m.put-front-requires t) (with-body-m.sub-keep t) (with-body-m.keep-requires t) (with-body-m.sub-transform-ts-ns-body t) (with-body-m.transform-ts-ns-body-requires t) (with-body-m.sub-keep-all t) (with-body-m.sub-keep-all-2 t) (with-body-m.keep-all-requires t) (with-body-m.same-length t) (with-body-m.same-length-2 t) (with-body-m.returns t)
+    λ t. with-body-lts.spec (with-body-m.calls t) (with-body-at t) with-body.Post (with-body-m.begin-with-requires t) (with-body-m.keep-next-requires t) (with-body-m.transform-ts-ns-body-requires t) (with-body-m.passed-requires t) (with-body-m.finish-requires t) (with-body-m.same-length t) (with-body-m.same-length-2 t) (with-body-m.returns t)

@@ -9,9 +9,8 @@ use Rattle.definition.proofs.Children.{itself, some-left}
 use Rattle.swc_helpers.proofs.Made.{is-whole}
 use Rattle.typing.proofs.Props.{gives-none}
 use Rattle.typing.proofs.Written.{puts-counter}
-use Rattle.parts.proofs.Kept.{count-as}
+use Rattle.parts.proofs.Kept.{count-as, others-as}
 use Rattle.parts.proofs.Ready.{ready-kid}
-use Rattle.items.proofs.Begun.{others-one}
 use Rattle.items.proofs.ItemKinds.{ed-kids}
 use Rattle.items.proofs.Statements.{export-gone, export-some, export-none}
 use Rattle.items.proofs.export_decl.Reads as export-decl
@@ -67,7 +66,7 @@ pub sub-keep-all-2 : (t : ℕ) → export-decl-lts.Need-sub-keep-all-2 (calls t)
 sub-keep-all-2 t c = omega (arith, some-left _ _ _ (c .before .before .before .before .before .before .before .before .before .before .before .before .before .before .before .before .before .before .before .before .before .before .before .before .before .pre .1 .0 .accepted))
 
 pub keep-all-requires : (t : ℕ) → export-decl-lts.Need-keep-all-requires (calls t) (export-decl-at t) export-decl.Post
-keep-all-requires t c κs = others-one (ed-kids _ _ _ (c .before .before .before .before .before .before .before .before .before .before .before .before .before .before .before .before .before .before .before .before .before .before .before .before .before .before .pre .1 .0 .accepted) (c .before .before .before .before .before .before .before .before .before .before .before .before .before .before .before .before .before .before .before .before .before .before .before .before .before .before .pre .1 .1) (c .before .before .before .before .before .before .before .before .before .before .before .before .before .before .before .before .before .before .before .before .body-at .ensures) (c .before .before .before .before .before .before .before .before .before .before .before .before .before .before .before .before .record-end .ensures)) (c .before .before .before .before .before .before .before .before .before .before .before .before .before .before .before .before .before .read-head .ensures)
+keep-all-requires t c κs = others-as _ _ (c .before .before .before .before .before .before .before .before .before .before .before .before .before .before .before .before .before .read-head .ensures) 1 (ed-kids _ _ _ (c .before .before .before .before .before .before .before .before .before .before .before .before .before .before .before .before .before .before .before .before .before .before .before .before .before .before .pre .1 .0 .accepted) (c .before .before .before .before .before .before .before .before .before .before .before .before .before .before .before .before .before .before .before .before .before .before .before .before .before .before .pre .1 .1) (c .before .before .before .before .before .before .before .before .before .before .before .before .before .before .before .before .before .before .before .before .body-at .ensures) (c .before .before .before .before .before .before .before .before .before .before .before .before .before .before .before .before .record-end .ensures) .others)
 
 pub enum-known-failed : (t : ℕ) → export-decl-lts.Need-enum-known-failed (calls t) (export-decl-at t) export-decl.Post
 enum-known-failed t c = search needs

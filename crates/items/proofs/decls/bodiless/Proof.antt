@@ -1,92 +1,36 @@
 -- `bodiless` meets its contract.
-use mathlib.Core.Path.{refl}
-use Rattle.definition.proofs.Kids.{has}
-use Rattle.definition.specs.Grammar.{mark}
 use native.Mathlib.Omega.{arith}
+use Rattle.definition.specs.Grammar.{mark}
+use Rattle.definition.specs.Record.{second}
 use Rattle.definition.specs.Items.{withoutBody}
-use Rattle.definition.proofs.Children.{itself, some-left}
-use Rattle.swc_helpers.proofs.Made.{is-whole}
-use Rattle.parts.proofs.Kept.{count-as}
-use Rattle.items.proofs.Begun.{others-two, second-step}
-use Rattle.items.proofs.Declarations.{fx-kids, fx-fu}
-use borrow.Author.Needs.{needs}
+use Rattle.definition.proofs.Kids.{has}
+use Rattle.parts.proofs.Framing.{passed-first, second-place, keeps-second}
+use Rattle.parts.proofs.Kept.{puts-length}
+use Rattle.items.proofs.Declarations.{fx-fu}
 use Rattle.items.proofs.decls.bodiless.Statement.{statement}
 use Rattle.items.proofs.decls.bodiless.Tie as tie
-use Rattle.items.proofs.decls.bodiless.Reads as reads
-use Rattle.items.proofs.decls.bodiless.Lts as lts
-use Rattle.items.proofs.decls.without_body.Reads as without-body-reads
-use Rattle.parts.proofs.keep.Reads as keep-reads
-use Rattle.parts.proofs.keep_all.Reads as keep-all-reads
-use Rattle.parts.proofs.put_front.Reads as put-front-reads
-use Rattle.records.proofs.body_at.Reads as body-at-reads
-use Rattle.records.proofs.read_head.Reads as read-head-reads
-use Rattle.records.proofs.record_end.Reads as record-end-reads
 
-read-head-requires : tie.Need-read-head-requires
-read-head-requires c κs = itself _ _ _ (c .before .before .pre .0) .room
+begin-requires : tie.Need-begin-requires
+begin-requires c κs = c .before .before .before .pre .0
 
-body-at-requires : tie.Need-body-at-requires
-body-at-requires c κs = itself _ _ _ (c .before .before .before .pre .0) .room
-
-sub-record-end : tie.Need-sub-record-end
-sub-record-end c = omega (arith, some-left _ _ _ (c .before .before .before .before .pre .0))
-
-record-end-requires : tie.Need-record-end-requires
-record-end-requires c κs = is-whole _ _ _ (fx-kids _ _ _ (c .before .before .before .before .pre .0) (c .before .before .before .before .pre .1) (c .body-at .ensures) refl refl .first)
-
-sub-record-end-2 : tie.Need-sub-record-end-2
-sub-record-end-2 c = omega (arith, some-left _ _ _ (c .before .before .before .before .before .pre .0))
-
-record-end-requires-2 : tie.Need-record-end-requires-2
-record-end-requires-2 c κs = is-whole _ _ _ (fx-kids _ _ _ (c .before .before .before .before .before .pre .0) (c .before .before .before .before .before .pre .1) (c .before .body-at .ensures) (c .record-end .ensures) refl .second)
-
-put-front-requires : tie.Need-put-front-requires
-put-front-requires c κs = c .before .before .before .before .before .before .before .pre .0
-
-sub-keep : tie.Need-sub-keep
-sub-keep c = omega (arith, some-left _ _ _ (c .before .before .before .before .before .before .before .before .before .before .pre .0))
-
-keep-requires : tie.Need-keep-requires
-keep-requires c κs = fx-kids _ _ _ (c .before .before .before .before .before .before .before .before .before .before .before .pre .0) (c .before .before .before .before .before .before .before .before .before .before .before .pre .1) (c .before .before .before .before .before .before .before .body-at .ensures) refl refl .first
-
-sub-without-body : tie.Need-sub-without-body
-sub-without-body c = omega (arith, some-left _ _ _ (c .before .before .before .before .before .before .before .before .before .before .before .before .before .before .pre .0))
+keep-next-requires : tie.Need-keep-next-requires
+keep-next-requires c κs = record { left = c .before .before .before .begin .ensures .left; more = omega (arith, has (mark "Fx") _ _ _ (c .before .before .before .before .before .before .before .pre .0) (c .before .before .before .before .before .before .before .pre .1)) }
 
 without-body-requires : tie.Need-without-body-requires
-without-body-requires c κs = (fx-kids _ _ _ (c .before .before .before .before .before .before .before .before .before .before .before .before .before .before .before .pre .0) (c .before .before .before .before .before .before .before .before .before .before .before .before .before .before .before .pre .1) (c .before .before .before .before .before .before .before .before .before .before .before .body-at .ensures) (c .before .before .before .before .before .before .before .before .before .before .record-end .ensures) refl .second, fx-fu _ _ _ (c .before .before .before .before .before .before .before .before .before .before .before .before .before .before .before .pre .0) (c .before .before .before .before .before .before .before .before .before .before .before .before .before .before .before .pre .1) (c .before .before .before .before .before .before .before .before .before .before .before .body-at .ensures) (c .before .before .before .before .before .before .before .before .before .before .record-end .ensures))
+without-body-requires c κs = (passed-first (c .before .before .before .keep-next .ensures .passed) (omega (arith, has (mark "Fx") _ _ _ (c .before .before .before .before .before .before .before .before .before .before .before .pre .0) (c .before .before .before .before .before .before .before .before .before .before .before .pre .1))), fx-fu _ _ _ (c .before .before .before .before .before .before .before .before .before .before .before .pre .0) (c .before .before .before .before .before .before .before .before .before .before .before .pre .1) (second-place (c .before .before .before .before .before .before .before .begin .ensures) (c .before .before .before .keep-next .ensures .passed)))
 
-sub-keep-all : tie.Need-sub-keep-all
-sub-keep-all c = omega (arith, count-as (c .before .before .before .before .before .before .before .before .before .before .before .before .before .before .before .before .before .before .before .args .tree .now) (c .before .before .before .before .before .before .before .before .before .before .before .before .before .before .before .before .before .before .before .args .at) (c .before .before .before .before .before .before .before .before .before .before .before .before .before .before .before .before .read-head .ensures), has (mark "Fx") _ _ _ (c .before .before .before .before .before .before .before .before .before .before .before .before .before .before .before .before .before .before .before .pre .0) (c .before .before .before .before .before .before .before .before .before .before .before .before .before .before .before .before .before .before .before .pre .1))
+passed-requires : tie.Need-passed-requires
+passed-requires c κs = record { left = c .before .before .before .before .before .before .keep-next .ensures .passed .left; more = omega (arith, has (mark "Fx") _ _ _ (c .before .before .before .before .before .before .before .before .before .before .before .before .before .before .pre .0) (c .before .before .before .before .before .before .before .before .before .before .before .before .before .before .pre .1)) }
 
-sub-keep-all-2 : tie.Need-sub-keep-all-2
-sub-keep-all-2 c = omega (arith, some-left _ _ _ (c .before .before .before .before .before .before .before .before .before .before .before .before .before .before .before .before .before .before .before .pre .0))
-
-keep-all-requires : tie.Need-keep-all-requires
-keep-all-requires c κs = others-two (fx-kids _ _ _ (c .before .before .before .before .before .before .before .before .before .before .before .before .before .before .before .before .before .before .before .before .pre .0) (c .before .before .before .before .before .before .before .before .before .before .before .before .before .before .before .before .before .before .before .before .pre .1) (c .before .before .before .before .before .before .before .before .before .before .before .before .before .before .before .before .body-at .ensures) (c .before .before .before .before .before .before .before .before .before .before .before .before .before .before .before .record-end .ensures) (c .before .before .before .before .before .before .before .before .before .before .before .before .before .before .record-end2 .ensures)) (c .before .before .before .before .before .before .before .before .before .before .before .before .before .before .before .before .before .read-head .ensures)
-
-same-length : tie.Need-same-length
-same-length c = search needs
+finish-requires : tie.Need-finish-requires
+finish-requires c κs = c .before .passed .ensures .left
 
 returns : tie.Need-returns
-returns c = second-step (c .before .before .before .before .before .before .before .before .before .before .before .before .before .before .before .before .before .before .before .before .before .before .before .pre .0) (c .before .before .before .before .before .before .before .before .before .before .before .before .before .before .before .before .before .before .before .before .before .before .shared-slice-known .given) (omega (arith, c .before .before .before .before .before .before .before .before .before .before .before .before .before .before .before .before .before .before .before .before .before .before .before .good)) (c .before .before .before .before .before .before .before .before .before .before .before .before .before .before .before .before .before .before .before .before .read-head .ensures) (c .before .before .before .before .before .before .before .before .before .before .before .before .before .before .before .put-front .ensures) withoutBody (fx-kids _ _ _ (c .before .before .before .before .before .before .before .before .before .before .before .before .before .before .before .before .before .before .before .before .before .before .before .pre .0) (c .before .before .before .before .before .before .before .before .before .before .before .before .before .before .before .before .before .before .before .before .before .before .before .pre .1) (c .before .before .before .before .before .before .before .before .before .before .before .before .before .before .before .before .before .before .before .body-at .ensures) (c .before .before .before .before .before .before .before .before .before .before .before .before .before .before .before .before .before .before .record-end .ensures) (c .before .before .before .before .before .before .before .before .before .before .before .before .before .before .before .before .before .record-end2 .ensures)) (c .before .before .before .before .before .before .before .before .before .before .before .keep .ensures) (c .before .before .before .before .before .before .before .without-body .ensures) (c .before .before .keep-all .ensures)
+unfolding second
+returns c = keeps-second (c .before .before .before .before .before .before .before .before .before .before .before .before .before .before .before .begin .ensures) withoutBody (c .before .before .before .before .before .before .before .before .before .before .before .keep-next .ensures) (c .before .before .before .before .passed .ensures) (c .before .before .before .before .before .before .before .without-body .ensures) (c .before .before .finish .ensures)
+
+same-length : tie.Need-same-length
+same-length c = puts-length (returns c)
 
 pub bodiless-spec : {M : Type 1} → statement M
-bodiless-spec =
-    tie.close
-    (tie.spec
-    read-head-requires
-    body-at-requires
-    sub-record-end
-    record-end-requires
-    sub-record-end-2
-    record-end-requires-2
-    put-front-requires
-    sub-keep
-    keep-requires
-    sub-without-body
-    without-body-requires
-    sub-keep-all
-    sub-keep-all-2
-    keep-all-requires
-    same-length
-    returns)
+bodiless-spec = tie.close (tie.spec begin-requires keep-next-requires without-body-requires passed-requires finish-requires same-length returns)

@@ -3,8 +3,7 @@ use native.Mathlib.Omega.{arith}
 use Rattle.definition.proofs.Kids.{has}
 use Rattle.definition.specs.Grammar.{mark}
 use Rattle.definition.proofs.Children.{itself, some-left}
-use Rattle.parts.proofs.Kept.{count-as}
-use Rattle.items.proofs.Begun.{others-one}
+use Rattle.parts.proofs.Kept.{count-as, others-as}
 use Rattle.items.proofs.Exports.{name-kids, name-written}
 use borrow.Author.Needs.{needs}
 use Rattle.items.proofs.defaults.put_default_name.Statement.{statement}
@@ -26,7 +25,7 @@ sub-keep-all-2 : tie.Need-sub-keep-all-2
 sub-keep-all-2 c = omega (arith, some-left _ _ _ (c .before .before .before .before .before .before .before .before .before .before .before .before .pre .0 .0))
 
 keep-all-requires : tie.Need-keep-all-requires
-keep-all-requires c κs = others-one (name-kids _ _ _ (c .before .before .before .before .before .before .before .before .before .before .before .before .before .pre .0 .0) (c .before .before .before .before .before .before .before .before .before .before .before .before .before .pre .0 .1) (c .before .before .before .before .before .before .before .before .before .before .before .before .before .pre .1)) (c .before .before .before .before .before .before .before .before .before .before .read-head .ensures)
+keep-all-requires c κs = others-as _ _ (c .before .before .before .before .before .before .before .before .before .before .read-head .ensures) 1 (name-kids _ _ _ (c .before .before .before .before .before .before .before .before .before .before .before .before .before .pre .0 .0) (c .before .before .before .before .before .before .before .before .before .before .before .before .before .pre .0 .1) (c .before .before .before .before .before .before .before .before .before .before .before .before .before .pre .1) .others)
 
 same-length : tie.Need-same-length
 same-length c = search needs
