@@ -25,6 +25,11 @@ const LONGEST: usize = 32768;
 
 pub const TREE_ROOM: usize = 32769;
 
+// "with 65,536 bytes for output and 21,840 for diagnostics"
+pub const OUTPUT_ROOM: usize = 65536;
+
+pub const DIAGNOSTICS_ROOM: usize = 21840;
+
 // ---- Buffers
 
 // Bytes that no record begins with.

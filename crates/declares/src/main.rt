@@ -2,6 +2,8 @@
 // as the unresolved context, and prints what the call answers.
 ghost use Prim.Native.Nat.{_+_, _*_, _≤_};
 ghost use lib.ListN.{length};
+use console::DIAGNOSTICS_ROOM;
+use console::OUTPUT_ROOM;
 use console::UNRESOLVED;
 use console::print;
 use console::print_done;
@@ -9,11 +11,6 @@ use console::print_number;
 use console::print_refusal;
 use records::DIAGNOSTIC_SIZE;
 use transform_dts::Answer;
-
-// "with 65,536 bytes for output and 21,840 for diagnostics"
-const OUTPUT: usize = 65536;
-
-const DIAGNOSTICS: usize = 21840;
 
 // The places of a diagnostic's parts: its mark is a `d` and a digit, then start and end.
 const DIGIT: usize = 1;
@@ -48,8 +45,8 @@ fn show_diagnostics(diagnostics: &[u8], count: usize)
 }
 
 fn declare(tree: &[u8]) {
-    let mut out = [0u8; OUTPUT];
-    let mut diagnostics = [0u8; DIAGNOSTICS];
+    let mut out = [0u8; OUTPUT_ROOM];
+    let mut diagnostics = [0u8; DIAGNOSTICS_ROOM];
     match transform_dts::transform(tree, b"", UNRESOLVED, &mut out, &mut diagnostics) {
         Answer::Done(length, count) => {
             print_done(length, count);

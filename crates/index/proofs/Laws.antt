@@ -1,6 +1,6 @@
 -- The laws of the index: the order of texts, the search by halving, and a name that is entered.
-use mathlib.Core.Path.{_≡_, refl, sym, ap, _∙_}
-use mathlib.Core.List.{List, [], _∷_}
+use mathlib.Core.Path.{_≡_, refl, sym, ap, _∙_, subst}
+use mathlib.Core.List.{List, [], _∷_, _++_, append-nil}
 use mathlib.Core.Bool.{Bool, true, false, cond, _&&_, _||_}
 use mathlib.Core.Logic.{_⊎_, inl, inr, ⊎-elim}
 use Prim.Native.Nat.{ℕ, zero, suc, _+_, _-_, _*_, _/_, _%_, _<_, _≤_}
@@ -8,12 +8,14 @@ use native.Mathlib.Numerals.{add-one}
 use native.Mathlib.Omega.{arith}
 use lib.Dec.{eqb, ltb}
 use lib.ListN.{length, getD, take, drop, set, length-set, drop-of-length-le, length-drop}
-use lib.Seq.{drop-cons, getD-set-same, getD-set-other, getD-take, length-take-le}
+use lib.Seq.{take-all, drop-cons, drop-drop, getD-set-same, getD-set-other, getD-take, getD-drop, length-take-le}
 use borrow.Author.Tests.{eq-eqb, ne-eqb, eqb-true, eqb-false, lt-ltb, le-ltb, ltb-true, ltb-false}
+use borrow.Rule.Slice.PartMut.{putMid}
 use Rattle.definition.specs.Tree.{textAt, bodyAt}
 use Rattle.definition.specs.Record.{sameText}
 use Rattle.definition.specs.Prescan.{Question, Question.typeofSafe, Question.nonGenericClass, Question.arrayTyped}
-use Rattle.index.specs.Index.{lessText, nameAt, bitOf, pick, entryOf, joinedOf, Sorted, Answers, Lower, nameIs, Shifted, Enters}
+use Rattle.index.specs.declared.Entries.{Entries}
+use Rattle.index.specs.Index.{lessText, nameAt, bitOf, pick, entryOf, joinedOf, Sorted, Answers, Lower, nameIs, Raised, Lowered, Inserted, Enters, entriesOf}
 
 -- ---- plain facts
 
@@ -276,12 +278,55 @@ module _ {a b : List ℕ} {n p i : ℕ} (s : Shifting a b n p i) where
         (λ (q : k ≡ i → ⊥). getD-set-other b i k _ 0 q ∙ s .above k (by-lt i k (λ z. z) (λ z. absurd (q (omega arith)))) m);
   }
 
-  pub shifting-done : i ≤ p → Shifted a b n p
+  pub shifting-done : i ≤ p → Raised a b n p
   shifting-done h = record {
     same = s .same;
     below = λ k g. s .below k (omega (arith, s .low));
     above = λ k g m. s .above k (omega (arith, s .low)) m;
   }
+
+-- the first i have moved down by one
+pub record Lowering (a b : List ℕ) (p i : ℕ) : Type 0 where
+  pub same : length b ≡ length a
+  pub room : p < length a
+  pub high : i ≤ p
+  pub below : (k : ℕ) → k < i → getD b k 0 ≡ getD a (k + 1) 0
+  pub above : (k : ℕ) → i ≤ k → getD b k 0 ≡ getD a k 0
+
+pub lowering-start : (a : List ℕ) (p : ℕ) → p < length a → Lowering a a p 0
+lowering-start a p h = record { same = refl; room = h; high = omega arith; below = λ k g. absurd (omega arith); above = λ k g. refl }
+
+module _ {a b : List ℕ} {p i : ℕ} (s : Lowering a b p i) where
+  pub lowering-turn : i < p → Lowering a (set b i (getD b (i + 1) 0)) p (i + 1)
+  lowering-turn h = record {
+    same = length-set b i (getD b (i + 1) 0) ∙ s .same;
+    room = s .room;
+    high = omega arith;
+    below = λ k g. by-eq k i
+        (λ (q : k ≡ i). rw q (getD-set-same b i (getD b (i + 1) 0) 0 (omega (arith, s .same, s .room)) ∙ s .above (i + 1) (omega arith)))
+        (λ (q : k ≡ i → ⊥). getD-set-other b i k _ 0 q ∙ s .below k (by-lt k i (λ z. z) (λ z. absurd (q (omega arith)))));
+    above = λ k g. getD-set-other b i k _ 0 (λ e. omega arith) ∙ s .above k (omega arith);
+  }
+
+  pub lowering-done : p ≤ i → Lowered a b p
+  lowering-done h = record { same = s .same; below = λ k g. s .below k (omega arith); above = λ k g. s .above k (omega (arith, s .high)) }
+
+-- a new entry in that room
+pub inserted-above : {a c : List ℕ} {n p : ℕ} (v : ℕ) → n < length a → p ≤ n → Raised a c n p → Inserted a (set c p v) n p v
+inserted-above {a} {c} {n} {p} v h l d = record {
+  room = omega (arith, length-set c p v, d .same);
+  below = λ k g. getD-set-other c p k _ 0 (λ q. omega arith) ∙ d .below k g;
+  here = getD-set-same c p v 0 (omega (arith, d .same));
+  above = λ k g m. getD-set-other c p k _ 0 (λ q. omega arith) ∙ d .above k g m;
+}
+
+pub inserted-below : {a c : List ℕ} {n p : ℕ} (v : ℕ) → n < length a → p ≤ n → Lowered a c p → Inserted (drop 1 a) (set c p v) n p v
+inserted-below {a} {c} {n} {p} v h l d = record {
+  room = omega (arith, length-set c p v, d .same);
+  below = λ k g. getD-set-other c p k _ 0 (λ q. omega arith) ∙ (d .below k g ∙ (let z : k + 1 ≡ 1 + k = omega arith in ap (λ (j : ℕ). getD a j 0) z ∙ sym (getD-drop 1 a k 0)));
+  here = getD-set-same c p v 0 (omega (arith, d .same));
+  above = λ k g m. getD-set-other c p k _ 0 (λ q. omega arith) ∙ (d .above k (omega arith) ∙ (let z : k ≡ 1 + (k - 1) = omega arith in ap (λ (j : ℕ). getD a j 0) z ∙ sym (getD-drop 1 a (k - 1) 0)));
+}
 
 -- ---- a name is entered
 
@@ -342,7 +387,6 @@ module _ {s a : List ℕ} {n : ℕ} {t : List ℕ} {p : ℕ} (o : Sorted s a n) 
     pub join-enters : Enters s a n (set a p (joinedOf (getD a p 0) x y z)) n (Under t x y z)
     unfolding b
     join-enters = record {
-      same = length-set a p (joinedOf (getD a p 0) x y z);
       sorted = record {
         room = omega (arith, length-set a p (joinedOf (getD a p 0) x y z), o .room);
         inside = λ k h. rw (ids k) (o .inside k h);
@@ -358,21 +402,15 @@ module _ {s a : List ℕ} {n : ℕ} {t : List ℕ} {p : ℕ} (o : Sorted s a n) 
     }
 
   -- no entry has it: a new one at its place
-  module _ (e : nameIs s a n p t ≡ false) (h : n < length a) {c : List ℕ} (d : Shifted a c n p) (id : ℕ) (tq : t ≡ textAt s id) (lies : bodyAt s id ≤ length s) where
-    f : List ℕ
-    f = set c p (entryOf id x y z)
-
+  module _ (e : nameIs s a n p t ≡ false) (id : ℕ) (tq : t ≡ textAt s id) (lies : bodyAt s id ≤ length s) {f : List ℕ} (d : Inserted a f n p (entryOf id x y z)) where
     new-here : getD f p 0 ≡ entryOf id x y z
-    unfolding f
-    new-here = getD-set-same c p _ 0 (omega (arith, d .same, w .within))
+    new-here = d .here
 
     new-below : (k : ℕ) → k < p → getD f k 0 ≡ getD a k 0
-    unfolding f
-    new-below k l = getD-set-other c p k _ 0 (λ q. omega arith) ∙ d .below k l
+    new-below = d .below
 
     new-above : (k : ℕ) → p < k → k < n + 1 → getD f k 0 ≡ getD a (k - 1) 0
-    unfolding f
-    new-above k l m = getD-set-other c p k _ 0 (λ q. omega arith) ∙ d .above k l (omega arith)
+    new-above k l m = d .above k l (omega arith)
 
     -- an entry of the new table is the new one or an old one
     place-of : (P : ℕ → Type 0) (k : ℕ) → k < n + 1 → (k ≡ p → P (entryOf id x y z)) → ((j : ℕ) → j < n → P (getD a j 0)) → P (getD f k 0)
@@ -414,12 +452,10 @@ module _ {s a : List ℕ} {n : ℕ} {t : List ℕ} {p : ℕ} (o : Sorted s a n) 
         (λ (m : j < p). (j, omega arith, new-below j m))
         (λ (m : p ≤ j). (j + 1, omega arith, new-above (j + 1) (omega arith) (omega arith) ∙ (let z : j + 1 - 1 ≡ j = omega arith in ap (λ (i : ℕ). getD a i 0) z)))
 
-    pub new-enters : Enters s a n (set c p (entryOf id x y z)) (n + 1) (Under t x y z)
-    unfolding f
+    pub new-enters : Enters s a n f (n + 1) (Under t x y z)
     new-enters = record {
-      same = length-set c p (entryOf id x y z) ∙ d .same;
       sorted = record {
-        room = omega (arith, length-set c p (entryOf id x y z), d .same);
+        room = omega (arith, d .room);
         inside = λ k l. place-of (λ (i : ℕ). bodyAt s (i / 8) ≤ length s) k l (λ _. rw (entry-id id x y z) lies) (o .inside);
         rises = new-rises;
       };
@@ -437,7 +473,6 @@ module _ {s a : List ℕ} {n : ℕ} {t : List ℕ} {p : ℕ} (o : Sorted s a n) 
 
 pub enters-none : {s a : List ℕ} {n : ℕ} {G : Question → List ℕ → Bool} → Sorted s a n → ((q : Question) (t : List ℕ) → G q t ≡ false) → Enters s a n a n G
 enters-none {G = G} o none = record {
-  same = refl;
   sorted = o;
   step = λ F g. record {
     found = λ k h q. rw (none q _, or-false) (g .found k h q);
@@ -447,7 +482,6 @@ enters-none {G = G} o none = record {
 
 pub enters-eq : {s a b : List ℕ} {n m : ℕ} {G H : Question → List ℕ → Bool} → ((q : Question) (t : List ℕ) → H q t ≡ G q t) → Enters s a n b m G → Enters s a n b m H
 enters-eq same i = record {
-  same = i .same;
   sorted = i .sorted;
   step = λ F g. record {
     found = λ k h q. rw (same q _) (i .step F g .found k h q);
@@ -461,7 +495,6 @@ or-assoc false y z = refl
 
 pub enters-then : {s a b c : List ℕ} {n m l : ℕ} {G H : Question → List ℕ → Bool} → Enters s a n b m G → Enters s b m c l H → Enters s a n c l (λ q t. G q t || H q t)
 enters-then {G = G} {H = H} i j = record {
-  same = j .same ∙ i .same;
   sorted = j .sorted;
   step = λ F g.
       let r = j .step (λ q t. F q t || G q t) (i .step F g) in
@@ -499,3 +532,44 @@ module _ {s a : List ℕ} {n : ℕ} (o : Sorted s a n) where
 
 pub answers-eq : {s a : List ℕ} {n : ℕ} {F G : Question → List ℕ → Bool} → ((q : Question) (t : List ℕ) → G q t ≡ F q t) → Answers s a n F → Answers s a n G
 answers-eq same g = record { found = λ k h q. same q _ ∙ g .found k h q; missing = λ t m q. same q t ∙ g .missing t m q }
+
+-- ---- the part of a table from an entry on, lent to a call
+
+-- as the code lends it
+abbrev pub lent : List ℕ → ℕ → List ℕ
+lent a i = take (length a - i) (drop i a)
+
+pub lent-is : (i : ℕ) (a : List ℕ) → lent a i ≡ drop i a
+lent-is i a = take-all (length a - i) (drop i a) (omega (arith, length-drop i a))
+
+behind : (i : ℕ) (a b : List ℕ) → i ≤ length a → drop i (take i a ++ b) ≡ b
+behind zero a b h = refl
+behind (suc i) [] b h = absurd (omega arith)
+behind (suc i) (x ∷ xs) b h = behind i xs b (omega arith)
+
+-- it is what the call has made of it
+back-is : (i : ℕ) (a b : List ℕ) → i ≤ length a → drop i (putMid i (length a - i) a b) ≡ b
+back-is i a b h =
+    ap (λ (r : List ℕ). drop i (take i a ++ (b ++ r))) (drop-of-length-le (drop i a) {i = length a - i} (omega (arith, length-drop i a)))
+    ∙ (behind i a (b ++ []) h ∙ append-nil b)
+
+-- a name t is entered at p among the entries of a table
+module _ (a : List ℕ) (e : Entries) {s t : List ℕ} {p : ℕ} (o : Sorted s (entriesOf a e) (e .count)) (h : e .from ≤ length a) (w : Lower s (lent a (e .from)) (e .count) t p) (x y z : Bool) where
+  v : Lower s (entriesOf a e) (e .count) t p
+  v = subst (λ (l : List ℕ). Lower s l (e .count) t p) (lent-is (e .from) a) w
+
+  pub joins : nameIs s (lent a (e .from)) (e .count) p t ≡ true → {b : List ℕ} → b ≡ set (lent a (e .from)) p (joinedOf (getD (lent a (e .from)) p 0) x y z) →
+      Enters s (entriesOf a e) (e .count) (entriesOf (putMid (e .from) (length a - e .from) a b) e) (e .count) (λ q u. sameText t u && pick q x y z)
+  joins n {b} f = rw (back-is (e .from) a b h, f, lent-is (e .from) a) (join-enters o v x y z (rw (lent-is (e .from) a) at n))
+
+  module _ (n : nameIs s (lent a (e .from)) (e .count) p t ≡ false) (id : ℕ) (tq : t ≡ textAt s id) (lies : bodyAt s id ≤ length s) {new : ℕ} (newq : new ≡ entryOf id x y z) where
+    pub goes-above : {b : List ℕ} → Inserted (lent a (e .from)) b (e .count) p new →
+        Enters s (entriesOf a e) (e .count) (drop (e .from) (putMid (e .from) (length a - e .from) a b)) (e .count + 1) (λ q u. sameText t u && pick q x y z)
+    goes-above {b} i = rw (back-is (e .from) a b h) (new-enters o v x y z (rw (lent-is (e .from) a) at n) id tq lies (rw (lent-is (e .from) a, newq) at i))
+
+    pub goes-below : {b : List ℕ} → 0 < e .from → Inserted (drop 1 (lent a (e .from - 1))) b (e .count) p new →
+        Enters s (entriesOf a e) (e .count) (drop (e .from - 1) (putMid (e .from - 1) (length a - (e .from - 1)) a b)) (e .count + 1) (λ q u. sameText t u && pick q x y z)
+    goes-below {b} l i =
+        let r : e .from - 1 + 1 ≡ e .from = omega arith in
+        let d : drop 1 (lent a (e .from - 1)) ≡ entriesOf a e = ap (drop 1) (lent-is (e .from - 1) a) ∙ (drop-drop 1 (e .from - 1) a ∙ ap (λ (j : ℕ). drop j a) r) in
+        rw (back-is (e .from - 1) a b (omega arith)) (new-enters o v x y z (rw (lent-is (e .from) a) at n) id tq lies (rw (d, newq) at i))

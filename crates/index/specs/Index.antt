@@ -4,9 +4,10 @@ use mathlib.Core.List.{List, [], _∷_}
 use mathlib.Core.Bool.{Bool, true, false, cond, _&&_, _||_}
 use Prim.Native.Nat.{ℕ, _+_, _-_, _*_, _/_, _%_, _<_, _≤_}
 use lib.Dec.{eqb, ltb}
-use lib.ListN.{length, getD}
+use lib.ListN.{length, getD, drop}
 use Rattle.definition.specs.Tree.{textAt, bodyAt}
 use Rattle.definition.specs.Record.{sameText}
+use Rattle.index.specs.declared.Entries.{Entries}
 use Rattle.definition.specs.Prescan.{Question, Question.typeofSafe, Question.nonGenericClass, Question.arrayTyped}
 
 -- ---- the order of texts
@@ -69,14 +70,39 @@ pub record Lower (s a : List ℕ) (n : ℕ) (t : List ℕ) (p : ℕ) : Type 0 wh
 unfoldable pub nameIs : List ℕ → List ℕ → ℕ → ℕ → List ℕ → Bool
 nameIs s a n p t = ltb p n && sameText (nameAt s (getD a p 0)) t
 
--- b is a with the entries from p on one place higher
-pub record Shifted (a b : List ℕ) (n p : ℕ) : Type 0 where
+-- b is a with the entries from p on, of the first n, one place higher
+pub record Raised (a b : List ℕ) (n p : ℕ) : Type 0 where
   pub same : length b ≡ length a
   pub below : (k : ℕ) → k < p → getD b k 0 ≡ getD a k 0
   pub above : (k : ℕ) → p < k → k ≤ n → getD b k 0 ≡ getD a (k - 1) 0
 
+-- b is a with the p entries behind the first one place lower
+pub record Lowered (a b : List ℕ) (p : ℕ) : Type 0 where
+  pub same : length b ≡ length a
+  pub below : (k : ℕ) → k < p → getD b k 0 ≡ getD a (k + 1) 0
+  pub above : (k : ℕ) → p ≤ k → getD b k 0 ≡ getD a k 0
+
+-- the first entries of b are the first n of a, and v at p
+pub record Inserted (a b : List ℕ) (n p v : ℕ) : Type 0 where
+  pub room : n < length b
+  pub below : (k : ℕ) → k < p → getD b k 0 ≡ getD a k 0
+  pub here : getD b p 0 ≡ v
+  pub above : (k : ℕ) → p < k → k ≤ n → getD b k 0 ≡ getD a (k - 1) 0
+
 -- the first m entries of b are the first n of a with what G adds
 pub record Enters (s a : List ℕ) (n : ℕ) (b : List ℕ) (m : ℕ) (G : Question → List ℕ → Bool) : Type 0 where
-  pub same : length b ≡ length a
   pub sorted : Sorted s b m
   pub step : (F : Question → List ℕ → Bool) → Answers s a n F → Answers s b m (λ q t. F q t || G q t)
+
+-- ---- the entries of a table
+
+-- those of e, from where they begin
+abbrev pub entriesOf : List ℕ → Entries → List ℕ
+entriesOf a e = drop (e .from) a
+
+-- the entries r of the table b are those e of a, and at most one more, in front or behind
+pub record Grown (a : List ℕ) (e : Entries) (b : List ℕ) (r : Entries) : Type 0 where
+  pub same : length b ≡ length a
+  pub from : r .from ≤ e .from
+  pub to : e .from + e .count ≤ r .from + r .count
+  pub count : r .count ≤ e .count + 1

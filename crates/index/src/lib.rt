@@ -3,10 +3,10 @@ ghost use mathlib.Core.Path.{_≡_};
 ghost use mathlib.Core.Bool.{_&&_, _||_, cond};
 ghost use Prim.Native.Nat.{_+_, _*_, _/_, _%_, _<_, _≤_};
 ghost use lib.Dec.{eqb, ltb};
-ghost use lib.ListN.{length, getD};
+ghost use lib.ListN.{length, getD, set, drop};
 ghost use Rattle.definition.specs.Tree.{bodyAt, textAt};
 ghost use Rattle.definition.specs.Record.{sameText};
-ghost use Rattle.index.specs.Index.{farthest, lessText, nameAt, pick, entryOf, joinedOf, Sorted, Lower, Shifted, Enters, nameIs};
+ghost use Rattle.index.specs.Index.{farthest, lessText, nameAt, pick, entryOf, joinedOf, Sorted, Lower, Raised, Lowered, Inserted, Enters, entriesOf, Grown, nameIs};
 use records::text::same_text;
 use records::text_at;
 
@@ -18,6 +18,12 @@ pub const NON_GENERIC_CLASS: u32 = 2;
 pub const ARRAY_TYPED: u32 = 4;
 
 const BITS: u32 = 8;
+
+// The entries of a table: where they begin, and how many they are.
+pub struct Entries {
+    pub from: usize,
+    pub count: usize,
+}
 
 // Whether a text stands before another: the first byte that differs says so, and of two texts one of which begins with the other the shorter is first.
 fn less_text(a: &[u8], b: &[u8]) -> bool
@@ -121,11 +127,11 @@ fn joined(e: u32, safe: bool, plain: bool, array: bool) -> u32
     entry((e / BITS) as usize, x, y, z)
 }
 
-// Room for an entry at p: those from there on move up by one.
-fn shift(table: &mut [u32], n: usize, p: usize)
+// Room for an entry at p: of the first n those from there on move up by one.
+fn raise(table: &mut [u32], n: usize, p: usize)
     requires { ⌜ n < length (now table) ⌝ }
     requires { ⌜ p ≤ n ⌝ }
-    ensures { λ _. ⌜ Shifted (now (table .entry)) (now (table .exit)) n p ⌝ }
+    ensures { λ _. ⌜ Raised (now (table .entry)) (now (table .exit)) n p ⌝ }
 {
     let mut i = n;
     while p < i {
@@ -134,30 +140,81 @@ fn shift(table: &mut [u32], n: usize, p: usize)
     }
 }
 
-// The name of the Id at `id` with three bits among the first n entries: a new entry, or the bits of the one that has the name. How many there are then.
+// The same, where a place is free in front of the entries: those before p move down by one.
+fn lower(table: &mut [u32], p: usize)
+    requires { ⌜ p < length (now table) ⌝ }
+    ensures { λ _. ⌜ Lowered (now (table .entry)) (now (table .exit)) p ⌝ }
+{
+    let mut i = 0;
+    while i < p {
+        table[i] = table[i + 1];
+        i += 1;
+    }
+}
+
+// A new entry at p of the first n.
+fn insert_above(table: &mut [u32], n: usize, p: usize, new: u32)
+    requires { ⌜ (n < length (now table)) × (p ≤ n) ⌝ }
+    ensures { λ _. ⌜ Inserted (now (table .entry)) (now (table .exit)) n p new ⌝ }
+{
+    raise(table, n, p);
+    table[p] = new;
+}
+
+// A new entry at p of the n behind the first.
+fn insert_below(table: &mut [u32], n: usize, p: usize, new: u32)
+    requires { ⌜ (n < length (now table)) × (p ≤ n) ⌝ }
+    ensures { λ _. ⌜ Inserted (drop 1 (now (table .entry))) (now (table .exit)) n p new ⌝ }
+{
+    lower(table, p);
+    table[p] = new;
+}
+
+// The entry at p with more bits.
+fn join_at(table: &mut [u32], p: usize, safe: bool, plain: bool, array: bool)
+    requires { ⌜ p < length (now table) ⌝ }
+    ensures { λ _. ⌜ now (table .exit) ≡ set (now (table .entry)) p (joinedOf (getD (now (table .entry)) p 0) safe plain array) ⌝ }
+{
+    table[p] = joined(table[p], safe, plain, array);
+}
+
+// The name of the Id at `id` with three bits among the entries of a table: the bits of the one that has the name, or a new entry. There is room in
+// front of them and behind, and those on the shorter side move.
 pub fn insert(
     tree: &[u8],
     table: &mut [u32],
-    n: usize,
+    entries: Entries,
     id: usize,
     safe: bool,
     plain: bool,
     array: bool,
-) -> usize
-    requires { ⌜ Sorted (now tree) (now table) n ⌝ }
-    requires { ⌜ n < length (now table) ⌝ }
+) -> Entries
+    requires { ⌜ Sorted (now tree) (entriesOf (now table) entries) (entries .count) ⌝ }
+    requires { ⌜ (0 < entries .from) × (entries .from + entries .count < length (now table)) ⌝ }
     requires { ⌜ bodyAt (now tree) id ≤ length (now tree) ⌝ }
     requires { ⌜ length (now tree) < farthest ⌝ }
-    ensures { λ r. ⌜ Enters (now (tree .entry)) (now (table .entry)) n (now (table .exit)) r (λ q t. sameText (textAt (now (tree .entry)) id) t && pick q safe plain array) ⌝ }
-    ensures { λ r. ⌜ r ≤ n + 1 ⌝ }
+    ensures { λ r. ⌜
+        Enters (now (tree .entry)) (entriesOf (now (table .entry)) entries) (entries .count) (entriesOf (now (table .exit)) r) (r .count)
+        (λ q t. sameText (textAt (now (tree .entry)) id) t && pick q safe plain array)
+        ⌝ }
+    ensures { λ r. ⌜ Grown (now (table .entry)) entries (now (table .exit)) r ⌝ }
 {
     let name = text_at(tree, id);
-    let p = place(tree, table, n, name);
-    if stands(tree, table, n, p, name) {
-        table[p] = joined(table[p], safe, plain, array);
-        return n;
+    let from = entries.from;
+    let n = entries.count;
+    let p = place(tree, &table[from..], n, name);
+    if stands(tree, &table[from..], n, p, name) {
+        join_at(&mut table[from..], p, safe, plain, array);
+        return entries;
     }
-    shift(table, n, p);
-    table[p] = entry(id, safe, plain, array);
-    n + 1
+    let new = entry(id, safe, plain, array);
+    if p < n - p {
+        insert_below(&mut table[from - 1..], n, p, new);
+        return Entries {
+            from: from - 1,
+            count: n + 1,
+        };
+    }
+    insert_above(&mut table[from..], n, p, new);
+    Entries { from, count: n + 1 }
 }

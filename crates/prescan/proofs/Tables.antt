@@ -3,9 +3,9 @@ use mathlib.Core.Path.{_≡_, refl, sym, ap, _∙_, subst}
 use mathlib.Core.List.{List}
 use mathlib.Core.Bool.{Bool, true, false, _&&_, _||_}
 use mathlib.Core.Logic.{_⊎_, ⊎-elim}
-use Prim.Native.Nat.{ℕ, zero, suc, _+_, _*_, _-_, _<_, _≤_}
+use Prim.Native.Nat.{ℕ, zero, suc, _+_, _*_, _-_, _/_, _<_, _≤_}
 use native.Mathlib.Omega.{arith}
-use lib.ListN.{length, getD, take}
+use lib.ListN.{length, getD, take, drop, length-drop}
 use Rattle.definition.specs.Tree.{Rec, Recs, nil, cons, headSize, markAt, lengthAt, countAt, textAt, bodyAt, readAll, endOfAll, endAt, treeAt}
 use Rattle.definition.specs.Grammar.{mark, marks, member, _or_, declaration, optional, type, expression, pattern, grammar, known, slots, place}
 use Rattle.definition.specs.Check.{deepest, checkAll}
@@ -14,7 +14,8 @@ use Rattle.definition.specs.Record.{sameText, kidsOf}
 use Rattle.definition.specs.Prescan.{Question, Question.typeofSafe, Question.nonGenericClass, Question.arrayTyped, addFn, addClass, addConst, named, addDeclarator, addDeclarators, addDecl, addItem, asked}
 use Rattle.definition.proofs.Kids.{fixed, Child, member-one, kids-are, placed, first-in, second-in, id-text}
 use Rattle.definition.proofs.Children.{children, first-one, others, readAll-more, readAll-none, endOfAll-more, endOfAll-none, end-after, end-inside, end-is}
-use Rattle.index.specs.Index.{farthest, Sorted, Answers, Enters, Lower, nameIs, bitOf, pick}
+use Rattle.index.specs.declared.Entries.{Entries}
+use Rattle.index.specs.Index.{farthest, Sorted, Answers, Enters, Grown, entriesOf, Lower, nameIs, bitOf, pick}
 use Rattle.index.proofs.Laws.{hit, miss, enters-none, enters-eq, enters-then, sorted-front, answers-front, answers-nothing, sorted-nothing}
 use Rattle.prescan.specs.Question.{addVar}
 use Rattle.prescan.specs.Table.{declarationSize, Room, Filled, Indexed}
@@ -63,29 +64,32 @@ module _ {levels : ℕ} {s : List ℕ} {at : ℕ} (a : AcceptedAt levels s at) w
 
 -- ---- what is entered
 
-module _ {s a : List ℕ} {n at : ℕ} (r : Room s a n at) where
-  pub room-sorted : Sorted s a n
+module _ {s a : List ℕ} {e : Entries} {at : ℕ} (r : Room s a e at) where
+  pub room-sorted : Sorted s (entriesOf a e) (e .count)
   room-sorted = r .sorted
 
   -- there is room for one more
-  pub room-one : at + declarationSize ≤ length s → n < length a
-  room-one h = omega (arith, r .few, r .long)
+  pub room-one : at + declarationSize ≤ length s → (0 < e .from) × (e .from + e .count < length a)
+  room-one h =
+      let few : e .count < length a / 2 = omega (arith, r .few, r .long) in
+      (omega (arith, r .to, few), omega (arith, r .from, few))
 
-  pub room-later : {p : ℕ} → at ≤ p → Room s a n p
-  room-later h = record { sorted = r .sorted; few = omega (arith, r .few); long = r .long; short = r .short }
+  pub room-later : {p : ℕ} → at ≤ p → Room s a e p
+  room-later h = record { sorted = r .sorted; few = omega (arith, r .few); long = r .long; short = r .short; from = r .from; to = r .to }
 
-  pub filled-none : {end : ℕ} {G : Question → List ℕ → Bool} → at ≤ end → ((q : Question) (t : List ℕ) → G q t ≡ false) → Filled s a n a n end G
-  filled-none h none = record { enters = enters-none (r .sorted) none; few = omega (arith, r .few) }
+  pub filled-none : {end : ℕ} {G : Question → List ℕ → Bool} → at ≤ end → ((q : Question) (t : List ℕ) → G q t ≡ false) → Filled s a e a e end G
+  filled-none h none = record { enters = enters-none (r .sorted) none; few = omega (arith, r .few); same = refl; from = omega arith; to = omega arith }
 
-  pub filled-one : {b : List ℕ} {m end : ℕ} {G H : Question → List ℕ → Bool} → Enters s a n b m G → m ≤ n + 1 → at + declarationSize ≤ end → ((q : Question) (t : List ℕ) → H q t ≡ G q t) → Filled s a n b m end H
-  filled-one i l h same = record { enters = enters-eq same i; few = omega (arith, r .few) }
+  pub filled-one : {b : List ℕ} {m : Entries} {end : ℕ} {G H : Question → List ℕ → Bool} → Enters s (entriesOf a e) (e .count) (entriesOf b m) (m .count) G → Grown a e b m → at + declarationSize ≤ end →
+      ((q : Question) (t : List ℕ) → H q t ≡ G q t) → Filled s a e b m end H
+  filled-one i l h same = record { enters = enters-eq same i; few = omega (arith, r .few, l .count); same = l .same; from = l .from; to = l .to }
 
 -- an empty table
-pub room-start : {s a : List ℕ} → length s ≤ declarationSize * length a → length s < farthest → Room s a 0 0
-room-start {s} {a} l h = record { sorted = sorted-nothing s a; few = omega arith; long = l; short = h }
+pub room-start : {s a : List ℕ} → length s ≤ declarationSize * (length a / 2) → length s < farthest → {e : Entries} → e ≡ record { from = length a / 2; count = 0 } → Room s a e 0
+room-start {s} {a} l h q = rw q (record { sorted = sorted-nothing s (drop (length a / 2) a); few = omega arith; long = l; short = h; from = omega arith; to = omega arith })
 
-pub filled-eq : {s a b : List ℕ} {n m end end' : ℕ} {G H : Question → List ℕ → Bool} → end ≤ end' → ((q : Question) (t : List ℕ) → H q t ≡ G q t) → Filled s a n b m end G → Filled s a n b m end' H
-filled-eq h same f = record { enters = enters-eq same (f .enters); few = omega (arith, f .few) }
+pub filled-eq : {s a b : List ℕ} {e m : Entries} {end end' : ℕ} {G H : Question → List ℕ → Bool} → end ≤ end' → ((q : Question) (t : List ℕ) → H q t ≡ G q t) → Filled s a e b m end G → Filled s a e b m end' H
+filled-eq h same f = record { enters = enters-eq same (f .enters); few = omega (arith, f .few); same = f .same; from = f .from; to = f .to }
 
 -- what a function stands for, behind its name
 module _ {levels : ℕ} {s : List ℕ} {at : ℕ} (a : AcceptedAt levels s at) {m : ℕ} (mq : m ≡ markAt s at) {p : ℕ} (pq : p ≡ bodyAt s at) (h : Fn m) where
@@ -174,30 +178,26 @@ module _ {levels : ℕ} {s : List ℕ} {at : ℕ} (a : AcceptedAt levels s at) {
 
 -- ---- the loop over declarations
 
--- of the records `whole`, whose names W says, k are levels, the first of them at c: those before are in the table
-pub record Filling (W : Question → List ℕ → Recs → Bool) (whole : Recs) (levels : ℕ) (s a : List ℕ) (n end : ℕ) (b : List ℕ) (m k c : ℕ) : Type 0 where
+-- of the records `whole`, whose names W says, k are left, the first of them at c: those before are in the table
+pub record Filling (W : Question → List ℕ → Recs → Bool) (whole : Recs) (levels : ℕ) (s a : List ℕ) (e : Entries) (end : ℕ) (b : List ℕ) (m : Entries) (k c : ℕ) : Type 0 where
   pub all : AllAccepted levels s k c
   pub so-far : Question → List ℕ → Bool
-  pub enters : Enters s a n b m so-far
+  pub filled : Filled s a e b m c so-far
   pub rest : (q : Question) (t : List ℕ) → W q t whole ≡ (so-far q t || W q t (readAll (treeAt levels s) (endAt levels s) k c))
-  pub few : declarationSize * m ≤ c
   pub ends : endOfAll (endAt levels s) k c ≡ end
-  pub long : length s ≤ declarationSize * length a
-  pub short : length s < farthest
+  pub room : Room s b m c
 
-pub filling-start : (W : Question → List ℕ → Recs → Bool) {levels : ℕ} {s a : List ℕ} {n at : ℕ} → AcceptedAt levels s at → Room s a n at → {k c : ℕ} → k ≡ countAt s at → c ≡ bodyAt s at →
-    Filling W (kidsOf (treeAt levels s at)) (levels - 1) s a n (endAt levels s at) a n k c
-filling-start W {levels} {s} {a} {n} {at} ok r kq cq =
+pub filling-start : (W : Question → List ℕ → Recs → Bool) {levels : ℕ} {s a : List ℕ} {e : Entries} {at : ℕ} → AcceptedAt levels s at → Room s a e at → {k c : ℕ} → k ≡ countAt s at → c ≡ bodyAt s at →
+    Filling W (kidsOf (treeAt levels s at)) (levels - 1) s a e (endAt levels s at) a e k c
+filling-start W {levels} {s} {a} {e} {at} ok r kq cq =
     rw (kq, cq)
     (record {
       all = children levels s at ok;
       so-far = λ q t. false;
-      enters = enters-none (r .sorted) (λ q t. refl);
+      filled = filled-none r (omega arith) (λ q t. refl);
       rest = λ q t. ap (W q t) (kids-are levels s at ok);
-      few = omega (arith, r .few);
       ends = sym (end-is levels s at ok);
-      long = r .long;
-      short = r .short;
+      room = room-later r (omega arith);
     })
 
 or-none : (b : Bool) → (b || false) ≡ b
@@ -208,38 +208,37 @@ or-left : (x y z : Bool) → (x || (y || z)) ≡ ((x || y) || z)
 or-left true y z = refl
 or-left false y z = refl
 
-module _ {W : Question → List ℕ → Recs → Bool} {whole : Recs} {levels : ℕ} {s a : List ℕ} {n end : ℕ} {b : List ℕ} {m k c : ℕ} (i : Filling W whole levels s a n end b m k c) where
+module _ {W : Question → List ℕ → Recs → Bool} {whole : Recs} {levels : ℕ} {s a : List ℕ} {e : Entries} {end : ℕ} {b : List ℕ} {m : Entries} {k c : ℕ} (i : Filling W whole levels s a e end b m k c) where
   pub filling-first : 0 < k → AcceptedAt levels s c
   filling-first h = first-one levels s k c (i .all) h
 
   pub filling-room : Room s b m c
-  filling-room = record { sorted = i .enters .sorted; few = i .few; long = omega (arith, i .long, i .enters .same); short = i .short }
+  filling-room = i .room
 
   -- where W says f of each record
   pub filling-turn : (f : Question → List ℕ → Rec → Bool) → ((q : Question) (t : List ℕ) (r : Rec) (rs : Recs) → W q t (cons r rs) ≡ (f q t r || W q t rs)) → 0 < k →
-      {b' : List ℕ} {m' : ℕ} → Filled s b m b' m' (endAt levels s c) (λ q t. f q t (treeAt levels s c)) → {d : ℕ} → d ≡ endAt levels s c → Filling W whole levels s a n end b' m' (k - 1) d
-  filling-turn f step h g dq = rw dq (record {
-    all = others levels s k c (i .all) h;
-    so-far = λ q t. i .so-far q t || f q t (treeAt levels s c);
-    enters = enters-then (i .enters) (g .enters);
-    rest = λ q t.
-        i .rest q t ∙
-        (ap (λ (rs : Recs). i .so-far q t || W q t rs) (readAll-more (treeAt levels s) (endAt levels s) k c h) ∙
-        (ap (λ (x : Bool). i .so-far q t || x) (step q t (treeAt levels s c) (readAll (treeAt levels s) (endAt levels s) (k - 1) (endAt levels s c))) ∙
-        or-left (i .so-far q t) (f q t (treeAt levels s c)) (W q t (readAll (treeAt levels s) (endAt levels s) (k - 1) (endAt levels s c)))));
-    few = g .few;
-    ends = sym (endOfAll-more (endAt levels s) k c h) ∙ i .ends;
-    long = i .long;
-    short = i .short;
-  })
+      {b' : List ℕ} {m' : Entries} → Filled s b m b' m' (endAt levels s c) (λ q t. f q t (treeAt levels s c)) → {d : ℕ} → d ≡ endAt levels s c → Filling W whole levels s a e end b' m' (k - 1) d
+  filling-turn f step h g dq =
+      let z = i .filled in
+      let r = i .room in
+      rw dq (record {
+        all = others levels s k c (i .all) h;
+        so-far = λ q t. i .so-far q t || f q t (treeAt levels s c);
+        filled = record { enters = enters-then (z .enters) (g .enters); few = g .few; same = g .same ∙ z .same; from = omega (arith, z .from, g .from); to = omega (arith, z .to, g .to) };
+        rest = λ q t.
+            i .rest q t ∙
+            (ap (λ (rs : Recs). i .so-far q t || W q t rs) (readAll-more (treeAt levels s) (endAt levels s) k c h) ∙
+            (ap (λ (x : Bool). i .so-far q t || x) (step q t (treeAt levels s c) (readAll (treeAt levels s) (endAt levels s) (k - 1) (endAt levels s c))) ∙
+            or-left (i .so-far q t) (f q t (treeAt levels s c)) (W q t (readAll (treeAt levels s) (endAt levels s) (k - 1) (endAt levels s c)))));
+        ends = sym (endOfAll-more (endAt levels s) k c h) ∙ i .ends;
+        room = record { sorted = g .enters .sorted; few = g .few; long = omega (arith, r .long, g .same); short = r .short; from = omega (arith, r .from, g .from, g .same); to = omega (arith, r .to, g .to, g .same) };
+      })
 
-  pub filling-done : ((q : Question) (t : List ℕ) → W q t nil ≡ false) → k ≤ 0 → Filled s a n b m end (λ q t. W q t whole)
-  filling-done none h = record {
-    enters = enters-eq
-        (λ q t. i .rest q t ∙ (ap (λ (rs : Recs). i .so-far q t || W q t rs) (readAll-none (treeAt levels s) (endAt levels s) k c h) ∙ (ap (λ (x : Bool). i .so-far q t || x) (none q t) ∙ or-none (i .so-far q t))))
-        (i .enters);
-    few = omega (arith, i .few, i .ends, endOfAll-none (endAt levels s) k c h);
-  }
+  pub filling-done : ((q : Question) (t : List ℕ) → W q t nil ≡ false) → k ≤ 0 → Filled s a e b m end (λ q t. W q t whole)
+  filling-done none h =
+      filled-eq (omega (arith, i .ends, endOfAll-none (endAt levels s) k c h))
+      (λ q t. i .rest q t ∙ (ap (λ (rs : Recs). i .so-far q t || W q t rs) (readAll-none (treeAt levels s) (endAt levels s) k c h) ∙ (ap (λ (x : Bool). i .so-far q t || x) (none q t) ∙ or-none (i .so-far q t))))
+      (i .filled)
 
 -- the questions about all declarators, and about all items
 abbrev pub Vars : Question → List ℕ → Recs → Bool
@@ -256,12 +255,16 @@ pub items-none : (q : Question) (t : List ℕ) → Items q t nil ≡ false
 unfolding asked
 items-none q t = refl
 
--- what is filled from the front is the index
-pub indexed : {s a b : List ℕ} {m end : ℕ} → Filled s a 0 b m end (λ q t. Items q t (kidsOf (treeAt deepest s 0))) → Indexed s (take m b)
-indexed {s} {a} f = record {
+-- what is filled from nothing is the index
+pub indexed : {s a b : List ℕ} {e m : Entries} {end : ℕ} → e .count ≡ 0 → Filled s a e b m end (λ q t. Items q t (kidsOf (treeAt deepest s 0))) → Indexed s (take (m .count) (entriesOf b m))
+indexed {s} {a} {e = e} z f = record {
   sorted = sorted-front (f .enters .sorted);
-  answers = answers-front (f .enters .sorted) (f .enters .step (λ q t. false) (answers-nothing s a));
+  answers = answers-front (f .enters .sorted) (f .enters .step (λ q t. false) (rw z (answers-nothing s (entriesOf a e))));
 }
+
+-- and lies in the table
+pub inside : {s : List ℕ} (b : List ℕ) (m : Entries) → m .from ≤ length b → Sorted s (entriesOf b m) (m .count) → m .from + m .count ≤ length b
+inside b m h o = omega (arith, o .room, length-drop (m .from) b)
 
 -- ---- a question
 

@@ -1,6 +1,6 @@
 // `prescan_module_ids`: the three sets of module-level names, as an index that is built once and asked by halving.
 ghost use mathlib.Core.Path.{_≡_};
-ghost use Prim.Native.Nat.{_*_, _-_, _<_, _≤_};
+ghost use Prim.Native.Nat.{_+_, _*_, _-_, _/_, _<_, _≤_};
 ghost use lib.ListN.{length, take};
 ghost use Rattle.definition.specs.Tree.{markAt, textAt, endAt, treeAt};
 ghost use Rattle.definition.specs.Grammar.{mark};
@@ -8,10 +8,11 @@ ghost use Rattle.definition.specs.Check.{deepest};
 ghost use Rattle.definition.specs.Children.{AcceptedAt};
 ghost use Rattle.definition.specs.Record.{kidsOf};
 ghost use Rattle.definition.specs.Prescan.{isArrayType, refersToArray, isArrayLitInit, addClass, addConst, addDeclarator, addDecl, addItem, asked};
-ghost use Rattle.index.specs.Index.{farthest};
+ghost use Rattle.index.specs.Index.{farthest, entriesOf};
 ghost use Rattle.prescan.specs.Question.{meant, addVar};
 ghost use Rattle.prescan.specs.Table.{declarationSize, Room, Filled, Indexed};
 use index::ARRAY_TYPED;
+use index::Entries;
 use index::NON_GENERIC_CLASS;
 use index::TYPEOF_SAFE;
 use records::CONTEXT_SIZE;
@@ -52,8 +53,8 @@ use records::text_at;
 // The bytes that a declaration of a name takes at least: four records, and the context of the name.
 pub const DECLARATION_SIZE: usize = 4 * HEAD_SIZE + CONTEXT_SIZE;
 
-// How many names a table has room for that is enough for every tree.
-pub const MOST_NAMES: usize = 8192;
+// The length of a table that is enough for every tree: it may have half as many names.
+pub const LARGE_TABLE: usize = 16384;
 
 // The sets of `PrescannedModuleIds`.
 pub enum Question {
@@ -152,18 +153,24 @@ fn add_const(tree: &[u8], init: usize, levels: usize, ty: usize, question: Quest
 }
 
 // `add_decl`, in the arm for `Decl::Var`: a declarator of a const, `if let Pat::Ident(ident) = &declarator.name`.
-fn enter_declarator(tree: &[u8], at: usize, levels: usize, table: &mut [u32], n: usize) -> usize
+fn enter_declarator(
+    tree: &[u8],
+    at: usize,
+    levels: usize,
+    table: &mut [u32],
+    entries: Entries,
+) -> Entries
     requires { ⌜ AcceptedAt levels (now tree) at ⌝ }
-    requires { ⌜ Room (now tree) (now table) n at ⌝ }
-    ensures { λ r. ⌜ Filled (now (tree .entry)) (now (table .entry)) n (now (table .exit)) r (endAt levels (now (tree .entry)) at)
+    requires { ⌜ Room (now tree) (now table) entries at ⌝ }
+    ensures { λ r. ⌜ Filled (now (tree .entry)) (now (table .entry)) entries (now (table .exit)) r (endAt levels (now (tree .entry)) at)
         (λ q t. addDeclarator q t (treeAt levels (now (tree .entry)) at)) ⌝ }
 {
     if mark_at(tree, at) != VR {
-        return n;
+        return entries;
     }
     let pattern = body_at(tree, at);
     if mark_at(tree, pattern) != BD {
-        return n;
+        return entries;
     }
     let ident = body_at(tree, pattern);
     let below = levels - 1;
@@ -171,21 +178,21 @@ fn enter_declarator(tree: &[u8], at: usize, levels: usize, table: &mut [u32], n:
     let init = record_end(tree, pattern, below);
     let safe = add_const(tree, init, below, ty, Question::TypeofSafe);
     let array = add_const(tree, init, below, ty, Question::ArrayTyped);
-    index::insert(tree, table, n, ident, safe, false, array)
+    index::insert(tree, table, entries, ident, safe, false, array)
 }
 
 // `add_decl`, the arm for `Decl::Var`: the declarators of a const.
-fn enter_var(tree: &[u8], at: usize, levels: usize, table: &mut [u32], n: usize) -> usize
+fn enter_var(tree: &[u8], at: usize, levels: usize, table: &mut [u32], entries: Entries) -> Entries
     requires { ⌜ AcceptedAt levels (now tree) at ⌝ }
-    requires { ⌜ Room (now tree) (now table) n at ⌝ }
-    ensures { λ r. ⌜ Filled (now (tree .entry)) (now (table .entry)) n (now (table .exit)) r (endAt levels (now (tree .entry)) at)
+    requires { ⌜ Room (now tree) (now table) entries at ⌝ }
+    ensures { λ r. ⌜ Filled (now (tree .entry)) (now (table .entry)) entries (now (table .exit)) r (endAt levels (now (tree .entry)) at)
         (λ q t. addVar q t (treeAt levels (now (tree .entry)) at)) ⌝ }
 {
     let head = read_head(tree, at);
     if !has_flag(head.flags, CONST) {
-        return n;
+        return entries;
     }
-    let mut filled = n;
+    let mut filled = entries;
     let mut rest = head.count;
     let mut declarator = body_at(tree, at);
     while 0 < rest {
@@ -197,55 +204,61 @@ fn enter_var(tree: &[u8], at: usize, levels: usize, table: &mut [u32], n: usize)
 }
 
 // `add_decl`, and the arms of `prescan_module_ids` for `ExportDefaultDecl`: a function and a class expression stand beside their name too.
-fn enter_decl(tree: &[u8], at: usize, levels: usize, table: &mut [u32], n: usize) -> usize
+fn enter_decl(tree: &[u8], at: usize, levels: usize, table: &mut [u32], entries: Entries) -> Entries
     requires { ⌜ AcceptedAt levels (now tree) at ⌝ }
-    requires { ⌜ Room (now tree) (now table) n at ⌝ }
-    ensures { λ r. ⌜ Filled (now (tree .entry)) (now (table .entry)) n (now (table .exit)) r (endAt levels (now (tree .entry)) at)
+    requires { ⌜ Room (now tree) (now table) entries at ⌝ }
+    ensures { λ r. ⌜ Filled (now (tree .entry)) (now (table .entry)) entries (now (table .exit)) r (endAt levels (now (tree .entry)) at)
         (λ q t. addDecl q t (treeAt levels (now (tree .entry)) at)) ⌝ }
 {
     match mark_at(tree, at) {
         FD | FX => {
             let ident = body_at(tree, at);
             if mark_at(tree, ident) != ID {
-                return n;
+                return entries;
             }
-            index::insert(tree, table, n, ident, true, false, false)
+            index::insert(tree, table, entries, ident, true, false, false)
         }
         CD | CX => {
             let ident = body_at(tree, at);
             if mark_at(tree, ident) != ID {
-                return n;
+                return entries;
             }
             let class = record_end(tree, ident, levels - 1);
             let plain = add_class(tree, class, levels - 1, Question::NonGenericClass);
-            index::insert(tree, table, n, ident, true, plain, false)
+            index::insert(tree, table, entries, ident, true, plain, false)
         }
-        VD => enter_var(tree, at, levels, table, n),
-        _ => n,
+        VD => enter_var(tree, at, levels, table, entries),
+        _ => entries,
     }
 }
 
 // An item of the module: a declaration, or what an `ExportDecl` (Ed) or an `ExportDefaultDecl` (Xd) holds.
-fn enter_item(tree: &[u8], at: usize, levels: usize, table: &mut [u32], n: usize) -> usize
+fn enter_item(tree: &[u8], at: usize, levels: usize, table: &mut [u32], entries: Entries) -> Entries
     requires { ⌜ AcceptedAt levels (now tree) at ⌝ }
-    requires { ⌜ Room (now tree) (now table) n at ⌝ }
-    ensures { λ r. ⌜ Filled (now (tree .entry)) (now (table .entry)) n (now (table .exit)) r (endAt levels (now (tree .entry)) at)
+    requires { ⌜ Room (now tree) (now table) entries at ⌝ }
+    ensures { λ r. ⌜ Filled (now (tree .entry)) (now (table .entry)) entries (now (table .exit)) r (endAt levels (now (tree .entry)) at)
         (λ q t. addItem q t (treeAt levels (now (tree .entry)) at)) ⌝ }
 {
     match mark_at(tree, at) {
-        ED | XD => enter_decl(tree, body_at(tree, at), levels - 1, table, n),
-        _ => enter_decl(tree, at, levels, table, n),
+        ED | XD => enter_decl(tree, body_at(tree, at), levels - 1, table, entries),
+        _ => enter_decl(tree, at, levels, table, entries),
     }
 }
 
-// `prescan_module_ids`: the names that the items of the module declare, in the front of the table; how many they are.
-pub fn index(tree: &[u8], table: &mut [u32]) -> usize
+// `prescan_module_ids`: the names that the items of the module declare, entered from the middle of the table on, so that there is room on both sides.
+pub fn index(tree: &[u8], table: &mut [u32]) -> Entries
     requires { ⌜ AcceptedAt deepest (now tree) 0 ⌝ }
-    requires { ⌜ length (now tree) ≤ declarationSize * length (now table) ⌝ }
+    requires { ⌜ length (now tree) ≤ declarationSize * (length (now table) / 2) ⌝ }
     requires { ⌜ length (now tree) < farthest ⌝ }
-    ensures { λ r. ⌜ Indexed (now (tree .entry)) (take r (now (table .exit))) × (r ≤ length (now (table .exit))) ⌝ }
+    ensures { λ r. ⌜
+        Indexed (now (tree .entry)) (take (r .count) (entriesOf (now (table .exit)) r))
+        × (r .from + r .count ≤ length (now (table .exit)))
+        ⌝ }
 {
-    let mut filled: usize = 0;
+    let mut filled = Entries {
+        from: table.len() / 2,
+        count: 0,
+    };
     let mut rest = count_at(tree, 0);
     let mut item = body_at(tree, 0);
     while 0 < rest {

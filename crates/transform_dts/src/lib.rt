@@ -1,6 +1,6 @@
 // `transform` on a Module, for every two byte strings: the check, a dry run that says how long output and diagnostics are, and the run.
 ghost use mathlib.Core.Path.{_≡_};
-ghost use Prim.Native.Nat.{_*_, _<_, _≤_};
+ghost use Prim.Native.Nat.{_*_, _/_, _<_, _≤_};
 ghost use lib.ListN.{length};
 ghost use Rattle.definition.specs.Check.{longestTree, deepest};
 ghost use Rattle.definition.specs.Children.{AcceptedAt};
@@ -12,7 +12,7 @@ ghost use Rattle.transform_dts.specs.Answers.{start, transformed, writte
 use grammar::Checked;
 use grammar::Refusal;
 use prescan::DECLARATION_SIZE;
-use prescan::MOST_NAMES;
+use prescan::LARGE_TABLE;
 use prescan::Scope;
 use records::DEEPEST;
 use records::DIAGNOSTIC_SIZE;
@@ -26,10 +26,10 @@ pub enum Answer {
     Refused(Refusal, usize),
 }
 
-// How many names the tables of small trees have room for: a declaration takes DECLARATION_SIZE bytes at least.
-const FEW_NAMES: usize = 64;
+// The lengths of the tables of names of small trees: half as many declarations have room, and each takes DECLARATION_SIZE bytes at least.
+const SMALL_TABLE: usize = 128;
 
-const MORE_NAMES: usize = 1024;
+const MIDDLE_TABLE: usize = 2048;
 
 // Where a run begins.
 fn begin() -> State
@@ -134,19 +134,21 @@ fn with_table(
     diagnostics: &mut [u8],
 ) -> Answer
     requires { ⌜ AcceptedAt deepest (now tree) 0 ⌝ }
-    requires { ⌜ length (now tree) ≤ declarationSize * length (now table) ⌝ }
+    requires { ⌜ length (now tree) ≤ declarationSize * (length (now table) / 2) ⌝ }
     requires { ⌜ length (now tree) < farthest ⌝ }
     ensures { λ r. ⌜
         Gives (writtenOf (now (list .entry)) unresolved (now (tree .entry)) (now (out .entry)) (now (diagnostics .entry)))
         r (now (out .exit)) (now (diagnostics .exit))
         ⌝ }
 {
-    let n = prescan::index(tree, table);
-    dry_run_and_run(tree, &table[..n], list, unresolved, out, diagnostics)
+    let names = prescan::index(tree, table);
+    let from = names.from;
+    let end = from + names.count;
+    dry_run_and_run(tree, &table[from..end], list, unresolved, out, diagnostics)
 }
 
-// The same, with a table for the names of a small tree.
-fn few_names(
+// The same, for a small tree.
+fn with_small_table(
     tree: &[u8],
     list: &[u8],
     unresolved: u32,
@@ -159,12 +161,12 @@ fn few_names(
         r (now (out .exit)) (now (diagnostics .exit))
         ⌝ }
 {
-    let mut table = [0u32; FEW_NAMES];
+    let mut table = [0u32; SMALL_TABLE];
     with_table(tree, &mut table, list, unresolved, out, diagnostics)
 }
 
-// The same, with of a larger one.
-fn more_names(
+// The same, for a larger one.
+fn with_middle_table(
     tree: &[u8],
     list: &[u8],
     unresolved: u32,
@@ -177,12 +179,12 @@ fn more_names(
         r (now (out .exit)) (now (diagnostics .exit))
         ⌝ }
 {
-    let mut table = [0u32; MORE_NAMES];
+    let mut table = [0u32; MIDDLE_TABLE];
     with_table(tree, &mut table, list, unresolved, out, diagnostics)
 }
 
-// The same, with of the largest.
-fn most_names(
+// The same, for every tree.
+fn with_large_table(
     tree: &[u8],
     list: &[u8],
     unresolved: u32,
@@ -195,7 +197,7 @@ fn most_names(
         r (now (out .exit)) (now (diagnostics .exit))
         ⌝ }
 {
-    let mut table = [0u32; MOST_NAMES];
+    let mut table = [0u32; LARGE_TABLE];
     with_table(tree, &mut table, list, unresolved, out, diagnostics)
 }
 
@@ -213,13 +215,13 @@ fn accepted(
         r (now (out .exit)) (now (diagnostics .exit))
         ⌝ }
 {
-    if tree.len() <= DECLARATION_SIZE * FEW_NAMES {
-        return few_names(tree, list, unresolved, out, diagnostics);
+    if tree.len() <= DECLARATION_SIZE * (SMALL_TABLE / 2) {
+        return with_small_table(tree, list, unresolved, out, diagnostics);
     }
-    if tree.len() <= DECLARATION_SIZE * MORE_NAMES {
-        return more_names(tree, list, unresolved, out, diagnostics);
+    if tree.len() <= DECLARATION_SIZE * (MIDDLE_TABLE / 2) {
+        return with_middle_table(tree, list, unresolved, out, diagnostics);
     }
-    most_names(tree, list, unresolved, out, diagnostics)
+    with_large_table(tree, list, unresolved, out, diagnostics)
 }
 
 // The exported call, for every two byte strings, every context and all buffers: the answer and both buffers are the definition's `call`.

@@ -51,19 +51,19 @@ enter-var-requires : tie.Need-enter-var-requires
 enter-var-requires c κs = search needs
 
 same-length : tie.Need-same-length
-same-length c = c .before .before .insert .ensures .0 .same
+same-length c = c .before .before .insert .ensures .1 .same
 
 returns-3 : tie.Need-returns-3
 returns-3 c = filled-one (c .before .before .before .before .before .before .before .before .before .before .before .pre .1) (c .before .before .insert .ensures .0) (c .before .before .insert .ensures .1) (fn-long (c .before .before .before .before .before .before .before .before .before .before .before .pre .0) (c .before .before .before .before .before .before .before .before .mark-at .ensures .0) (c .before .before .before .before .before .before .body-at .ensures) (c .before .before .before .before .before .mark-at2 .ensures .0) (c .before .before .before .before .before .before .before .match .keys1) (c .before .before .before .before .if1 .left)) (fn-one (c .before .before .before .before .before .before .before .before .before .before .before .pre .0) (c .before .before .before .before .before .before .before .before .mark-at .ensures .0) (c .before .before .before .before .before .before .body-at .ensures) (c .before .before .before .before .before .mark-at2 .ensures .0) (c .before .before .before .before .before .before .before .match .keys1) (c .before .before .before .before .if1 .left))
 
 same-length-2 : tie.Need-same-length-2
-same-length-2 c = c .before .before .insert2 .ensures .0 .same
+same-length-2 c = c .before .before .insert2 .ensures .1 .same
 
 returns-4 : tie.Need-returns-4
 returns-4 c = filled-one (c .before .before .before .before .before .before .before .before .before .before .before .before .before .pre .1) (c .before .before .insert2 .ensures .0) (c .before .before .insert2 .ensures .1) (class-long (c .before .before .before .before .before .before .before .before .before .before .before .before .before .pre .0) (c .before .before .before .before .before .before .before .before .before .before .mark-at .ensures .0) (c .before .before .before .before .before .before .before .before .body-at2 .ensures) (c .before .before .before .before .before .before .before .mark-at3 .ensures .0) (c .before .before .before .before .before .before .before .before .before .match .keys2) (c .before .before .before .before .before .before .if2 .left) (c .before .before .before .before .before .record-end .ensures)) (class-one (c .before .before .before .before .before .before .before .before .before .before .before .before .before .pre .0) (c .before .before .before .before .before .before .before .before .before .before .mark-at .ensures .0) (c .before .before .before .before .before .before .before .before .body-at2 .ensures) (c .before .before .before .before .before .before .before .mark-at3 .ensures .0) (c .before .before .before .before .before .before .before .before .before .match .keys2) (c .before .before .before .before .before .before .if2 .left) (c .before .before .before .before .before .record-end .ensures) (c .before .before .before .before .add-class .ensures))
 
 same-length-3 : tie.Need-same-length-3
-same-length-3 c = c .before .before .enter-var .ensures .enters .same
+same-length-3 c = c .before .before .enter-var .ensures .same
 
 returns-5 : tie.Need-returns-5
 returns-5 c = filled-eq (omega arith) (λ q t. decl-var (c .before .before .before .before .before .before .before .before .pre .0) (c .before .before .before .before .before .mark-at .ensures .0) q t (c .before .before .before .before .match .keys3)) (c .before .before .enter-var .ensures)

@@ -48,7 +48,7 @@ insert-requires : tie.Need-insert-requires
 insert-requires c κs = ((c .before .before .before .before .before .before .before .before .before .before .before .before .before .pre .1) .sorted, (room-one (c .before .before .before .before .before .before .before .before .before .before .before .before .before .pre .1) (omega (arith, declarator-long (c .before .before .before .before .before .before .before .before .before .before .before .before .before .pre .0) (c .before .before .before .before .before .before .before .before .before .before .mark-at .ensures .0) (c .before .before .before .before .before .before .before .before .before .if1 .left) (c .before .before .before .before .before .before .before .before .body-at .ensures) (c .before .before .before .before .before .before .before .mark-at2 .ensures .0) (c .before .before .before .before .before .before .if2 .left) (c .before .before .before .before .before .body-at2 .ensures) (c .before .before .before .before .record-end .ensures) (c .before .before .before .record-end2 .ensures), end-inside _ _ _ (c .before .before .before .before .before .before .before .before .before .before .before .before .before .pre .0))), (fits (ident-child (c .before .before .before .before .before .before .before .before .before .before .before .before .before .pre .0) (c .before .before .before .before .before .before .before .before .before .before .mark-at .ensures .0) (c .before .before .before .before .before .before .before .before .before .if1 .left) (c .before .before .before .before .before .before .before .before .body-at .ensures) (c .before .before .before .before .before .before .before .mark-at2 .ensures .0) (c .before .before .before .before .before .before .if2 .left) (c .before .before .before .before .before .body-at2 .ensures) .accepted), (c .before .before .before .before .before .before .before .before .before .before .before .before .before .pre .1) .short)))
 
 same-length : tie.Need-same-length
-same-length c = c .before .before .insert .ensures .0 .same
+same-length c = c .before .before .insert .ensures .1 .same
 
 returns-3 : tie.Need-returns-3
 returns-3 c = filled-one (c .before .before .before .before .before .before .before .before .before .before .before .before .before .before .before .before .pre .1) (c .before .before .insert .ensures .0) (c .before .before .insert .ensures .1) (declarator-long (c .before .before .before .before .before .before .before .before .before .before .before .before .before .before .before .before .pre .0) (c .before .before .before .before .before .before .before .before .before .before .before .before .before .mark-at .ensures .0) (c .before .before .before .before .before .before .before .before .before .before .before .before .if1 .left) (c .before .before .before .before .before .before .before .before .before .before .before .body-at .ensures) (c .before .before .before .before .before .before .before .before .before .before .mark-at2 .ensures .0) (c .before .before .before .before .before .before .before .before .before .if2 .left) (c .before .before .before .before .before .before .before .before .body-at2 .ensures) (c .before .before .before .before .before .before .before .record-end .ensures) (c .before .before .before .before .before .before .record-end2 .ensures)) (λ q t. declarator-one (c .before .before .before .before .before .before .before .before .before .before .before .before .before .before .before .before .pre .0) (c .before .before .before .before .before .before .before .before .before .before .before .before .before .mark-at .ensures .0) (c .before .before .before .before .before .before .before .before .before .before .before .before .if1 .left) (c .before .before .before .before .before .before .before .before .before .before .before .body-at .ensures) (c .before .before .before .before .before .before .before .before .before .before .mark-at2 .ensures .0) (c .before .before .before .before .before .before .before .before .before .if2 .left) (c .before .before .before .before .before .before .before .before .body-at2 .ensures) (c .before .before .before .before .before .before .before .record-end .ensures) (c .before .before .before .before .before .before .record-end2 .ensures) (c .before .before .before .before .before .add-const .ensures) (c .before .before .before .before .add-const2 .ensures) q t)

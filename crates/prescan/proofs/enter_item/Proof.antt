@@ -23,13 +23,13 @@ enter-decl-requires-2 : tie.Need-enter-decl-requires-2
 enter-decl-requires-2 c κs = search needs
 
 same-length : tie.Need-same-length
-same-length c = c .before .before .enter-decl .ensures .enters .same
+same-length c = c .before .before .enter-decl .ensures .same
 
 returns : tie.Need-returns
 returns c = filled-eq (first-ends (c .before .before .before .before .before .before .before .before .before .pre .0) (export-child (c .before .before .before .before .before .before .before .before .before .pre .0) (c .before .before .before .before .before .before .mark-at .ensures .0) (c .before .before .before .before .body-at .ensures) (c .before .before .before .before .before .match .keys1) .there) (c .before .before .before .before .body-at .ensures)) (item-export (c .before .before .before .before .before .before .before .before .before .pre .0) (c .before .before .before .before .before .before .mark-at .ensures .0) (c .before .before .before .before .body-at .ensures) (c .before .before .before .before .before .match .keys1)) (c .before .before .enter-decl .ensures)
 
 same-length-2 : tie.Need-same-length-2
-same-length-2 c = c .before .before .enter-decl2 .ensures .enters .same
+same-length-2 c = c .before .before .enter-decl2 .ensures .same
 
 returns-2 : tie.Need-returns-2
 returns-2 c = filled-eq (omega arith) (λ q t. item-plain (c .before .before .before .before .before .before .before .before .pre .0) (c .before .before .before .before .before .mark-at .ensures .0) q t (c .before .before .before .before .match .rest .1)) (c .before .before .enter-decl2 .ensures)

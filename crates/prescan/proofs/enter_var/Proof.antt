@@ -15,10 +15,10 @@ use Rattle.prescan.proofs.enter_var.Statement.{statement}
 use Rattle.prescan.proofs.enter_var.Tie as tie
 
 abbrev Inv-loop : tie.InvT-loop
-Inv-loop tree at levels table₀ n filled₀ rest₀ declarator₀ table filled rest declarator = Filling Vars (kidsOf (treeAt levels tree at)) (levels - 1) tree table₀ n (endAt levels tree at) table filled rest declarator
+Inv-loop tree at levels table₀ entries rest₀ declarator₀ table filled rest declarator = Filling Vars (kidsOf (treeAt levels tree at)) (levels - 1) tree table₀ entries (endAt levels tree at) table filled rest declarator
 
 abbrev μ-loop : tie.MeasureT-loop
-μ-loop tree at levels table₀ n filled₀ rest₀ declarator₀ table filled rest declarator = rest
+μ-loop tree at levels table₀ entries rest₀ declarator₀ table filled rest declarator = rest
 
 read-head-requires : tie.Need-read-head-requires Inv-loop μ-loop
 read-head-requires c κs = room (c .before .before .pre .0)
@@ -57,7 +57,7 @@ loop-again : tie.Need-loop-again Inv-loop μ-loop
 loop-again c = filling-turn (c .before .before .before .before .before .before .loop .inv) addDeclarator declares-step (c .before .before .before .before .before .loop-test .taken) (c .before .before .before .enter-declarator .ensures) (c .record-end .ensures)
 
 same-length : tie.Need-same-length Inv-loop μ-loop
-same-length c = c .before .loop .inv .enters .same
+same-length c = c .before .loop .inv .filled .same
 
 returns-2 : tie.Need-returns-2 Inv-loop μ-loop
 returns-2 c = filled-eq (omega arith) (λ q t. var-const (c .before .before .before .before .before .before .before .before .pre .0) (ap (λ h. h .flags) (c .before .before .before .before .before .read-head .ensures)) q t (sym (c .before .before .before .before .has-flag .ensures) ∙ not-false _ (c .before .before .before .if1 .left))) (filling-done (c .before .loop .inv) declares-none (c .loop-test .left))

@@ -1,10 +1,10 @@
--- `most_names` meets its contract: the table has room for the names of every tree.
+-- `with_large_table` meets its contract: the table has room for the names of every tree.
 use native.Mathlib.Omega.{arith}
 use borrow.Author.Needs.{needs}
-use Rattle.transform_dts.proofs.most_names.Statement.{statement}
-use Rattle.transform_dts.proofs.most_names.Tie as tie
-use Rattle.transform_dts.proofs.most_names.Reads as reads
-use Rattle.transform_dts.proofs.most_names.Lts as lts
+use Rattle.transform_dts.proofs.with_large_table.Statement.{statement}
+use Rattle.transform_dts.proofs.with_large_table.Tie as tie
+use Rattle.transform_dts.proofs.with_large_table.Reads as reads
+use Rattle.transform_dts.proofs.with_large_table.Lts as lts
 use Rattle.transform_dts.proofs.with_table.Reads as with-table-reads
 
 slice-aggregate-with-table : tie.Need-slice-aggregate-with-table
@@ -22,7 +22,7 @@ same-length-2 c = search needs
 returns : tie.Need-returns
 returns c = search needs
 
-pub most-names-spec : {M : Type 1} → statement M
-most-names-spec =
+pub with-large-table-spec : {M : Type 1} → statement M
+with-large-table-spec =
     tie.close
     (tie.spec slice-aggregate-with-table with-table-requires same-length same-length-2 returns)

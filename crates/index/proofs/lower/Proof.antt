@@ -1,20 +1,23 @@
--- `index::shift` meets its contract: the entries from i on have moved.
+-- `index::lower` meets its contract: the first i entries have moved.
+use Prim.Native.Nat.{_-_}
 use native.Mathlib.Omega.{arith}
-use Rattle.index.proofs.Laws.{Shifting, shifting-start, shifting-turn, shifting-done}
-use Rattle.index.proofs.shift.Statement.{statement}
-use Rattle.index.proofs.shift.Tie as tie
+use Rattle.index.proofs.Laws.{Lowering, lowering-start, lowering-turn, lowering-done}
+use Rattle.index.proofs.lower.Statement.{statement}
+use Rattle.index.proofs.lower.Tie as tie
+use Rattle.index.proofs.lower.Reads as reads
+use Rattle.index.proofs.lower.Lts as lts
 
 abbrev Inv-loop : tie.InvT-loop
-Inv-loop table₀ n p i₀ table i = Shifting table₀ table n p i
+Inv-loop table₀ p i₀ table i = Lowering table₀ table p i
 
 abbrev μ-loop : tie.MeasureT-loop
-μ-loop table₀ n p i₀ table i = i
+μ-loop table₀ p i₀ table i = p - i
 
 loop-holds : tie.Need-loop-holds Inv-loop μ-loop
-loop-holds c = shifting-start _ _ _ (c .pre .0) (c .pre .1)
+loop-holds c = lowering-start _ _ (c .pre)
 
-sub-table : tie.Need-sub-table Inv-loop μ-loop
-sub-table c = omega arith
+add-table : tie.Need-add-table Inv-loop μ-loop
+add-table c = omega arith
 
 mul-table : tie.Need-mul-table Inv-loop μ-loop
 mul-table c = omega arith
@@ -28,34 +31,34 @@ mul-table-2 c = omega arith
 slice-write-table : tie.Need-slice-write-table Inv-loop μ-loop
 slice-write-table c = omega arith
 
-sub-i : tie.Need-sub-i Inv-loop μ-loop
-sub-i c = omega arith
+add-i : tie.Need-add-i Inv-loop μ-loop
+add-i c = omega arith
 
 loop-less : tie.Need-loop-less Inv-loop μ-loop
 loop-less c = omega arith
 
 loop-again : tie.Need-loop-again Inv-loop μ-loop
-loop-again c = shifting-turn (c .before .before .loop .inv) (c .before .loop-test .taken)
+loop-again c = lowering-turn (c .before .before .loop .inv) (c .before .loop-test .taken)
 
 same-length : tie.Need-same-length Inv-loop μ-loop
 same-length c = c .before .loop .inv .same
 
 returns : tie.Need-returns Inv-loop μ-loop
-returns c = shifting-done (c .before .loop .inv) (c .loop-test .left)
+returns c = lowering-done (c .before .loop .inv) (c .loop-test .left)
 
-pub shift-spec : {M : Type 1} → statement M
-shift-spec =
+pub lower-spec : {M : Type 1} → statement M
+lower-spec =
     tie.close
     (tie.spec
     Inv-loop
     μ-loop
     loop-holds
-    sub-table
+    add-table
     mul-table
     slice-read-table
     mul-table-2
     slice-write-table
-    sub-i
+    add-i
     loop-less
     loop-again
     same-length
