@@ -4,7 +4,7 @@ use std::time::{Duration, Instant};
 
 /// A module of items, as many as fit in n bytes.
 fn module(item: Vec<u8>, n: usize) -> Vec<u8> {
-    let count = (n - 15) / item.len();
+    let count = (n - record("Mo", &[], &[]).len()) / item.len();
     record("Mo", &[], &vec![item; count])
 }
 

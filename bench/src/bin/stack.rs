@@ -33,7 +33,7 @@ fn deep() -> Vec<(&'static str, Vec<u8>)> {
         ("namespaces", nest((DEEPEST - 2) / 2, &namespace, leaf("Im"))),
     ];
     let module = |item: Vec<u8>| {
-        let imports = (500_000 - item.len()) / 15;
+        let imports = (500_000 - item.len()) / leaf("Im").len();
         let mut items = vec![leaf("Im"); imports];
         items.push(item);
         record("Mo", &[], &items)

@@ -9,6 +9,7 @@ use mathlib.Core.Logic.{⊎-elim}
 use Rattle.definition.specs.Tree.{
   flagBytes,
   flagsPlace,
+  flagsSize,
   startPlace,
   endPlace,
   lengthPlace,
@@ -47,7 +48,7 @@ use Rattle.definition.specs.Tree.{
 }
 use Rattle.definition.specs.Grammar.{Part, after, root}
 use Rattle.definition.specs.Check.{Checked, Checked.fine, checkAll, checkAt, checkTree, inside, deepest}
-use Rattle.definition.proofs.Places.{At, at-none, at-join, at-part, part-at, part-length, at-whole, at-le2, at-le4, byte-at, u16-small, length-small, count-small, u32-small, below-or-not}
+use Rattle.definition.proofs.Places.{At, at-none, at-join, at-part, part-at, part-length, at-whole, at-le2, at-le4, at-flagBytes, u16-small, flags-small, length-small, count-small, u32-small, below-or-not}
 use Rattle.definition.proofs.Round.{length-headBytes}
 use Rattle.definition.proofs.Accepted.{Open, accepted, accepted-left, check-lies, check-ends, first-accepted, accepted-tree, AcceptedTree}
 
@@ -83,8 +84,8 @@ module _ (s : List ℕ) (bytes : Bytes s) (at : ℕ) (room : at + headSize ≤ l
 
   at-flags : At s (at + flagsPlace) (flagBytes (flagsAt s at) ++ (le4 (startAt s at) ++ (le4 (lastAt s at) ++ (le2 (lengthAt s at) ++ le2 (countAt s at)))))
   at-flags =
-      let e : at + flagsPlace + 1 ≡ at + startPlace = omega arith in
-      at-join s (at + flagsPlace) (flagBytes (flagsAt s at)) (le4 (startAt s at) ++ (le4 (lastAt s at) ++ (le2 (lengthAt s at) ++ le2 (countAt s at)))) (byte-at s (at + flagsPlace) (omega arith) bytes) (rw e at-start)
+      let e : at + flagsPlace + flagsSize ≡ at + startPlace = omega arith in
+      at-join s (at + flagsPlace) (flagBytes (flagsAt s at)) (le4 (startAt s at) ++ (le4 (lastAt s at) ++ (le2 (lengthAt s at) ++ le2 (countAt s at)))) (at-flagBytes s at (omega arith) bytes) (rw e at-start)
 
   at-head : At s at (headBytes (headAt s at) (countAt s at))
   unfolding headBytes headAt
@@ -103,7 +104,7 @@ module _ (s : List ℕ) (bytes : Bytes s) (at : ℕ) (room : at + headSize ≤ l
   unfolding headAt Bytes
   head-fits = record {
     mark = u16-small s at bytes;
-    flags = bytes (at + flagsPlace);
+    flags = flags-small s at bytes;
     start = u32-small s (at + startPlace) bytes;
     end = u32-small s (at + endPlace) bytes;
     text = rw text-length (length-small s at bytes);

@@ -7,7 +7,7 @@ use native.Mathlib.Decide.{decLt}
 use native.Mathlib.Omega.{arith}
 use lib.ListN.{length, getD, take, drop, length-append, length-take, length-drop, List·getD-append, List·getD-eq-default}
 use lib.Seq.{getD-append-add, ext-getD, getD-take, getD-drop}
-use Rattle.definition.specs.Tree.{lengthPlace, countPlace, le2, le4, u16At, u32At, lengthAt, countAt, Bytes}
+use Rattle.definition.specs.Tree.{flagsPlace, startPlace, lengthPlace, countPlace, le2, le4, flagsEnd, flagBytes, u16At, u32At, flagsAt, lengthAt, countAt, Bytes}
 
 -- xs stands in s at the offset `at`
 pub record At (s : List ℕ) (at : ℕ) (xs : List ℕ) : Type 0 where
@@ -95,7 +95,7 @@ le4-at s at n lt h =
     omega arith
 
 -- a byte that is known to be one, as the only element of a list in its place
-pub byte-at : (s : List ℕ) (at : ℕ) → at < length s → Bytes s → At s at (getD s at 0 % 256 ∷ [])
+byte-at : (s : List ℕ) (at : ℕ) → at < length s → Bytes s → At s at (getD s at 0 % 256 ∷ [])
 unfolding Bytes
 byte-at s at h b = record { fits = omega arith; same = λ i lt. go i lt }
   where
@@ -106,6 +106,21 @@ byte-at s at h b = record { fits = omega arith; same = λ i lt. go i lt }
 pub u16-small : (s : List ℕ) (at : ℕ) → Bytes s → u16At s at < 65536
 unfolding Bytes
 u16-small s at b = omega (arith, b at, b (at + 1))
+
+-- a record's flags: the number that stands in their bytes, the bytes of the number that stands there, and its bound
+pub flags-at : (s : List ℕ) (at n : ℕ) → n < flagsEnd → At s (at + flagsPlace) (flagBytes n) → flagsAt s at ≡ n
+flags-at s at n lt h =
+    let e : getD s (at + flagsPlace + 0) 0 ≡ n % 256 = h .same 0 (omega arith) in
+    let z : at + flagsPlace + 0 ≡ at + flagsPlace = omega arith in
+    let f : getD s (at + flagsPlace) 0 ≡ n % 256 = rw z at e in
+    omega arith
+
+pub at-flagBytes : (s : List ℕ) (at : ℕ) → at + startPlace ≤ length s → Bytes s → At s (at + flagsPlace) (flagBytes (flagsAt s at))
+at-flagBytes s at h b = byte-at s (at + flagsPlace) (omega arith) b
+
+pub flags-small : (s : List ℕ) (at : ℕ) → Bytes s → flagsAt s at < flagsEnd
+unfolding Bytes
+flags-small s at b = b (at + flagsPlace)
 
 -- a record's text length and child count
 pub length-small : (s : List ℕ) (at : ℕ) → Bytes s → lengthAt s at < 65536

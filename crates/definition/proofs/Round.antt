@@ -43,7 +43,7 @@ use Rattle.definition.specs.Tree.{
   Fits,
   FitsAll,
 }
-use Rattle.definition.proofs.Places.{At, at-all, at-left, at-right, at-part, le2-at, le4-at}
+use Rattle.definition.proofs.Places.{At, at-all, at-left, at-right, at-part, le2-at, le4-at, flags-at}
 
 pub length-headBytes : (h : Head) (n : ℕ) → length (headBytes h n) ≡ headSize
 unfolding headBytes
@@ -76,8 +76,8 @@ module _ (s : List ℕ) (at : ℕ) (h : Head) (n : ℕ) (rest : List ℕ) (fits 
   from-start = le4 (h .start) ++ from-end
 
   flags-is : flagsAt s at ≡ h .flags
-  unfolding headBytes
-  flags-is = hd .same flagsPlace (omega arith) ∙ omega (arith, fits .flags)
+  unfolding headBytes from-start
+  flags-is = flags-at s at (h .flags) (fits .flags) (at-left s (at + flagsPlace) (flagBytes (h .flags)) from-start (at-right s at (le2 (h .mark)) (flagBytes (h .flags) ++ from-start) hd))
 
   start-is : startAt s at ≡ h .start
   unfolding headBytes from-start

@@ -42,8 +42,12 @@ unfoldable mutual
 abbrev pub flagsPlace : ℕ
 flagsPlace = 2
 
+-- "flags (1 byte)"
+abbrev pub flagsSize : ℕ
+flagsSize = 1
+
 abbrev pub startPlace : ℕ
-startPlace = flagsPlace + 1
+startPlace = flagsPlace + flagsSize
 
 abbrev pub endPlace : ℕ
 endPlace = startPlace + 4
@@ -65,7 +69,7 @@ le2 n = n % 256 ∷ n / 256 % 256 ∷ []
 abbrev pub le4 : ℕ → List ℕ
 le4 n = n % 256 ∷ n / 256 % 256 ∷ n / 65536 % 256 ∷ n / 16777216 % 256 ∷ []
 
--- "flags (1 byte)": they are below this number
+-- flags are below this number
 abbrev pub flagsEnd : ℕ
 flagsEnd = 256
 

@@ -1,16 +1,17 @@
 -- The forms of a text: the digits of an integer one by one, and the number of a form.
-use mathlib.Core.Path.{_≡_, refl, _∙_}
+use mathlib.Core.Path.{_≡_, refl, ap, _∙_}
 use mathlib.Core.List.{List}
-use mathlib.Core.Bool.{true, false, cond}
-use Prim.Native.Nat.{ℕ, zero, suc, _+_, _<_, _≤_}
+use mathlib.Core.Bool.{Bool, true, false, cond}
+use Prim.Native.Nat.{ℕ, zero, suc, _+_, _/_, _%_, _<_, _≤_}
 use native.Mathlib.Numerals.{add-one}
 use native.Mathlib.Omega.{arith}
 use borrow.Author.Tests.{ne-eqb, lt-ltb, le-ltb}
-use lib.Dec.{ltb}
+use lib.Dec.{eqb, ltb}
 use lib.ListN.{length, getD, drop, drop-of-length-le}
 use lib.Seq.{drop-cons}
 use Rattle.definition.specs.Grammar.{Form.empty}
 use Rattle.definition.specs.Check.{digits, isInteger}
+use Rattle.definition.specs.Record.{hasFlag}
 use Rattle.grammar.specs.Slots.{formAt}
 
 -- the digits before i are in order: what is left to say of the text t is whether those from i on are
@@ -52,3 +53,7 @@ form-empty (suc (suc (suc zero))) a b c d e = absurd (c refl)
 form-empty (suc (suc (suc (suc zero)))) a b c d e = absurd (d refl)
 form-empty (suc (suc (suc (suc (suc zero))))) a b c d e = absurd (e refl)
 form-empty (suc (suc (suc (suc (suc (suc n)))))) a b c d e = refl
+
+-- the flag that says that a text is cooked, as the form asks for it
+pub cooked-told : (f : ℕ) (b : Bool) → hasFlag 1 f ≡ b → eqb (f % 2) 1 ≡ b
+cooked-told f b e = (let n : f ≡ f / 1 = omega arith in ap (λ (m : ℕ). eqb (m % 2) 1) n ∙ e)

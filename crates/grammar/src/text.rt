@@ -3,6 +3,7 @@ ghost use mathlib.Core.Path.{_≡_};
 ghost use Rattle.definition.specs.Check.{isInteger, hasForm};
 ghost use Rattle.grammar.specs.Slots.{formAt};
 use records::flags::Flags;
+use records::flags::has_flag;
 
 // The numbers of the forms in the tables; every other number stands for "empty text". "given text is any bytes":
 const ANYTHING: u8 = 1;
@@ -58,7 +59,7 @@ pub fn has_form(form: u8, flags: Flags, t: &[u8]) -> bool
         INTEGER => is_integer(t),
         IDENTIFIER => 4 <= t.len(),
         COOKED => {
-            if flags % 2 == 1 {
+            if has_flag(flags, records::flags::COOKED) {
                 return true;
             }
             t.len() == 0

@@ -5,6 +5,7 @@ use mathlib.Core.Logic.{_⊎_, inl, inr}
 use Prim.Native.Nat.{ℕ, _+_, _-_, _/_, _%_, _≤_, _<_}
 use native.Mathlib.Omega.{arith}
 use borrow.Author.Tests.{eqb-true, eqb-false}
+use Rattle.definition.specs.Tree.{flagsEnd}
 use Rattle.definition.specs.Record.{hasFlag, withFlag, withoutFlag}
 use Rattle.records.specs.Fields.{IsFlag}
 
@@ -21,7 +22,7 @@ is-set b f (inr (inr e)) h = rw e (let q = eqb-true (f / 4 % 2) 1 (rw e at h) in
 
 -- one that is not
 pub record Clear (b f : ℕ) : Type 0 where
-  pub fits : f < 256 → f + b < 256
+  pub fits : f < flagsEnd → f + b < flagsEnd
   pub with : f + b ≡ withFlag b f
   pub same : f ≡ withoutFlag b f
 

@@ -43,15 +43,15 @@ sets-out a p (x ∷ E) h = sets-out (set a p x) (suc p) E (simp length-set (omeg
 
 -- ---- the bytes of a head, part by part
 
--- a byte is its own remainder
-byte-mod : (b : ℕ) → b < 256 → b ≡ b % 256
-byte-mod b h = omega arith
+-- a store of flags
+pub flag-sets : (o : List ℕ) (p f : ℕ) → f < flagsEnd → set o p f ≡ sets o p (flagBytes f)
+flag-sets o p f h = ap (λ (b : ℕ). set o p b) (omega arith)
 
-pub head-sets : (o : List ℕ) {o1 o2 o3 o4 o5 o6 : List ℕ} (p : ℕ) (h : Head) → h .flags < flagsEnd
-    → o1 ≡ sets o p (le2 (h .mark)) → o2 ≡ set o1 (p + flagsPlace) (h .flags) → o3 ≡ sets o2 (p + startPlace) (le4 (h .start)) → o4 ≡ sets o3 (p + endPlace) (le4 (h .end))
+pub head-sets : (o : List ℕ) {o1 o2 o3 o4 o5 o6 : List ℕ} (p : ℕ) (h : Head)
+    → o1 ≡ sets o p (le2 (h .mark)) → o2 ≡ sets o1 (p + flagsPlace) (flagBytes (h .flags)) → o3 ≡ sets o2 (p + startPlace) (le4 (h .start)) → o4 ≡ sets o3 (p + endPlace) (le4 (h .end))
     → o5 ≡ sets o4 (p + lengthPlace) (le2 (h .text)) → o6 ≡ sets o5 (p + countPlace) (le2 (h .count)) → o6 ≡ sets o p (fieldBytes h)
 unfolding fieldBytes
-head-sets o {o1} {o2} {o3} {o4} {o5} {o6} p h f e1 e2 e3 e4 e5 e6 =
+head-sets o {o1} {o2} {o3} {o4} {o5} {o6} p h e1 e2 e3 e4 e5 e6 =
     let x1 : List ℕ = le2 (h .mark) in
     let x2 : List ℕ = x1 ++ flagBytes (h .flags) in
     let x3 : List ℕ = x2 ++ le4 (h .start) in
@@ -59,7 +59,7 @@ head-sets o {o1} {o2} {o3} {o4} {o5} {o6} p h f e1 e2 e3 e4 e5 e6 =
     let x5 : List ℕ = x4 ++ le2 (h .text) in
     let s1 : o1 ≡ sets o p x1 = e1 in
     let s2 : o2 ≡ sets o p x2 =
-    e2 ∙ ap (λ (b : ℕ). set o1 (p + flagsPlace) b) (byte-mod (h .flags) f) ∙ ap (λ (l : List ℕ). set l (p + flagsPlace) (h .flags % 256)) s1 ∙ sym (sets-append o p x1 (flagBytes (h .flags))) in
+    e2 ∙ ap (λ (l : List ℕ). sets l (p + flagsPlace) (flagBytes (h .flags))) s1 ∙ sym (sets-append o p x1 (flagBytes (h .flags))) in
     let s3 : o3 ≡ sets o p x3 = e3 ∙ ap (λ (l : List ℕ). sets l (p + startPlace) (le4 (h .start))) s2 ∙ sym (sets-append o p x2 (le4 (h .start))) in
     let s4 : o4 ≡ sets o p x4 = e4 ∙ ap (λ (l : List ℕ). sets l (p + endPlace) (le4 (h .end))) s3 ∙ sym (sets-append o p x3 (le4 (h .end))) in
     let s5 : o5 ≡ sets o p x5 = e5 ∙ ap (λ (l : List ℕ). sets l (p + lengthPlace) (le2 (h .text))) s4 ∙ sym (sets-append o p x4 (le2 (h .text))) in

@@ -3,7 +3,7 @@ ghost use mathlib.Core.Path.{_≡_};
 ghost use Prim.Native.Nat.{_+_, _<_, _≤_};
 ghost use lib.ListN.{length, set};
 ghost use lib.Seq.{sets};
-ghost use Rattle.definition.specs.Tree.{headSize, le2, le4, u16At, u32At, markAt, countAt, bodyAt, textAt, endAt};
+ghost use Rattle.definition.specs.Tree.{flagsSize, headSize, le2, le4, flagBytes, u16At, u32At, markAt, flagsAt, countAt, bodyAt, textAt, endAt};
 ghost use Rattle.definition.specs.Record.{diagBytes};
 ghost use Rattle.records.specs.Fields.{fieldsAt, fieldBytes, rangeAt, diagOf};
 ghost use Rattle.records.specs.Whole.{Whole, partAt};
@@ -27,7 +27,10 @@ pub const DEEPEST: usize = 64;
 // The places of a head's fields in it; the mark is at 0.
 const FLAGS: usize = 2;
 
-const START: usize = FLAGS + 1;
+// "flags (1 byte)".
+const FLAGS_SIZE: usize = 1;
+
+const START: usize = FLAGS + FLAGS_SIZE;
 
 const END: usize = START + 4;
 
@@ -112,6 +115,14 @@ pub fn mark_at(tree: &[u8], at: usize) -> u16
     u16_at(tree, at)
 }
 
+// The flags of the record at `at`.
+fn flags_at(tree: &[u8], at: usize) -> Flags
+    requires { ⌜ at + headSize ≤ length (now tree) ⌝ }
+    ensures { λ r. ⌜ r ≡ flagsAt (now (tree .entry)) at ⌝ }
+{
+    tree[at + FLAGS]
+}
+
 // The child count of the record at `at`.
 pub fn count_at(tree: &[u8], at: usize) -> usize
     requires { ⌜ at + headSize ≤ length (now tree) ⌝ }
@@ -134,7 +145,7 @@ pub fn read_head(tree: &[u8], at: usize) -> Head
     ensures { λ r. ⌜ r ≡ fieldsAt (now (tree .entry)) at ⌝ }
 {
     let mark = u16_at(tree, at);
-    let flags = tree[at + FLAGS];
+    let flags = flags_at(tree, at);
     let start = u32_at(tree, at + START);
     let end = u32_at(tree, at + END);
     let text = u16_at(tree, at + LENGTH) as usize;
@@ -231,6 +242,13 @@ pub fn put4(out: &mut [u8], p: usize, v: u32)
     }
 }
 
+// Flags, as far as there is room.
+fn put_flags(out: &mut [u8], p: usize, flags: Flags)
+    ensures { λ _. ⌜ now (out .exit) ≡ sets (now (out .entry)) p (flagBytes flags) ⌝ }
+{
+    put(out, p, flags);
+}
+
 // `put2` and `put4` where there is room for all of it: no test.
 fn set2(out: &mut [u8], p: usize, v: usize)
     requires { ⌜ p + 2 ≤ length (now out) ⌝ }
@@ -250,13 +268,21 @@ fn set4(out: &mut [u8], p: usize, v: u32)
     out[p + 3] = (v / 16777216 % 256) as u8;
 }
 
+// `put_flags` where there is room for all of it: no test.
+fn set_flags(out: &mut [u8], p: usize, flags: Flags)
+    requires { ⌜ p + flagsSize ≤ length (now out) ⌝ }
+    ensures { λ _. ⌜ now (out .exit) ≡ sets (now (out .entry)) p (flagBytes flags) ⌝ }
+{
+    out[p] = flags;
+}
+
 // A head where there is room for all of it: no test.
 fn set_head(out: &mut [u8], p: usize, h: Head)
     requires { ⌜ p + headSize ≤ length (now out) ⌝ }
     ensures { λ _. ⌜ now (out .exit) ≡ sets (now (out .entry)) p (fieldBytes h) ⌝ }
 {
     set2(out, p, h.mark as usize);
-    out[p + FLAGS] = h.flags;
+    set_flags(out, p + FLAGS, h.flags);
     set4(out, p + START, h.start);
     set4(out, p + END, h.end);
     set2(out, p + LENGTH, h.text);
@@ -269,7 +295,7 @@ fn put_cut_head(out: &mut [u8], p: usize, h: Head)
 {
     if p < out.len() {
         put2(out, p, h.mark as usize);
-        put(out, p + FLAGS, h.flags);
+        put_flags(out, p + FLAGS, h.flags);
         put4(out, p + START, h.start);
         put4(out, p + END, h.end);
         put2(out, p + LENGTH, h.text);

@@ -8,6 +8,7 @@ use console::print_number;
 use console::print_refusal;
 use grammar::Checked;
 use records::ENTRY_SIZE;
+use records::HEAD_SIZE;
 use records::Head;
 use records::marks::AR;
 use records::marks::IM;
@@ -27,9 +28,17 @@ const LONGEST_LIST: usize = 40960;
 const LIST: usize = 40970;
 
 // More than the longest tree's declarations take.
-const OUTPUT: usize = 524416;
+const OUTPUT: usize = 524544;
 
 const OV: usize = 0x766f;
+
+// The bytes of an item that fills a tree, and of its text, behind two heads.
+const FILLER: usize = 65534;
+
+const TEXT: usize = FILLER - 2 * HEAD_SIZE;
+
+// The text of the last one: behind the Mo and a default export, which have three heads, and seven items.
+const LAST_TEXT: usize = LONGEST_TREE - 3 * HEAD_SIZE - 7 * FILLER - 2 * HEAD_SIZE;
 
 fn put(tree: &mut [u8], p: usize, mark: u16, text: usize, count: usize) -> usize {
     records::put_head(
@@ -59,10 +68,10 @@ fn default_export(tree: &mut [u8], p: usize) -> usize {
 }
 
 fn four_fillers(tree: &mut [u8], p: usize) -> usize {
-    let mut q = filler(tree, p, 65504);
-    q = filler(tree, q, 65504);
-    q = filler(tree, q, 65504);
-    filler(tree, q, 65504)
+    let mut q = filler(tree, p, TEXT);
+    q = filler(tree, q, TEXT);
+    q = filler(tree, q, TEXT);
+    filler(tree, q, TEXT)
 }
 
 // A Mo of 524,288 bytes: a default export, and eight items whose texts fill it.
@@ -70,10 +79,10 @@ fn fill(tree: &mut [u8]) {
     let mut p = put(tree, 0, MO, 0, 9);
     p = default_export(tree, p);
     p = four_fillers(tree, p);
-    p = filler(tree, p, 65504);
-    p = filler(tree, p, 65504);
-    p = filler(tree, p, 65504);
-    filler(tree, p, 65475);
+    p = filler(tree, p, TEXT);
+    p = filler(tree, p, TEXT);
+    p = filler(tree, p, TEXT);
+    filler(tree, p, LAST_TEXT);
 }
 
 // A Mo of so many levels and two more: an Xe, so many Pr and an Oe.
@@ -143,9 +152,9 @@ fn run(tree: &mut [u8], list: &mut [u8]) {
     fill(tree);
     show_lengths(tree, list);
     nest(tree, 61);
-    show_check(b"64 levels: ", tree, 960, list, 0);
+    show_check(b"64 levels: ", tree, 64 * HEAD_SIZE, list, 0);
     nest(tree, 62);
-    show_check(b"65 levels: ", tree, 975, list, 0);
+    show_check(b"65 levels: ", tree, 65 * HEAD_SIZE, list, 0);
 }
 
 fn main() {

@@ -12,11 +12,11 @@ cast-put2 c = search needs
 put2-requires : tie.Need-put2-requires
 put2-requires c κs = search needs
 
-add-put : tie.Need-add-put
-add-put c = search needs
+add-put-flags : tie.Need-add-put-flags
+add-put-flags c = search needs
 
-put-requires : tie.Need-put-requires
-put-requires c κs = search needs
+put-flags-requires : tie.Need-put-flags-requires
+put-flags-requires c κs = search needs
 
 add-put4 : tie.Need-add-put4
 add-put4 c = search needs
@@ -48,7 +48,7 @@ same-length c = search needs
 returns : tie.Need-returns
 returns c =
     let a = c .before .before .before .before .before .before .before .before .before .before .before .before .before .before .before .before .before .before .before .before .before .before .before .before .before .before .before .args in
-    head-sets (a .out .now) (a .p) (a .h) (search needs) (c .before .before .before .before .before .before .before .before .before .before .before .before .before .before .before .before .before .before .before .before .before .before .put2 .ensures) (c .before .before .before .before .before .before .before .before .before .before .before .before .before .before .before .before .before .before .put .ensures) (c .before .before .before .before .before .before .before .before .before .before .before .before .before .before .put4 .ensures) (c .before .before .before .before .before .before .before .before .before .before .put42 .ensures) (c .before .before .before .before .before .before .put22 .ensures) (c .before .before .put23 .ensures)
+    head-sets (a .out .now) (a .p) (a .h) (c .before .before .before .before .before .before .before .before .before .before .before .before .before .before .before .before .before .before .before .before .before .before .put2 .ensures) (c .before .before .before .before .before .before .before .before .before .before .before .before .before .before .before .before .before .before .put-flags .ensures) (c .before .before .before .before .before .before .before .before .before .before .before .before .before .before .put4 .ensures) (c .before .before .before .before .before .before .before .before .before .before .put42 .ensures) (c .before .before .before .before .before .before .put22 .ensures) (c .before .before .put23 .ensures)
 
 returns-2 : tie.Need-returns-2
 returns-2 c =
@@ -61,8 +61,8 @@ put-cut-head-spec =
     (tie.spec
     cast-put2
     put2-requires
-    add-put
-    put-requires
+    add-put-flags
+    put-flags-requires
     add-put4
     put4-requires
     add-put4-2

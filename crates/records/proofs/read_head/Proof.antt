@@ -6,11 +6,8 @@ use Rattle.records.proofs.read_head.Tie as tie
 u16-at-requires : tie.Need-u16-at-requires
 u16-at-requires c κs = search needs
 
-add-flags : tie.Need-add-flags
-add-flags c = search needs
-
-shared-slice-read-flags : tie.Need-shared-slice-read-flags
-shared-slice-read-flags c = search needs
+flags-at-requires : tie.Need-flags-at-requires
+flags-at-requires c κs = search needs
 
 add-u32-at : tie.Need-add-u32-at
 add-u32-at c = search needs
@@ -44,15 +41,14 @@ cast-count c = search needs
 
 returns : tie.Need-returns
 returns c =
-    cc (c .before .before .before .before .before .u16-at .ensures .0, c .before .before .before .u32-at .ensures .0, c .before .before .u32-at2 .ensures .0, c .before .u16-at2 .ensures .0, c .u16-at3 .ensures .0)
+    cc (c .before .before .before .before .before .u16-at .ensures .0, c .before .before .before .before .flags-at .ensures, c .before .before .before .u32-at .ensures .0, c .before .before .u32-at2 .ensures .0, c .before .u16-at2 .ensures .0, c .u16-at3 .ensures .0)
 
 pub read-head-spec : {M : Type 1} → statement M
 read-head-spec =
     tie.close
     (tie.spec
     u16-at-requires
-    add-flags
-    shared-slice-read-flags
+    flags-at-requires
     add-u32-at
     u32-at-requires
     add-u32-at-2

@@ -1,8 +1,4 @@
 -- `records::set_head` meets its contract: the fields one after the other are the bytes of the head.
-use mathlib.Core.Path.{refl, _∙_}
-use Prim.Native.Nat.{_+_}
-use native.Mathlib.Omega.{arith}
-use lib.ListN.{length-set}
 use Rattle.records.proofs.Stores.{head-sets}
 use borrow.Author.Needs.{needs}
 use Rattle.records.proofs.set_head.Statement.{statement}
@@ -14,51 +10,43 @@ cast-set2 c = search needs
 set2-requires : tie.Need-set2-requires
 set2-requires c κs = search needs
 
-add-out : tie.Need-add-out
-add-out c = search needs
+add-set-flags : tie.Need-add-set-flags
+add-set-flags c = search needs
 
-slice-write-out : tie.Need-slice-write-out
-slice-write-out c = search needs
+set-flags-requires : tie.Need-set-flags-requires
+set-flags-requires c κs = search needs
 
 add-set4 : tie.Need-add-set4
 add-set4 c = search needs
 
 set4-requires : tie.Need-set4-requires
-set4-requires c κs = simp length-set (omega (arith, c .before .before .before .set2 .kept))
+set4-requires c κs = search needs
 
 add-set4-2 : tie.Need-add-set4-2
 add-set4-2 c = search needs
 
 set4-requires-2 : tie.Need-set4-requires-2
-set4-requires-2 c κs =
-    let a = c .before .before .before .before .before .before .before .before .before .before .before .args in
-    omega (arith, c .before .before .before .set4 .kept, c .before .before .before .before .before .before .before .set2 .kept, length-set (c .before .before .before .before .before .before .before .set2 .last .0) (a .p + 2) (a .h .flags))
+set4-requires-2 c κs = search needs
 
 add-set2 : tie.Need-add-set2
 add-set2 c = search needs
 
 set2-requires-2 : tie.Need-set2-requires-2
-set2-requires-2 c κs =
-    let a = c .before .before .before .before .before .before .before .before .before .before .before .before .before .before .before .args in
-    omega (arith, c .before .before .before .set42 .kept, c .before .before .before .before .before .before .before .set4 .kept, c .before .before .before .before .before .before .before .before .before .before .before .set2 .kept, length-set (c .before .before .before .before .before .before .before .before .before .before .before .set2 .last .0) (a .p + 2) (a .h .flags))
+set2-requires-2 c κs = search needs
 
 add-set2-2 : tie.Need-add-set2-2
 add-set2-2 c = search needs
 
 set2-requires-3 : tie.Need-set2-requires-3
-set2-requires-3 c κs =
-    let a = c .before .before .before .before .before .before .before .before .before .before .before .before .before .before .before .before .before .before .before .args in
-    omega (arith, c .before .before .before .set22 .kept, c .before .before .before .before .before .before .before .set42 .kept, c .before .before .before .before .before .before .before .before .before .before .before .set4 .kept, c .before .before .before .before .before .before .before .before .before .before .before .before .before .before .before .set2 .kept, length-set (c .before .before .before .before .before .before .before .before .before .before .before .before .before .before .before .set2 .last .0) (a .p + 2) (a .h .flags))
+set2-requires-3 c κs = search needs
 
 same-length : tie.Need-same-length
-same-length c =
-    let a = c .before .before .before .before .before .before .before .before .before .before .before .before .before .before .before .before .before .before .before .before .before .before .args in
-    c .before .before .set23 .kept .0 ∙ c .before .before .before .before .before .before .set22 .kept .0 ∙ c .before .before .before .before .before .before .before .before .before .before .set42 .kept .0 ∙ c .before .before .before .before .before .before .before .before .before .before .before .before .before .before .set4 .kept .0 ∙ length-set (c .before .before .before .before .before .before .before .before .before .before .before .before .before .before .before .before .before .before .set2 .last .0) (a .p + 2) (a .h .flags) ∙ c .before .before .before .before .before .before .before .before .before .before .before .before .before .before .before .before .before .before .set2 .kept .0
+same-length c = search needs
 
 returns : tie.Need-returns
 returns c =
-    let a = c .before .before .before .before .before .before .before .before .before .before .before .before .before .before .before .before .before .before .before .before .before .before .args in
-    head-sets (a .out .now) (a .p) (a .h) (search needs) (c .before .before .before .before .before .before .before .before .before .before .before .before .before .before .before .before .before .before .set2 .ensures) refl (c .before .before .before .before .before .before .before .before .before .before .before .before .before .before .set4 .ensures) (c .before .before .before .before .before .before .before .before .before .before .set42 .ensures) (c .before .before .before .before .before .before .set22 .ensures) (c .before .before .set23 .ensures)
+    let a = c .before .before .before .before .before .before .before .before .before .before .before .before .before .before .before .before .before .before .before .before .before .before .before .before .before .before .args in
+    head-sets (a .out .now) (a .p) (a .h) (c .before .before .before .before .before .before .before .before .before .before .before .before .before .before .before .before .before .before .before .before .before .before .set2 .ensures) (c .before .before .before .before .before .before .before .before .before .before .before .before .before .before .before .before .before .before .set-flags .ensures) (c .before .before .before .before .before .before .before .before .before .before .before .before .before .before .set4 .ensures) (c .before .before .before .before .before .before .before .before .before .before .set42 .ensures) (c .before .before .before .before .before .before .set22 .ensures) (c .before .before .set23 .ensures)
 
 pub set-head-spec : {M : Type 1} → statement M
 set-head-spec =
@@ -66,8 +54,8 @@ set-head-spec =
     (tie.spec
     cast-set2
     set2-requires
-    add-out
-    slice-write-out
+    add-set-flags
+    set-flags-requires
     add-set4
     set4-requires
     add-set4-2

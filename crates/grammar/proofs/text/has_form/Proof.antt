@@ -1,18 +1,22 @@
 -- `grammar::text::has_form` meets its contract, form by form.
-use borrow.Author.Tests.{eq-eqb, ne-eqb}
+use mathlib.Core.Path.{sym, _∙_}
+use mathlib.Core.Bool.{true, false}
 use borrow.Author.Needs.{needs}
 use Rattle.definition.specs.Check.{hasForm}
 use Rattle.grammar.specs.Slots.{formAt}
-use Rattle.grammar.proofs.Forms.{form-empty}
+use Rattle.grammar.proofs.Forms.{form-empty, cooked-told}
 use Rattle.grammar.proofs.text.has_form.Statement.{statement}
 use Rattle.grammar.proofs.text.has_form.Tie as tie
 
 is-integer-requires : tie.Need-is-integer-requires
 is-integer-requires c κs = search needs
 
+has-flag-requires : tie.Need-has-flag-requires
+has-flag-requires c κs = search needs
+
 returns : tie.Need-returns
 unfolding formAt hasForm
-returns c = rw (c .before .match .keys5, eq-eqb _ _ (c .if1 .taken))
+returns c = rw (c .before .before .match .keys5, cooked-told (c .before .before .before .before .args .flags) true (sym (c .before .has-flag .ensures) ∙ c .if1 .taken))
 
 returns-2 : tie.Need-returns-2
 unfolding formAt hasForm
@@ -32,7 +36,7 @@ returns-5 c = rw (c .match .keys4)
 
 returns-6 : tie.Need-returns-6
 unfolding formAt hasForm
-returns-6 c = rw (c .before .match .keys5, ne-eqb _ _ (c .if1 .left))
+returns-6 c = rw (c .before .before .match .keys5, cooked-told (c .before .before .before .before .args .flags) false (sym (c .before .has-flag .ensures) ∙ c .if1 .left))
 
 returns-7 : tie.Need-returns-7
 unfolding hasForm
@@ -44,6 +48,7 @@ has-form-spec =
     tie.close
     (tie.spec
     is-integer-requires
+    has-flag-requires
     returns
     returns-2
     returns-3
