@@ -15,7 +15,7 @@ fn main() {
             "cargo::error=there is no {}: run `rt staticlib dts` in the repository's root, or set DTS_LIB_DIR to the folder that has libdts.a",
             library.display()
         );
-        std::process::exit(1);
+        return;
     }
     println!("cargo::rustc-link-search=native={}", folder.display());
     println!("cargo::rustc-link-lib=static=dts");

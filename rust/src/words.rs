@@ -100,3 +100,26 @@ pub(crate) const UNKNOWN: Words = Words {
     place: "",
     remedy: "use the crate and the library of one version",
 };
+
+#[cfg(test)]
+mod tests {
+    use super::*;
+
+    #[test]
+    fn every_row_is_whole() {
+        for (i, words) in REFUSALS.iter().enumerate() {
+            assert!(!words.wrong.is_empty() && !words.remedy.is_empty());
+            assert_eq!(words.place.is_empty(), !(3..=8).contains(&(i + 1)));
+        }
+        for words in DIAGNOSTICS {
+            assert!(!words.wrong.is_empty() && !words.place.is_empty() && !words.remedy.is_empty());
+        }
+    }
+
+    #[test]
+    fn the_example_in_c_says_the_same() {
+        let example = include_str!("../../examples/call.c");
+        let lines: String = DIAGNOSTICS.iter().map(|words| format!("    \"{}\",\n", words.wrong)).collect();
+        assert!(example.contains(&lines));
+    }
+}
