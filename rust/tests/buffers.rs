@@ -83,3 +83,13 @@ fn calls_at_the_same_time() {
         }
     });
 }
+
+/// 64 levels behind many imports, in a thread with a small stack.
+#[test]
+fn a_small_stack() {
+    let deep = (0..61).fold(leaf("Oe"), |inner, _| node("Ar", [inner]));
+    let tree = module(std::iter::repeat_n(leaf("Im"), 33_000).chain([default(deep)]));
+    let call = move || transform(&tree, &[], 1).map(|made| made.diagnostics().len());
+    let thread = std::thread::Builder::new().stack_size(512 << 10).spawn(call).unwrap();
+    assert_eq!(thread.join().unwrap(), Ok(1));
+}
