@@ -1,35 +1,61 @@
 /* The exported call from C: the declarations of the module whose tree stands in standard input, with an empty overload list and the unresolved
-   context 1. Prints what the program `declares` prints.
+   context 1. Prints what the program `declares` prints, and behind each diagnostic what it means.
 
        rt staticlib dts
        cc -Iinclude examples/call.c target/staticlib/libdts.a -o call
        ./call < crates/declares/stdin
 */
 #include "dts.h"
+#include <inttypes.h>
 #include <stdio.h>
+#include <stdlib.h>
 
-static uint8_t tree[32769], out[65536], diagnostics[21840];
+/* d1 to d5 */
+static const char *const words[] = {
+    "no type can be inferred from an expression or a declaration",
+    "no type can be inferred, so it is `any`",
+    "no type can be inferred from a property, so the object's type is without it",
+    "no type can be inferred from a spread: an object's type is without it, and an array has no type",
+    "no type can be inferred from `using`, so the declaration goes",
+};
 
-static unsigned long u32_at(const uint8_t *bytes) {
-    return bytes[0] | (unsigned long)bytes[1] << 8 | (unsigned long)bytes[2] << 16 | (unsigned long)bytes[3] << 24;
+/* a byte more than the longest tree, so that a longer one is refused */
+static uint8_t tree[524289];
+
+/* a record has at least 15 bytes, and there are never more diagnostics than records */
+static uint8_t diagnostics[sizeof tree / 15 * 10];
+
+static uint32_t u32_at(const uint8_t *bytes) {
+    return bytes[0] | (uint32_t)bytes[1] << 8 | (uint32_t)bytes[2] << 16 | (uint32_t)bytes[3] << 24;
 }
 
 int main(void) {
     size_t length = fread(tree, 1, sizeof tree, stdin);
-    if (length == sizeof tree) {
-        puts("too long");
-        return 0;
-    }
+    uint8_t *out = NULL;
     uint64_t answer[2];
-    uint32_t number = dts_transform(tree, length, (const uint8_t *)"", 0, 1, out, sizeof out, diagnostics, sizeof diagnostics, answer);
+    uint32_t number = 9;
+    /* Few outputs are twice as long as their tree, and none is 16 times as long: if 9 is said of that too, a key is longer than 65,531 bytes, and
+       no buffer is long enough. */
+    for (size_t times = 2; number == 9 && times <= 16; times *= 8) {
+        size_t out_length = times * length + 64;
+        free(out);
+        out = malloc(out_length);
+        if (out == NULL) {
+            fputs("no memory\n", stderr);
+            return 1;
+        }
+        number = dts_transform(tree, length, (const uint8_t *)"", 0, 1, out, out_length, diagnostics, sizeof diagnostics, answer);
+    }
     if (number != 0) {
-        printf("refused %u at %llu\n", number, (unsigned long long)answer[0]);
-        return 0;
+        printf("refused %" PRIu32 " at %" PRIu64 "\n", number, answer[0]);
+    } else {
+        /* the declarations are the first answer[0] bytes of `out` */
+        printf("ok %" PRIu64 " %" PRIu64 "\n", answer[0], answer[1]);
+        for (uint64_t i = 0; i < answer[1]; i++) {
+            const uint8_t *d = diagnostics + 10 * i;
+            printf("%c %" PRIu32 " %" PRIu32 ": %s\n", d[1], u32_at(d + 2), u32_at(d + 6), words[d[1] - '1']);
+        }
     }
-    printf("ok %llu %llu\n", (unsigned long long)answer[0], (unsigned long long)answer[1]);
-    for (uint64_t i = 0; i < answer[1]; i++) {
-        const uint8_t *d = diagnostics + 10 * i;
-        printf("%c %lu %lu\n", d[1], u32_at(d + 2), u32_at(d + 6));
-    }
+    free(out);
     return 0;
 }

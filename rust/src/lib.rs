@@ -1,0 +1,143 @@
+//! The proved declaration transform, as a safe call.
+//!
+//! A module goes in as a tree of flat records, and its declarations come out as such a tree, with the diagnostics of
+//! what could not be typed: [`transform`]. The work is done by the static library that `rt staticlib dts` proves and
+//! writes; this crate calls it, finds the sizes of its buffers, and reads what it wrote without a copy.
+#![deny(unsafe_code, unsafe_op_in_unsafe_fn)]
+#![warn(missing_docs)]
+
+mod declarations;
+mod record;
+mod refused;
+mod sys;
+mod words;
+
+pub use declarations::{Code, Declarations, Diagnostic};
+pub use record::{Children, Record};
+pub use refused::{Refusal, Refused};
+pub use words::Words;
+
+use declarations::DIAGNOSTIC;
+
+/// The longest tree, in bytes: a longer one is refusal 1.
+pub const LONGEST_TREE: usize = 524_288;
+
+/// A buffer of this many times the tree's length holds every output of it: counted by hand over the definition, and no
+/// theorem. If the count were wrong, a tree could be refused with 9 that has declarations; nothing else would happen.
+///
+/// A record takes 15 bytes and its text. What is written for it takes at most 133 bytes (for an `Xe`: a declared const
+/// without its type, and the `Xe` of its name) and its text at most twice (the `Id` of an `Sh`). So no output is 9
+/// times as long as its tree; the longest known, of many `Xe` over a `Re`, is 6.3 times as long. The rest is slack.
+const MOST_OUTPUT: usize = 16;
+
+/// How long a record is at least; there are never more diagnostics than records.
+const LEAST_RECORD: usize = 15;
+
+/// The declarations of a module, and the diagnostics of what could not be typed.
+///
+/// `list` has the ranges of the overloads' implementations, 10 bytes each: `ov`, start and end. `unresolved_context` is
+/// the context of the names that no scope declares.
+///
+/// ```
+/// // `export default [];`
+/// let tree = b"Mo\0\0\0\0\0\x12\0\0\0\0\0\x01\0\
+///     Xe\0\0\0\0\0\x12\0\0\0\0\0\x01\0\
+///     Ar\0\x0f\0\0\0\x11\0\0\0\0\0\0\0";
+/// let declarations = vatnext_dts::transform(tree, &[], 1)?;
+///
+/// // `declare const _dts_1: readonly []; export default _dts_1;`
+/// let marks: Vec<_> = declarations.root().children().map(|item| item.mark()).collect();
+/// assert_eq!(marks, [*b"Vd", *b"Xe"]);
+/// assert_eq!(declarations.as_bytes().len(), 170);
+/// assert_eq!(declarations.diagnostics().len(), 0);
+/// # Ok::<(), vatnext_dts::Refused>(())
+/// ```
+///
+/// # Buffers
+///
+/// The first call has room for an output of twice the tree's length and for few diagnostics, which most modules fit. A
+/// buffer that is too short gets the most that any output or diagnostics of such a tree need, and the call is made
+/// again: so there are three calls at most, and no more than 10 MB of buffers.
+///
+/// # Stack
+///
+/// `bench/src/bin/stack.rs` measures what a call takes on trees of 64 levels, and holds it to 512 KiB.
+///
+/// # Errors
+///
+/// Refusals 1 to 8 say what is wrong with the tree or the list. [`Refusal::OutputFull`] says that the output has a text
+/// that no head can hold: a key of more than 65,531 bytes in an object's type. The library says it then of every buffer;
+/// so it is taken for an answer once it is said of one that every output fits.
+pub fn transform(tree: &[u8], list: &[u8], unresolved_context: u32) -> Result<Declarations, Refused> {
+    // of a longer tree nothing is written
+    let length = tree.len().min(LONGEST_TREE);
+    let most_output = MOST_OUTPUT * length;
+    let most_diagnostics = DIAGNOSTIC * (length / LEAST_RECORD);
+    let mut out = vec![0; (2 * length + 256).min(most_output)];
+    let mut diagnostics = vec![0; (DIAGNOSTIC * 16).min(most_diagnostics)];
+    loop {
+        match transform_into(tree, list, unresolved_context, &mut out, &mut diagnostics) {
+            Ok((bytes, count)) => {
+                out.truncate(bytes);
+                out.shrink_to_fit();
+                diagnostics.truncate(DIAGNOSTIC * count);
+                diagnostics.shrink_to_fit();
+                let tree = out;
+                return Ok(Declarations { tree, diagnostics });
+            }
+            // each at most once: then the buffer has its most
+            Err(Refused { refusal: Refusal::OutputFull, .. }) if out.len() < most_output => {
+                out = vec![0; most_output];
+            }
+            Err(Refused { refusal: Refusal::DiagnosticsFull, .. }) if diagnostics.len() < most_diagnostics => {
+                diagnostics = vec![0; most_diagnostics];
+            }
+            Err(refused) => return Err(refused),
+        }
+    }
+}
+
+/// The same into buffers of the caller's: how many bytes of declarations stand at the start of `out`, and how many
+/// diagnostics of 10 bytes at the start of `diagnostics`. Every byte beyond is as it was.
+///
+/// # Errors
+///
+/// All refusals; both buffers then hold what they held before.
+pub fn transform_into(
+    tree: &[u8],
+    list: &[u8],
+    unresolved_context: u32,
+    out: &mut [u8],
+    diagnostics: &mut [u8],
+) -> Result<(usize, usize), Refused> {
+    let (number, answer) = sys::transform(tree, list, unresolved_context, out, diagnostics);
+    done(number, answer)
+}
+
+/// Whether a tree and an overload list are accepted.
+///
+/// # Errors
+///
+/// Refusals 1 to 8.
+///
+/// ```
+/// use vatnext_dts::{Refusal, check};
+///
+/// let module = b"Mo\0\0\0\0\0\0\0\0\0\0\0\0\0";
+/// assert!(check(module, &[]).is_ok());
+/// let refused = check(&module[..14], &[]).unwrap_err();
+/// assert_eq!((refused.refusal, refused.place), (Refusal::CutShort, 0));
+/// ```
+pub fn check(tree: &[u8], list: &[u8]) -> Result<(), Refused> {
+    let (number, answer) = sys::check(tree, list);
+    done(number, answer).map(|_| ())
+}
+
+/// A C function's answer: two numbers, each a length, a count or a place within the caller's memory; or a refusal.
+fn done(number: u32, answer: [u64; 2]) -> Result<(usize, usize), Refused> {
+    let [first, second] = answer.map(|value| value as usize);
+    match number {
+        0 => Ok((first, second)),
+        _ => Err(Refused { refusal: Refusal::from_number(number), place: first }),
+    }
+}
