@@ -1,8 +1,6 @@
 import { held } from "./held.ts";
 export * from "./hall.ts";
-export interface Guest {
-  name: string;
-}
+export interface Guest { name: string; }
 export type Seat = number;
 open(held);
 export { held };
