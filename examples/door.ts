@@ -1,0 +1,2 @@
+export using door = unlock();
+using window = unlock();

@@ -1,0 +1,2 @@
+export const greeting = `Hello ${guest}`;
+export const fixed = `Hello` as const;

@@ -1,0 +1,3 @@
+const first: string[] = ["Ada"];
+export const all = [...first, "Grace", ...[1, 2]];
+export const more = [...others(), "Grace"];

@@ -1,0 +1,4 @@
+export namespace hall.left {
+  export const rows = 12;
+  fill(rows);
+}

@@ -1,0 +1,7 @@
+import { held } from "./held.ts";
+export * from "./hall.ts";
+export interface Guest { name: string; }
+export type Seat = number;
+open(held);
+export { held };
+export default held;

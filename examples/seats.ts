@@ -1,0 +1,1 @@
+export const seats = { confirmed: 0, ...held };

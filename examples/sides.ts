@@ -1,0 +1,1 @@
+export const sides = ["left", -2, true, undefined] as const;
