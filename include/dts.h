@@ -1,8 +1,9 @@
 /* Declaration trees: the proved declaration transform, for C.
 
-   Link libdts.a, which `rt staticlib dts` proves and writes. A module is a tree of flat records (document 01); an overload list holds entries of
+   Link libdts.a, which `rt staticlib dts` proves and writes. A module is a tree of flat records (docs/FORMAT.md); an overload list holds entries of
    10 bytes. Each function takes any bytes, lists, numbers and lengths: nothing has to be tested first, but memory has to be there for as many
-   bytes as a length says (a pointer with length 0 may point anywhere, but not be null).
+   bytes as a length says (a pointer with length 0 may point anywhere, but not be null), and what is lent to be written must not overlap
+   anything else that is lent. A call takes less than 512 KiB of stack.
 
    Each function returns 0, or the number of a refusal, with its place in answer[0] and 0 in answer[1]; what is lent to be written then holds what it
    held before:
@@ -15,7 +16,9 @@
      5  a mark that its slot doesn't allow, a wrong form of
         text, or too few children
 
-   The place is the record's offset for 3 to 7, that of the first extra byte for 8, else 0. */
+   The place is the record's offset for 3 to 7, that of the first extra byte for 8, else 0. A 9 has one other reason: a key of more than 65,531 bytes,
+   of which an `Id` would be made whose text no head can hold. Then no buffer is long enough, so don't grow one without end: no output of 16 times
+   the tree's length is known. */
 #ifndef DTS_H
 #define DTS_H
 
