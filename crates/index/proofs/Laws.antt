@@ -530,9 +530,6 @@ module _ {s a : List ℕ} {n : ℕ} (o : Sorted s a n) where
     missing = λ t m q. g .missing t (λ k h e. m k (omega (arith, length-take-le n a (o .room))) (rw (getD-take n a k 0 h) e)) q;
   }
 
-pub answers-eq : {s a : List ℕ} {n : ℕ} {F G : Question → List ℕ → Bool} → ((q : Question) (t : List ℕ) → G q t ≡ F q t) → Answers s a n F → Answers s a n G
-answers-eq same g = record { found = λ k h q. same q _ ∙ g .found k h q; missing = λ t m q. same q t ∙ g .missing t m q }
-
 -- ---- the part of a table from an entry on, lent to a call
 
 -- as the code lends it

@@ -65,9 +65,6 @@ module _ {levels : ℕ} {s : List ℕ} {at : ℕ} (a : AcceptedAt levels s at) w
 -- ---- what is entered
 
 module _ {s a : List ℕ} {e : Entries} {at : ℕ} (r : Room s a e at) where
-  pub room-sorted : Sorted s (entriesOf a e) (e .count)
-  room-sorted = r .sorted
-
   -- there is room for one more
   pub room-one : at + declarationSize ≤ length s → (0 < e .from) × (e .from + e .count < length a)
   room-one h =
