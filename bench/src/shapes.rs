@@ -56,8 +56,28 @@ pub fn unlisted(bytes: usize) -> (Vec<u8>, Vec<u8>) {
     (record("Mo", &[], &fill(bytes - 60, |number| function(&numbered(number)))), (1..=4096).flat_map(entry).collect())
 }
 
-/// The shapes in which each name is a question about the module: each a module of at most so many bytes, and nearly as many.
-pub fn shapes(bytes: usize) -> Vec<(&'static str, Vec<u8>)> {
+/// Numbers in no order, other ones for each seed.
+fn numbers(seed: u64) -> impl FnMut() -> usize {
+    let mut state = 2 * seed + 1;
+    move || {
+        state = state.wrapping_mul(6_364_136_223_846_793_005).wrapping_add(1_442_695_040_888_963_407);
+        (state >> 33) as usize
+    }
+}
+
+/// The numbers below `count` in no order.
+fn shuffled(count: usize, seed: u64) -> Vec<usize> {
+    let mut order: Vec<usize> = (0..count).collect();
+    let mut next = numbers(seed);
+    for last in (1..count).rev() {
+        order.swap(last, next() % (last + 1));
+    }
+    order
+}
+
+/// The shapes in which each name is a question about the module: each a module of at most so many bytes, and nearly as many. Names that are asked in
+/// no order are asked in another one for each seed.
+pub fn shapes(bytes: usize, seed: u64) -> Vec<(&'static str, Vec<u8>)> {
     let half = bytes / 2 - 60;
     let with_default = |mut items: Vec<Vec<u8>>, mark: &str, parts: Vec<Vec<u8>>| {
         items.push(record("Xe", &[], &[record(mark, &[], &parts)]));
@@ -67,9 +87,14 @@ pub fn shapes(bytes: usize) -> Vec<(&'static str, Vec<u8>)> {
     let functions = |symbol: &dyn Fn(usize) -> String| fill(half, |number| function(&symbol(number)));
     let count = functions(&numbered).len();
     let falling = |number: usize| numbered(count - 1 - number);
+    let order = shuffled(count, seed);
+    let mixed = |number: usize| numbered(order[number]);
     let same = |_: usize| numbered(0);
     // The names of the functions, each asked several times and not in their order.
-    let asked = || fill(half, |number| name(&numbered(number * 7919 % count)));
+    let asked = || {
+        let mut next = numbers(seed + 1_000_000);
+        fill(half, |number| name(&numbered(number))).iter().map(|_| name(&numbered(next() % count))).collect()
+    };
     let whole = |items: Vec<Vec<u8>>| record("Mo", &[], &items);
     let full = bytes - 60;
     vec![
@@ -79,6 +104,7 @@ pub fn shapes(bytes: usize) -> Vec<(&'static str, Vec<u8>)> {
         ("imports and an object of shorthands", with_default(imports(), "Ob", fill(half, |n| record("Sh", &[], &[name(&numbered(n))])))),
         ("functions with rising names, and an array of names", with_default(functions(&numbered), "Ar", asked())),
         ("functions with falling names, and an array of names", with_default(functions(&falling), "Ar", asked())),
+        ("functions with names in no order, and an array of names", with_default(functions(&mixed), "Ar", asked())),
         ("functions of one name, and an array of names", with_default(functions(&same), "Ar", asked())),
         ("constants, each with a name", whole(fill(full, |n| constant(&numbered(n + 1), leaf("No"), name(&numbered(n)))))),
         ("constants with falling names, each with a name", whole(fill(full, |n| constant(&numbered(99_998 - n), leaf("No"), name(&numbered(99_999 - n)))))),

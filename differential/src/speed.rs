@@ -105,7 +105,7 @@ pub fn print() {
         line(bytes.len(), found, &format!("a generated module{growth}"));
         before = Some((bytes.len(), found.0));
     }
-    for (shape, bytes) in shapes(LARGEST) {
+    for (shape, bytes) in shapes(LARGEST, 1) {
         line(bytes.len(), beside(&bytes, &[]), shape);
     }
     let (bytes, list) = unlisted(LARGEST);

@@ -7,6 +7,7 @@ ghost use lib.ListN.{length, getD, set, drop};
 ghost use Rattle.definition.specs.Tree.{bodyAt, textAt};
 ghost use Rattle.definition.specs.Record.{sameText};
 ghost use Rattle.index.specs.Index.{farthest, lessText, nameAt, pick, entryOf, joinedOf, Sorted, Lower, Raised, Lowered, Inserted, Enters, entriesOf, Grown, nameIs};
+use records::text::same_front;
 use records::text::same_text;
 use records::text_at;
 
@@ -29,7 +30,7 @@ pub struct Entries {
 fn less_text(a: &[u8], b: &[u8]) -> bool
     ensures { λ r. ⌜ r ≡ lessText (now (a .entry)) (now (b .entry)) ⌝ }
 {
-    let mut i: usize = 0;
+    let mut i = same_front(a, b);
     while i < a.len() {
         if b.len() <= i {
             return false;

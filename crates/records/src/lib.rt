@@ -6,6 +6,7 @@ ghost use lib.Seq.{sets};
 ghost use Rattle.definition.specs.Tree.{flagsSize, headSize, le2, le4, flagBytes, u16At, u32At, markAt, flagsAt, countAt, bodyAt, textAt, endAt};
 ghost use Rattle.definition.specs.Record.{diagBytes};
 ghost use Rattle.records.specs.Fields.{fieldsAt, fieldBytes, rangeAt, diagOf};
+ghost use Rattle.records.specs.Texts.{FourBytes};
 ghost use Rattle.records.specs.Whole.{Whole, partAt};
 ghost use Rattle.records.specs.Wrote.{sat, Put};
 use crate::flags::Flags;
@@ -99,7 +100,7 @@ pub fn u16_at(tree: &[u8], at: usize) -> u16
 // The number in the four bytes at `at`.
 pub fn u32_at(tree: &[u8], at: usize) -> u32
     requires { ⌜ at + 4 ≤ length (now tree) ⌝ }
-    ensures { λ r. ⌜ (r ≡ u32At (now (tree .entry)) at) × (r < 4294967296) ⌝ }
+    ensures { λ r. ⌜ (r ≡ u32At (now (tree .entry)) at) × (r < 4294967296) × FourBytes (now (tree .entry)) at ⌝ }
 {
     wide32(tree[at])
         + 256 * wide32(tree[at + 1])

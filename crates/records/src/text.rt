@@ -5,12 +5,39 @@ ghost use lib.ListN.{length, drop};
 ghost use Rattle.definition.specs.Tree.{lengthAt, bodyAt, textAt, u32At, treeAt};
 ghost use Rattle.definition.specs.Children.{AcceptedAt};
 ghost use Rattle.definition.specs.Record.{sameText};
-ghost use Rattle.records.specs.Texts.{isGlobalName};
+ghost use Rattle.records.specs.Texts.{isGlobalName, SameFour, SameFront};
+ghost use mathlib.Core.Bool.{true};
 use crate::CONTEXT_SIZE;
 use crate::mark_at;
 use crate::marks::ID;
 use crate::text_at;
 use crate::u32_at;
+
+// Whether the four bytes of two texts at i are equal, compared as one number.
+fn same_four(a: &[u8], b: &[u8], i: usize) -> bool
+    requires { ⌜ (i + 4 ≤ length (now a)) × (i + 4 ≤ length (now b)) ⌝ }
+    ensures { λ r. ⌜ (r ≡ true → SameFour (now (a .entry)) (now (b .entry)) i) ⌝ }
+{
+    u32_at(a, i) == u32_at(b, i)
+}
+
+// A place up to which two texts are equal, found four bytes at a time: less than four bytes further on they differ, or one of them ends.
+pub fn same_front(a: &[u8], b: &[u8]) -> usize
+    ensures { λ r. ⌜ SameFront (now (a .entry)) (now (b .entry)) r ⌝ }
+{
+    let mut i: usize = 0;
+    while 4 <= a.len() - i {
+        if b.len() - i < 4 {
+            return i;
+        }
+        if same_four(a, b, i) {
+            i += 4;
+        } else {
+            return i;
+        }
+    }
+    i
+}
 
 // Whether two texts are equal.
 pub fn same_text(a: &[u8], b: &[u8]) -> bool
@@ -19,7 +46,7 @@ pub fn same_text(a: &[u8], b: &[u8]) -> bool
     if a.len() != b.len() {
         return false;
     }
-    let mut i: usize = 0;
+    let mut i = same_front(a, b);
     while i < a.len() {
         if a[i] != b[i] {
             return false;

@@ -1,9 +1,11 @@
 -- `index::less_text` meets its contract: up to the place i the two texts are equal.
 use native.Mathlib.Omega.{arith}
-use mathlib.Core.Path.{_≡_, refl, sym, _∙_}
+use mathlib.Core.Path.{_≡_, sym, _∙_}
+use borrow.Author.Needs.{needs}
 use Prim.Native.Nat.{_-_, _≤_}
 use lib.ListN.{length, drop}
 use Rattle.index.specs.Index.{lessText}
+use Rattle.records.proofs.Texts.{front-passed}
 use Rattle.index.proofs.Laws.{less-short, less-on, less-off, less-end}
 use Rattle.index.proofs.less_text.Statement.{statement}
 use Rattle.index.proofs.less_text.Tie as tie
@@ -14,8 +16,11 @@ Inv-loop a b i₀ i = (i ≤ length a) × (i ≤ length b) × (lessText a b ≡ 
 abbrev μ-loop : tie.MeasureT-loop
 μ-loop a b i₀ i = length a - i
 
+same-front-requires : tie.Need-same-front-requires Inv-loop μ-loop
+same-front-requires c κs = search needs
+
 loop-holds : tie.Need-loop-holds Inv-loop μ-loop
-loop-holds c = (omega arith, omega arith, refl)
+loop-holds c = (c .same-front .ensures .left, c .same-front .ensures .right, front-passed lessText (less-on _ _) _ (c .same-front .ensures))
 
 returns : tie.Need-returns Inv-loop μ-loop
 returns c = sym (c .before .before .loop .inv .2 ∙ less-short _ _ (c .before .before .loop .i) (c .before .loop-test .taken) (c .if1 .taken))
@@ -53,6 +58,7 @@ less-text-spec =
     (tie.spec
     Inv-loop
     μ-loop
+    same-front-requires
     loop-holds
     returns
     shared-slice-read-if2

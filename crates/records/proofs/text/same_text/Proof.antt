@@ -1,10 +1,11 @@
 -- `records::text::same_text` meets its contract: up to the place i the two texts, of one length, are equal.
-use mathlib.Core.Path.{_≡_, refl, sym, _∙_}
+use mathlib.Core.Path.{_≡_, sym, _∙_}
+use borrow.Author.Needs.{needs}
 use Prim.Native.Nat.{_-_, _≤_}
 use native.Mathlib.Omega.{arith}
 use lib.ListN.{length, drop}
 use Rattle.definition.specs.Record.{sameText}
-use Rattle.records.proofs.Texts.{same-longer, same-on, same-off, same-end}
+use Rattle.records.proofs.Texts.{front-passed, same-longer, same-on, same-off, same-end}
 use Rattle.records.proofs.text.same_text.Statement.{statement}
 use Rattle.records.proofs.text.same_text.Tie as tie
 
@@ -17,8 +18,11 @@ abbrev μ-loop : tie.MeasureT-loop
 returns : tie.Need-returns Inv-loop μ-loop
 returns c = sym (same-longer _ _ (c .if1 .taken))
 
+same-front-requires : tie.Need-same-front-requires Inv-loop μ-loop
+same-front-requires c κs = search needs
+
 loop-holds : tie.Need-loop-holds Inv-loop μ-loop
-loop-holds c = (omega arith, c .if1 .left, refl)
+loop-holds c = (c .same-front .ensures .left, c .before .if1 .left, front-passed sameText (λ j h k e. same-on _ _ j h (c .before .if1 .left) e) _ (c .same-front .ensures))
 
 shared-slice-read-if2 : tie.Need-shared-slice-read-if2 Inv-loop μ-loop
 shared-slice-read-if2 c = omega arith
@@ -48,6 +52,7 @@ same-text-spec =
     Inv-loop
     μ-loop
     returns
+    same-front-requires
     loop-holds
     shared-slice-read-if2
     shared-slice-read-if2-2
