@@ -3,7 +3,7 @@ use mathlib.Core.Path.{_≡_, refl, sym, ap, _∙_}
 use mathlib.Core.List.{List}
 use mathlib.Core.Bool.{Bool, true, false, _&&_, _||_}
 use mathlib.Core.Logic.{_⊎_, ⊎-elim}
-use Prim.Native.Nat.{ℕ, zero, suc, _+_, _*_, _-_, _/_, _<_, _≤_}
+use Prim.Native.Nat.{ℕ, _+_, _*_, _-_, _/_, _<_, _≤_}
 use native.Mathlib.Omega.{arith}
 use lib.ListN.{length, getD, take, drop, length-drop}
 use Rattle.definition.specs.Tree.{Rec, Recs, nil, cons, headSize, markAt, countAt, textAt, bodyAt, endOfAll, endAt, treeAt}
@@ -13,7 +13,7 @@ use Rattle.definition.specs.Children.{AcceptedAt, AllAccepted}
 use Rattle.definition.specs.Record.{sameText, kidsOf}
 use Rattle.definition.specs.Prescan.{Question, Question.typeofSafe, Question.nonGenericClass, Question.arrayTyped, addFn, addClass, addConst, addDeclarator, addDeclarators, addDecl, addItem, asked}
 use Rattle.definition.proofs.Kids.{fixed, Child, member-one, placed, first-in, second-in, id-text}
-use Rattle.definition.proofs.Children.{children, first-one, others, endOfAll-more, endOfAll-none, end-after, end-is}
+use Rattle.definition.proofs.Children.{children, others, all-after, endOfAll-more, endOfAll-none, end-after, end-is}
 use Rattle.definition.proofs.Walk.{Left, left-kids, left-turn, left-done}
 use Rattle.index.specs.declared.Entries.{Entries}
 use Rattle.index.specs.Index.{farthest, Sorted, Enters, Grown, entriesOf, Lower, nameIs, bitOf, pick}
@@ -23,25 +23,15 @@ use Rattle.prescan.proofs.Laws.{Fn, Class, named-is, named-other, fn-by
 
 -- ---- where records end
 
--- records that stand one after the other end behind the place where they begin
-rising : (levels : ℕ) (s : List ℕ) (n c : ℕ) → AllAccepted levels s n c → c ≤ endOfAll (endAt levels s) n c
-unfolding endOfAll
-rising levels s zero c a = omega arith
-rising levels s (suc n) c a =
-    let z : suc n - 1 ≡ n = omega arith in
-    let h = end-after levels s c (first-one levels s (suc n) c a (omega arith)) in
-    let r = rising levels s n (endAt levels s c) (rw z at (others levels s (suc n) c a (omega arith))) in
-    omega arith
-
--- the first of them ends before the last
+-- the first of some records ends before the last
 one-ends : (levels : ℕ) (s : List ℕ) (n c : ℕ) → AllAccepted levels s n c → 0 < n → endAt levels s c ≤ endOfAll (endAt levels s) n c
 one-ends levels s n c a h =
-    let r = rising levels s (n - 1) (endAt levels s c) (others levels s n c a h) in
+    let r = all-after levels s (n - 1) (endAt levels s c) (n - 1) (others levels s n c a h) (omega arith) in
     omega (arith, endOfAll-more (endAt levels s) n c h)
 
 module _ {levels : ℕ} {s : List ℕ} {at : ℕ} (a : AcceptedAt levels s at) where
   pub body-ends : bodyAt s at ≤ endAt levels s at
-  body-ends = omega (arith, end-is levels s at a, rising (levels - 1) s (countAt s at) (bodyAt s at) (children levels s at a))
+  body-ends = omega (arith, end-is levels s at a, all-after (levels - 1) s (countAt s at) (bodyAt s at) (countAt s at) (children levels s at a) (omega arith))
 
   -- a record ends behind its first child, and behind its second
   pub first-ends : 0 < countAt s at → {p : ℕ} → p ≡ bodyAt s at → endAt (levels - 1) s p ≤ endAt levels s at
