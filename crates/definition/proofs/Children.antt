@@ -123,6 +123,14 @@ unfolding endOfAll
 endOfAll-none end zero at h = refl
 endOfAll-none end (suc n) at h = absurd (omega arith)
 
+-- the first i of them end behind the place where they begin
+pub all-after : (levels : ℕ) (s : List ℕ) (n c i : ℕ) → AllAccepted levels s n c → i ≤ n → c ≤ endOfAll (endAt levels s) i c
+unfolding endOfAll
+all-after levels s n c zero a h = omega arith
+all-after levels s n c (suc i) a h =
+    let f = end-after levels s c (first-one levels s n c a (omega arith)) in
+    omega (arith, f, all-after levels s (n - 1) (endAt levels s c) i (others levels s n c a (omega arith)) (omega arith))
+
 -- the first two children
 pub child-0 : (levels : ℕ) (s : List ℕ) (at : ℕ) → childAt levels s at 0 ≡ bodyAt s at
 unfolding endOfAll

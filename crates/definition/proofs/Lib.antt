@@ -5,6 +5,7 @@ pub mod Accepted
 pub mod Converse
 pub mod Children
 pub mod Kids
+pub mod Walk
 pub mod Counting
 pub mod CountingItems
 pub mod Silence

@@ -3,11 +3,10 @@ use mathlib.Core.Path.{_≡_, sym, ap, _∙_}
 use mathlib.Core.List.{List, [], _∷_}
 use Prim.Native.Nat.{ℕ, _-_, _≤_, _<_}
 use native.Mathlib.Omega.{arith}
-use lib.ListN.{length}
 use Rattle.definition.specs.Tree.{Head, Rec, Recs, rec, cons, markAt, bodyAt, headAt, endAt, treeAt}
 use Rattle.definition.specs.Grammar.{mark}
 use Rattle.definition.specs.Children.{AcceptedAt}
-use Rattle.definition.specs.Record.{headOf, kidsOf, is, dummySp, kid, setKid, gone, Out, Typing, pure, onValue, wrap, single, each, atKid}
+use Rattle.definition.specs.Record.{headOf, kidsOf, is, dummySp, kid, setKid, gone, Out, Typing, pure, onValue, wrap, atKid}
 use Rattle.definition.specs.Helpers.{anyTypeAnn}
 use Rattle.definition.specs.Typing.{orAny}
 use Rattle.definition.specs.Classes.{typeOr}
@@ -28,11 +27,11 @@ use Rattle.typing.proofs.Steps.{filled}
 use Rattle.typing.proofs.Written.{puts-counter}
 use Rattle.parts.specs.declared.frame.Frame.{Frame}
 use Rattle.parts.specs.Frame.{leftOf, nextOf, Begun, Passed, Kept}
-use Rattle.parts.specs.Makes.{Keeps, KeepsAll, Makes, MakesAll}
-use Rattle.parts.proofs.Each.{each-flat, Making, remaining, making-start, making-first, making-turn, making-done, making-out, making-diagnostics}
+use Rattle.parts.specs.Makes.{Keeps, KeepsAll, Makes}
+use Rattle.parts.proofs.Each.{Eaching, eaching-turn}
 use Rattle.parts.proofs.Framing.{rest-done, rest-kept, rest-framed, done-step, done-framed, two-kids, makes-second}
 use Rattle.parts.proofs.Kids.{Two, kids-two}
-use Rattle.parts.proofs.Makes.{makes-as, makes-keeps, makes-mark, all-as, all-one-is}
+use Rattle.parts.proofs.Makes.{makes-as, makes-keeps, makes-mark}
 use Rattle.classes.specs.Typings.{typingOf, ReadyAll}
 use Rattle.items.specs.Steps.{recordsAt, readonlyMode, patternOf}
 
@@ -141,39 +140,10 @@ declarator-made tree scope {levels} {at} m {s = s} {f1 = f1} {f2 = f2} b w p k z
 
 -- ---- the declarators, one after the other
 
--- a declarator as the only record
-abbrev pub declaratorStep : List ℕ → Scope → Rec → ℕ → Out Recs
-declaratorStep tree scope r n = single (declarator (typingOf tree scope) r n)
-
-module _ (tree : List ℕ) (scope : Scope) (levels : ℕ) where
-  declarators-are : (n at m : ℕ) → remaining (declaratorStep tree scope) levels tree n at m ≡ each (λ i. declarator (typingOf tree scope)) 0 (recordsAt levels tree n at) m
-  declarators-are n at m = sym (each-flat (declarator (typingOf tree scope)) 0 (recordsAt levels tree n at) m)
-
-  -- the loop: k are left from c on, of the n from `at` on
-  abbrev pub Declaring : ℕ → ℕ → List ℕ → List ℕ → List ℕ → List ℕ → State → State → ℕ → ℕ → Type 0
-  Declaring n at o0 o g0 g s0 s k c = Making (declaratorStep tree scope) levels tree (remaining (declaratorStep tree scope) levels tree n at (s0 .counter)) o0 o g0 g s0 s k c
-
-  pub declaring-start : (o g : List ℕ) (s : State) {n at : ℕ} {index : List ℕ} → ReadyAll levels tree n at (s .counter) index → s .written ≤ highest → s .reported ≤ highest → Declaring n at o o g g s s n at
-  declaring-start o g s r h k = making-start (declaratorStep tree scope) levels tree o g s (r .accepted) (r .low) h k
-
-  module _ (n at : ℕ) {o0 o g0 g : List ℕ} {s0 s : State} {k c : ℕ} (l : Declaring n at o0 o g0 g s0 s k c) where
-    pub declaring-first : 0 < k → AcceptedAt levels tree c
-    declaring-first h = making-first (declaratorStep tree scope) levels tree l h
-
-    pub declaring-turn : 0 < k → {o' g' : List ℕ} {s' : State} → Makes o o' g g' s s' (declarator (typingOf tree scope) (treeAt levels tree c) (s .counter)) → {d : ℕ} → d ≡ endAt levels tree c
-        → Declaring n at o0 o' g0 g' s0 s' (k - 1) d
-    declaring-turn h w e =
-        rw e
-        (making-turn (declaratorStep tree scope) levels tree l h (declarator-within (typingOf tree scope) (exprToTsType-within (idsOf tree) (scope .unresolved)) (treeAt levels tree c) (s .counter) .high) (all-one-is w))
-
-    pub declaring-done : k ≤ 0 → MakesAll o0 o g0 g s0 s (each (λ i. declarator (typingOf tree scope)) 0 (recordsAt levels tree n at) (s0 .counter))
-    declaring-done h = all-as (making-done (declaratorStep tree scope) levels tree l h) (declarators-are n at (s0 .counter))
-
-    pub declaring-out : length o ≡ length o0
-    declaring-out = making-out (declaratorStep tree scope) levels tree l
-
-    pub declaring-diagnostics : length g ≡ length g0
-    declaring-diagnostics = making-diagnostics (declaratorStep tree scope) levels tree l
+pub declaring-turn : (scope : Scope) (n at : ℕ) {levels : ℕ} {tree o0 o g0 g : List ℕ} {s0 s : State} {k c : ℕ} → Eaching (declarator (typingOf tree scope)) levels tree n at o0 o g0 g s0 s k c → 0 < k → {o' g' : List ℕ} {s' : State}
+    → Makes o o' g g' s s' (declarator (typingOf tree scope) (treeAt levels tree c) (s .counter)) → {d : ℕ} → d ≡ endAt levels tree c → Eaching (declarator (typingOf tree scope)) levels tree n at o0 o' g0 g' s0 s' (k - 1) d
+declaring-turn scope n at {levels} {tree} {s = s} {c = c} l h w e =
+    eaching-turn (declarator (typingOf tree scope)) levels tree n at l h (declarator-within (typingOf tree scope) (exprToTsType-within (idsOf tree) (scope .unresolved)) (treeAt levels tree c) (s .counter) .high) w e
 
 -- what is asked of one of them, and of the children of a record
 pub one-ready : {levels : ℕ} {tree : List ℕ} {n at m : ℕ} {index : List ℕ} → ReadyAll levels tree n at m index → {c k : ℕ} → AcceptedAt levels tree c → k ≤ c → Ready levels tree c k index

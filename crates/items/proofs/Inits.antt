@@ -1,34 +1,23 @@
 -- Enum members: the arms of `validEnumInitExpr` from the mark at an offset, the loop over a template's expressions, and the members that are written.
-use mathlib.Core.Path.{_≡_, refl, sym, ap, _∙_, subst}
-use mathlib.Core.List.{List, _++_}
+use mathlib.Core.Path.{_≡_, refl, sym, ap, _∙_}
+use mathlib.Core.List.{List}
 use mathlib.Core.Bool.{Bool, true, false, not, _&&_, _||_}
 use mathlib.Core.Logic.{_⊎_, inl, inr, ⊎-elim}
-use Prim.Native.Nat.{ℕ, _+_, _-_, _≤_, _<_, _^_}
+use Prim.Native.Nat.{ℕ, _-_, _≤_}
 use native.Mathlib.Omega.{arith}
 use lib.Dec.{eqb}
-use lib.ListN.{length}
-use lib.Seq.{length-sets}
 use borrow.Author.Tests.{ne-eqb, not-true, not-false}
-use Rattle.definition.specs.Tree.{Head, Rec, Recs, rec, nil, cons, encode, encodes, markAt, countAt, bodyAt, headAt, endAt, treeAt}
+use Rattle.definition.specs.Tree.{Head, Rec, Recs, rec, cons, markAt, countAt, bodyAt, headAt, endAt, treeAt}
 use Rattle.definition.specs.Grammar.{mark, grammar, known, slots, place, least}
-use Rattle.definition.specs.Children.{AcceptedAt, AllAccepted}
-use Rattle.definition.specs.Record.{kidsOf, is, absent, one, join, kid, Out, pure, ifM, second, each}
+use Rattle.definition.specs.Children.{AcceptedAt}
+use Rattle.definition.specs.Record.{kidsOf, is, absent, kid, Out, pure, ifM, second, each}
 use Rattle.definition.specs.Enums.{Init, iBin, iOver, iOptChain, iValid, iTpl, iTyped, iOther, initKind, validEnumTsType, validBy, validEnumInitExpr, validFirst, validBoth, validAll, enumInit, enumMember}
-use Rattle.definition.specs.Transform.{allTextsFit}
-use Rattle.definition.proofs.Children.{tree-is, children, first-one, others, readAll-more, readAll-none}
+use Rattle.definition.proofs.Children.{tree-is}
 use Rattle.definition.proofs.Kids.{is-mark, not-mark, mark-is, kids-are, has}
 use Rattle.records.specs.Whole.{Whole}
-use Rattle.records.specs.Wrote.{highest}
 use Rattle.swc_helpers.proofs.Made.{is-whole}
-use Rattle.typing.specs.declared.State.{State}
-use Rattle.typing.proofs.Fits.{all-join, all-one}
-use Rattle.typing.proofs.Loops.{rest, rest-more, rest-none, join-nil, join-assoc, encodes-join, encodes-one}
-use Rattle.typing.proofs.Written.{puts-counter}
-use Rattle.parts.specs.Makes.{Keeps, KeepsAll}
 use Rattle.parts.proofs.Each.{each-anywhere}
-use Rattle.parts.proofs.Kept.{puts-none, puts-puts, puts-to}
 use Rattle.parts.proofs.Kids.{One, Two, kids-one, kids-two}
-use Rattle.items.specs.Steps.{recordsAt}
 
 -- ---- how many children there are
 
@@ -214,35 +203,9 @@ module _ (levels : ℕ) (s : List ℕ) (at : ℕ) (a : AcceptedAt levels s at) w
 
 -- ---- the expressions of a template
 
--- n children are left from c on, of the record at `at`
-pub record Validating (levels : ℕ) (s : List ℕ) (at n c : ℕ) : Type 0 where
-  pub kids : AllAccepted (levels - 1) s n c
-  pub same : validAll (kidsOf (treeAt levels s at)) ≡ validAll (rest levels s n c)
-
 -- one of them
 abbrev pub validPart : Rec → Bool
 validPart r = (is "Qu" r || is "Op" r) || validEnumInitExpr r
-
-pub validating-start : (levels : ℕ) (s : List ℕ) (at : ℕ) → AcceptedAt levels s at → {n c : ℕ} → n ≡ countAt s at → c ≡ bodyAt s at → Validating levels s at n c
-validating-start levels s at a e f = rw (e, f) (record { kids = children levels s at a; same = ap validAll (kids-are levels s at a) })
-
-module _ {levels : ℕ} {s : List ℕ} {at n c : ℕ} (l : Validating levels s at n c) where
-  pub validating-first : 0 < n → AcceptedAt (levels - 1) s c
-  validating-first h = first-one (levels - 1) s n c (l .kids) h
-
-  validating-both : 0 < n → validAll (kidsOf (treeAt levels s at)) ≡ (validPart (treeAt (levels - 1) s c) && validAll (rest levels s (n - 1) (endAt (levels - 1) s c)))
-  unfolding validAll
-  validating-both h = l .same ∙ ap validAll (rest-more levels s n c h)
-
-  pub validating-stop : 0 < n → {b : Bool} → b ≡ validPart (treeAt (levels - 1) s c) → not b ≡ true → false ≡ validAll (kidsOf (treeAt levels s at))
-  validating-stop h {b} e f = and-stop (validAll (rest levels s (n - 1) (endAt (levels - 1) s c))) (validating-both h) e (not-true b f)
-
-  pub validating-turn : 0 < n → {b : Bool} → b ≡ validPart (treeAt (levels - 1) s c) → not b ≡ false → {d : ℕ} → d ≡ endAt (levels - 1) s c → Validating levels s at (n - 1) d
-  validating-turn h {b} e f g = rw g (record { kids = others (levels - 1) s n c (l .kids) h; same = sym (and-on (validating-both h) e (not-false b f) refl) })
-
-  pub validating-done : n ≤ 0 → true ≡ validAll (kidsOf (treeAt levels s at))
-  unfolding validAll
-  validating-done h = sym (l .same ∙ ap validAll (rest-none levels s n c h))
 
 -- a child of a template that is no expression, or is one
 module _ (levels : ℕ) (s : List ℕ) (at : ℕ) where
@@ -295,52 +258,13 @@ member-silent r n = go (is "Em" r)
 member-counter : (r : Rec) (n : ℕ) → enumMember r n .2 ≡ n
 member-counter r n = ap (λ (o : Out Rec). o .2) (member-silent r n)
 
-abbrev membersOf : Recs → ℕ → Recs
+abbrev pub membersOf : Recs → ℕ → Recs
 membersOf ks n = each (λ i. enumMember) 0 ks n .0
 
-members-cons : (r : Rec) (rs : Recs) (n : ℕ) → membersOf (cons r rs) n ≡ cons (enumMember r n .0) (membersOf rs n)
+-- the first of them, behind the counter m
+pub members-cons : {m n : ℕ} → m ≡ n → (r : Rec) (rs : Recs) → membersOf (cons r rs) n ≡ cons (enumMember r m .0) (membersOf rs n)
 unfolding each
-members-cons r rs n =
-    ap (λ (m : ℕ). cons (enumMember r n .0) (each (λ i. enumMember) 1 rs m .0)) (member-counter r n)
-    ∙ ap (λ (o : Out Recs). cons (enumMember r n .0) (o .0)) (each-anywhere enumMember 1 0 rs n)
-
--- k are left from c on, of the n from `at` on
-pub record Members (levels : ℕ) (tree : List ℕ) (at n : ℕ) (o0 o : List ℕ) (s0 s : State) (k c : ℕ) : Type 0 where
-  pub kids : AllAccepted levels tree k c
-  pub size : length o ≡ length o0
-  pub same : s .counter ≡ s0 .counter
-  pub made : Recs
-  pub sum : membersOf (recordsAt levels tree n at) (s0 .counter) ≡ join made (membersOf (recordsAt levels tree k c) (s0 .counter))
-  pub put : KeepsAll o0 o s0 s made
-
-module _ (levels : ℕ) (tree : List ℕ) (at n : ℕ) where
-  pub members-start : AllAccepted levels tree n at → (o : List ℕ) (s : State) → s .written ≤ highest → Members levels tree at n o o s s n at
-  unfolding encodes allTextsFit
-  members-start a o s h = record { kids = a; size = refl; same = refl; made = nil; sum = refl; put = puts-none o s h }
-
-  module _ {o0 o : List ℕ} {s0 s : State} {k c : ℕ} (l : Members levels tree at n o0 o s0 s k c) where
-    pub members-first : 0 < k → AcceptedAt levels tree c
-    members-first h = first-one levels tree k c (l .kids) h
-
-    pub members-turn : length o0 < 2 ^ 64 → 0 < k → {o' : List ℕ} {s' : State} → Keeps o o' s s' (enumMember (treeAt levels tree c) (s .counter) .0) → {d : ℕ} → d ≡ endAt levels tree c → Members levels tree at n o0 o' s0 s' (k - 1) d
-    members-turn b h {o'} {s'} w e =
-        let t : Rec = enumMember (treeAt levels tree c) (s0 .counter) .0 in
-        let w' : Keeps o o' s s' t = subst (λ (m : ℕ). Keeps o o' s s' (enumMember (treeAt levels tree c) m .0)) (l .same) w in
-        rw e (record {
-          kids = others levels tree k c (l .kids) h;
-          size = ap length (w .put .bytes) ∙ (length-sets o (s .written) (encode (enumMember (treeAt levels tree c) (s .counter) .0)) ∙ l .size);
-          same = puts-counter w ∙ l .same;
-          made = join (l .made) (one t);
-          sum = l .sum ∙ (ap (λ (ks : Recs). join (l .made) (membersOf ks (s0 .counter))) (readAll-more (treeAt levels tree) (endAt levels tree) k c h)
-              ∙ (ap (join (l .made)) (members-cons (treeAt levels tree c) (recordsAt levels tree (k - 1) (endAt levels tree c)) (s0 .counter))
-              ∙ sym (join-assoc (l .made) (one t) (membersOf (recordsAt levels tree (k - 1) (endAt levels tree c)) (s0 .counter)))));
-          put = puts-to (puts-puts b (l .put) w')
-              (ap (λ (E : List ℕ). encodes (l .made) ++ E) (sym (encodes-one t)) ∙ sym (encodes-join (l .made) (one t)))
-              (ap (λ (f : Bool). allTextsFit (l .made) && f) (sym (all-one t)) ∙ sym (all-join (l .made) (one t)));
-        })
-
-    pub members-done : k ≤ 0 → KeepsAll o0 o s0 s (membersOf (recordsAt levels tree n at) (s0 .counter))
-    unfolding each
-    members-done h =
-        subst (λ (ts : Recs). KeepsAll o0 o s0 s ts)
-        (sym (l .sum ∙ (ap (λ (ks : Recs). join (l .made) (membersOf ks (s0 .counter))) (readAll-none (treeAt levels tree) (endAt levels tree) k c h) ∙ join-nil (l .made)))) (l .put)
+members-cons {n = n} e r rs =
+    rw e
+    (ap (λ (m : ℕ). cons (enumMember r n .0) (each (λ i. enumMember) 1 rs m .0)) (member-counter r n)
+    ∙ ap (λ (o : Out Recs). cons (enumMember r n .0) (o .0)) (each-anywhere enumMember 1 0 rs n))

@@ -1,32 +1,25 @@
 -- The items of a module or a namespace: one gives at most two records, and one comes after the other.
-use mathlib.Core.Path.{_≡_, refl, sym, ap, _∙_}
-use mathlib.Core.List.{List, [], append-nil}
+use mathlib.Core.Path.{_≡_, refl, ap}
+use mathlib.Core.List.{List}
 use mathlib.Core.Bool.{Bool, true, false}
 use mathlib.Core.Option.{Option, none, some}
-use Prim.Native.Nat.{ℕ, suc, _+_, _*_, _-_, _≤_, _<_}
+use Prim.Native.Nat.{ℕ, suc, _+_, _-_, _≤_, _<_}
 use native.Mathlib.Omega.{arith}
 use Rattle.definition.specs.Tree.{Head, Rec, Recs, rec, nil, cons, count, endAt, treeAt}
-use Rattle.definition.specs.Children.{AcceptedAt, AllAccepted}
-use Rattle.definition.specs.Record.{markOf, is, kid, one, listed, Out, Typing}
+use Rattle.definition.specs.Record.{markOf, is, kid, one, listed, Out, Typing, flat}
 use Rattle.definition.specs.Items.{Item, iKept, iDropped, iExport, iDefault, iDefaultExpr, iDecl, itemKind, Decl, dClass, dFn, dVar, dEnum, dModule, dUsing, dType, declKind, Default, xClass, xFn, xOther, defaultKind, defaultTyped, exportOf as exportWith, stmtOf as stmtWith, declToTypeDecl, transformModuleStmt, exportDecl, exportDefaultDecl, exportDefaultExpr, itemBy, transformModuleItems, transformModuleItem, exported}
 use Rattle.definition.specs.Counting.{records}
-use Rattle.definition.proofs.Children.{first-one, others, readAll-more, readAll-none}
 use Rattle.definition.proofs.Counting.{exprToTsType-within}
 use Rattle.definition.proofs.CountingItems.{item-within}
-use Rattle.records.specs.Wrote.{highest}
 use Rattle.prescan.specs.declared.Scope.{Scope}
 use Rattle.typing.specs.declared.State.{State}
 use Rattle.typing.specs.declared.Counted.{Counted}
 use Rattle.typing.specs.Did.{idsOf}
 use Rattle.typing.specs.Below.{MakesCounted}
-use Rattle.typing.proofs.Counter.{records-within}
-use Rattle.typing.proofs.Props.{gives-none}
-use Rattle.typing.proofs.Loops.{join-nil, count-join}
 use Rattle.typing.proofs.Whole.{gives-as}
 use Rattle.typing.proofs.Objects.{few-if}
-use Rattle.parts.proofs.Each.{both, both-assoc, gives-all}
-use Rattle.parts.proofs.Makes.{all-join}
-use Rattle.classes.specs.Typings.{typingOf, ReadyAll}
+use Rattle.parts.proofs.Each.{both, remaining, making-done, Numbering, numbering-turn, numbering-count}
+use Rattle.classes.specs.Typings.{typingOf}
 use Rattle.items.specs.Steps.{recordsAt, itemOf, itemsOf}
 
 -- ---- an item gives at most two records
@@ -101,51 +94,30 @@ module _ (list : List ℕ) (ctx : ℕ) (ty : Typing) where
 
 -- ---- the items, one after the other
 
--- k are left from c on, of the n from `at` on, and `many` records were made
-pub record Itemizing (list tree : List ℕ) (scope : Scope) (top : Bool) (levels n at : ℕ) (o0 o g0 g : List ℕ) (s0 s : State) (k c many : ℕ) : Type 0 where
-  pub kids : AllAccepted levels tree k c
-  pub low : s .counter ≤ c
-  pub done : Out Recs
-  pub gives : MakesCounted o0 o g0 g s0 (record { s = s; count = many }) done
-  pub sum : itemsOf list tree scope top (recordsAt levels tree n at) (s0 .counter) ≡ both done (itemsOf list tree scope top (recordsAt levels tree k c) (s .counter))
-  pub few : many + 2 * k < 131072
+module _ (list tree : List ℕ) (scope : Scope) (top : Bool) where
+  items-flat : (ks : Recs) (n : ℕ) → flat (itemOf list tree scope top) ks n ≡ itemsOf list tree scope top ks n
+  unfolding flat transformModuleItems
+  items-flat nil n = refl
+  items-flat (cons r rs) n = ap (both (itemOf list tree scope top r n)) (items-flat rs (itemOf list tree scope top r n .2))
 
-module _ (list tree : List ℕ) (scope : Scope) (top : Bool) (levels n at : ℕ) where
-  pub itemizing-start : (o g : List ℕ) (s : State) → {index : List ℕ} → ReadyAll levels tree n at (s .counter) index → n < 65536 → s .written ≤ highest → s .reported ≤ highest → Itemizing list tree scope top levels n at o o g g s s n at 0
-  itemizing-start o g s r h p d = record { kids = r .accepted; low = r .low; done = (nil, [], s .counter); gives = gives-none o g s p d refl; sum = refl; few = omega arith }
+  -- k are left from c on, of the n from `at` on, and `many` records were made
+  abbrev pub Itemizing : ℕ → ℕ → ℕ → List ℕ → List ℕ → List ℕ → List ℕ → State → State → ℕ → ℕ → ℕ → Type 0
+  Itemizing levels n at o0 o g0 g s0 s k c many = Numbering 0 2 131070 (itemOf list tree scope top) levels tree (remaining (itemOf list tree scope top) levels tree n at (s0 .counter)) o0 o g0 g s0 s k c many
 
-  module _ {o0 o g0 g : List ℕ} {s0 s : State} {k c many : ℕ} (l : Itemizing list tree scope top levels n at o0 o g0 g s0 s k c many) where
-    pub itemizing-first : 0 < k → AcceptedAt levels tree c
-    itemizing-first h = first-one levels tree k c (l .kids) h
+  module _ (levels n at : ℕ) {o0 o g0 g : List ℕ} {s0 s : State} {k c many : ℕ} (l : Itemizing levels n at o0 o g0 g s0 s k c many) where
+    -- one turn gives few
+    pub itemizing-few : count (itemOf list tree scope top (treeAt levels tree c) (s .counter) .0) ≤ 2
+    itemizing-few = few-item list (scope .unresolved) (typingOf tree scope) (treeAt levels tree c) top (s .counter)
 
-    module _ {o' g' : List ℕ} {made : Counted} (w : MakesCounted o o' g g' s made (itemOf list tree scope top (treeAt levels tree c) (s .counter))) where
-      -- the count stays small
-      pub itemizing-more : made .count ≤ 2
-      itemizing-more = omega (arith, few-item list (scope .unresolved) (typingOf tree scope) (treeAt levels tree c) top (s .counter), w .many)
-
-      pub itemizing-turn : {end : ℕ} → 0 < k → end ≡ endAt levels tree c → Itemizing list tree scope top levels n at o0 o' g0 g' s0 (made .s) (k - 1) end (many + made .count)
-      unfolding transformModuleItems
-      itemizing-turn h f =
-          let x : Out Recs = itemOf list tree scope top (treeAt levels tree c) (s .counter) in
-          let rs : Recs = recordsAt levels tree (k - 1) (endAt levels tree c) in
-          let a : AcceptedAt levels tree c = itemizing-first h in
-          let high : x .2 ≤ s .counter + records (treeAt levels tree c) =
-          item-within (typingOf tree scope) (exprToTsType-within (idsOf tree) (scope .unresolved)) list (scope .unresolved) (treeAt levels tree c) top (s .counter) .high in
-          rw f (record {
-            kids = others levels tree k c (l .kids) h;
-            low = omega (arith, w .step .counter, high, l .low, records-within levels tree c a);
-            done = both (l .done) x;
-            gives = record { many = omega (arith, l .gives .many, w .many, count-join (l .done .0) (x .0)); step = all-join (gives-all (l .gives)) (gives-all w) .step };
-            sum = l .sum
-                ∙ (ap (λ (ks : Recs). both (l .done) (itemsOf list tree scope top ks (s .counter))) (readAll-more (treeAt levels tree) (endAt levels tree) k c h)
-                ∙ (both-assoc (l .done) x (itemsOf list tree scope top rs (x .2)) ∙ ap (λ (m : ℕ). both (both (l .done) x) (itemsOf list tree scope top rs m)) (sym (w .step .counter))));
-            few = omega (arith, l .few, itemizing-more);
-          })
+    pub itemizing-turn : {o' g' : List ℕ} {made : Counted} → MakesCounted o o' g g' s made (itemOf list tree scope top (treeAt levels tree c) (s .counter)) → {end : ℕ} → 0 < k → end ≡ endAt levels tree c
+        → Itemizing levels n at o0 o' g0 g' s0 (made .s) (k - 1) end (many + made .count)
+    itemizing-turn w h f =
+        rw f
+        (numbering-turn (itemOf list tree scope top) levels tree l h
+        (item-within (typingOf tree scope) (exprToTsType-within (idsOf tree) (scope .unresolved)) list (scope .unresolved) (treeAt levels tree c) top (s .counter) .high) itemizing-few w)
 
     pub itemizing-done : k ≤ 0 → MakesCounted o0 o g0 g s0 (record { s = s; count = many }) (itemsOf list tree scope top (recordsAt levels tree n at) (s0 .counter))
-    unfolding transformModuleItems
     itemizing-done h =
-        gives-as (l .gives)
-        (sym (l .sum
-        ∙ (ap (λ (ks : Recs). both (l .done) (itemsOf list tree scope top ks (s .counter))) (readAll-none (treeAt levels tree) (endAt levels tree) k c h)
-        ∙ λ i. (join-nil (l .done .0) i, append-nil (l .done .1) i, l .gives .step .counter i))))
+        gives-as
+        (record { many = omega (arith, numbering-count (itemOf list tree scope top) levels tree l h); step = making-done (itemOf list tree scope top) levels tree (l .making) h .step })
+        (items-flat (recordsAt levels tree n at) (s0 .counter))

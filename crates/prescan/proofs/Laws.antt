@@ -15,7 +15,6 @@ use Rattle.definition.specs.Children.{AcceptedAt, AllAccepted}
 use Rattle.definition.specs.Record.{text, sameText, kidsOf, markOf, is, isNo, hasFlag, kid}
 use Rattle.definition.specs.Prescan.{ArrayType, ArrayType.aArray, ArrayType.aReadonly, ArrayType.aRef, ArrayType.aOther, arrayTypeKind, refersToArray, isArrayTypeBy, isArrayType, firstIsArrayType, ArrayInit, ArrayInit.iArray, ArrayInit.iThrough, ArrayInit.iAs, ArrayInit.iOther, arrayInitKind, isArrayLitInitBy, isArrayLitInit, firstIsArrayLitInit, Question, Question.typeofSafe, Question.nonGenericClass, Question.arrayTyped, addClass, addConst, named, addDeclarator, addDeclarators, Declared, Declared.dFn, Declared.dClass, Declared.dVar, Declared.dOther, declaredKind, addDeclBy, addFn, addDecl, addItem, asked}
 use Rattle.definition.proofs.Kids.{fixed, Child, placed, wider, member-one, head-is, mark-is, flags-is, kids-are, first-in, second-in}
-use Rattle.definition.proofs.Children.{children, first-one, others, readAll-more, readAll-none}
 use Rattle.prescan.specs.Question.{addVar}
 
 -- In each module m is the mark of the record at `at`, as the code read it, and p the place where its children begin.

@@ -1,47 +1,37 @@
 -- What each declaration enters into a table of names, that there is room for it, and the loop over declarations.
-use mathlib.Core.Path.{_≡_, refl, sym, ap, _∙_, subst}
+use mathlib.Core.Path.{_≡_, refl, sym, ap, _∙_}
 use mathlib.Core.List.{List}
 use mathlib.Core.Bool.{Bool, true, false, _&&_, _||_}
 use mathlib.Core.Logic.{_⊎_, ⊎-elim}
-use Prim.Native.Nat.{ℕ, zero, suc, _+_, _*_, _-_, _/_, _<_, _≤_}
+use Prim.Native.Nat.{ℕ, _+_, _*_, _-_, _/_, _<_, _≤_}
 use native.Mathlib.Omega.{arith}
 use lib.ListN.{length, getD, take, drop, length-drop}
-use Rattle.definition.specs.Tree.{Rec, Recs, nil, cons, headSize, markAt, lengthAt, countAt, textAt, bodyAt, readAll, endOfAll, endAt, treeAt}
-use Rattle.definition.specs.Grammar.{mark, marks, member, _or_, declaration, optional, type, expression, pattern, grammar, known, slots, place}
-use Rattle.definition.specs.Check.{deepest, checkAll}
+use Rattle.definition.specs.Tree.{Rec, Recs, nil, cons, headSize, markAt, countAt, textAt, bodyAt, endOfAll, endAt, treeAt}
+use Rattle.definition.specs.Grammar.{mark, marks, _or_, optional, grammar, known, slots, place}
+use Rattle.definition.specs.Check.{deepest}
 use Rattle.definition.specs.Children.{AcceptedAt, AllAccepted}
 use Rattle.definition.specs.Record.{sameText, kidsOf}
-use Rattle.definition.specs.Prescan.{Question, Question.typeofSafe, Question.nonGenericClass, Question.arrayTyped, addFn, addClass, addConst, named, addDeclarator, addDeclarators, addDecl, addItem, asked}
-use Rattle.definition.proofs.Kids.{fixed, Child, member-one, kids-are, placed, first-in, second-in, id-text}
-use Rattle.definition.proofs.Children.{children, first-one, others, readAll-more, readAll-none, endOfAll-more, endOfAll-none, end-after, end-inside, end-is}
+use Rattle.definition.specs.Prescan.{Question, Question.typeofSafe, Question.nonGenericClass, Question.arrayTyped, addFn, addClass, addConst, addDeclarator, addDeclarators, addDecl, addItem, asked}
+use Rattle.definition.proofs.Kids.{fixed, Child, member-one, placed, first-in, second-in, id-text}
+use Rattle.definition.proofs.Children.{children, others, all-after, endOfAll-more, endOfAll-none, end-after, end-is}
+use Rattle.definition.proofs.Walk.{Left, left-kids, left-turn, left-done}
 use Rattle.index.specs.declared.Entries.{Entries}
-use Rattle.index.specs.Index.{farthest, Sorted, Answers, Enters, Grown, entriesOf, Lower, nameIs, bitOf, pick}
+use Rattle.index.specs.Index.{farthest, Sorted, Enters, Grown, entriesOf, Lower, nameIs, bitOf, pick}
 use Rattle.index.proofs.Laws.{hit, miss, enters-none, enters-eq, enters-then, sorted-front, answers-front, answers-nothing, sorted-nothing}
-use Rattle.prescan.specs.Question.{addVar}
 use Rattle.prescan.specs.Table.{declarationSize, Room, Filled, Indexed}
 use Rattle.prescan.proofs.Laws.{Fn, Class, named-is, named-other, fn-by, class-by, fn-ident, class-ident, class-child, class-mark, params-child, fn-unnamed, class-unnamed, pattern-child, init-child, ident-child, type-child, named-by-ident}
 
 -- ---- where records end
 
--- records that stand one after the other end behind the place where they begin
-rising : (levels : ℕ) (s : List ℕ) (n c : ℕ) → AllAccepted levels s n c → c ≤ endOfAll (endAt levels s) n c
-unfolding endOfAll
-rising levels s zero c a = omega arith
-rising levels s (suc n) c a =
-    let z : suc n - 1 ≡ n = omega arith in
-    let h = end-after levels s c (first-one levels s (suc n) c a (omega arith)) in
-    let r = rising levels s n (endAt levels s c) (rw z at (others levels s (suc n) c a (omega arith))) in
-    omega arith
-
--- the first of them ends before the last
+-- the first of some records ends before the last
 one-ends : (levels : ℕ) (s : List ℕ) (n c : ℕ) → AllAccepted levels s n c → 0 < n → endAt levels s c ≤ endOfAll (endAt levels s) n c
 one-ends levels s n c a h =
-    let r = rising levels s (n - 1) (endAt levels s c) (others levels s n c a h) in
+    let r = all-after levels s (n - 1) (endAt levels s c) (n - 1) (others levels s n c a h) (omega arith) in
     omega (arith, endOfAll-more (endAt levels s) n c h)
 
 module _ {levels : ℕ} {s : List ℕ} {at : ℕ} (a : AcceptedAt levels s at) where
   pub body-ends : bodyAt s at ≤ endAt levels s at
-  body-ends = omega (arith, end-is levels s at a, rising (levels - 1) s (countAt s at) (bodyAt s at) (children levels s at a))
+  body-ends = omega (arith, end-is levels s at a, all-after (levels - 1) s (countAt s at) (bodyAt s at) (countAt s at) (children levels s at a) (omega arith))
 
   -- a record ends behind its first child, and behind its second
   pub first-ends : 0 < countAt s at → {p : ℕ} → p ≡ bodyAt s at → endAt (levels - 1) s p ≤ endAt levels s at
@@ -177,10 +167,9 @@ module _ {levels : ℕ} {s : List ℕ} {at : ℕ} (a : AcceptedAt levels s at) {
 
 -- of the records `whole`, whose names W says, k are left, the first of them at c: those before are in the table
 pub record Filling (W : Question → List ℕ → Recs → Bool) (whole : Recs) (levels : ℕ) (s a : List ℕ) (e : Entries) (end : ℕ) (b : List ℕ) (m : Entries) (k c : ℕ) : Type 0 where
-  pub all : AllAccepted levels s k c
   pub so-far : Question → List ℕ → Bool
   pub filled : Filled s a e b m c so-far
-  pub rest : (q : Question) (t : List ℕ) → W q t whole ≡ (so-far q t || W q t (readAll (treeAt levels s) (endAt levels s) k c))
+  pub left : Left {A = Question → List ℕ → Bool} (λ ks q t. so-far q t || W q t ks) (λ q t. W q t whole) levels s k c
   pub ends : endOfAll (endAt levels s) k c ≡ end
   pub room : Room s b m c
 
@@ -189,10 +178,9 @@ pub filling-start : (W : Question → List ℕ → Recs → Bool) {levels : ℕ}
 filling-start W {levels} {s} {a} {e} {at} ok r kq cq =
     rw (kq, cq)
     (record {
-      all = children levels s at ok;
       so-far = λ q t. false;
       filled = filled-none r (omega arith) (λ q t. refl);
-      rest = λ q t. ap (W q t) (kids-are levels s at ok);
+      left = left-kids {A = Question → List ℕ → Bool} (λ ks q t. W q t ks) ok refl refl;
       ends = sym (end-is levels s at ok);
       room = room-later r (omega arith);
     })
@@ -206,27 +194,17 @@ or-left true y z = refl
 or-left false y z = refl
 
 module _ {W : Question → List ℕ → Recs → Bool} {whole : Recs} {levels : ℕ} {s a : List ℕ} {e : Entries} {end : ℕ} {b : List ℕ} {m : Entries} {k c : ℕ} (i : Filling W whole levels s a e end b m k c) where
-  pub filling-first : 0 < k → AcceptedAt levels s c
-  filling-first h = first-one levels s k c (i .all) h
-
-  pub filling-room : Room s b m c
-  filling-room = i .room
-
   -- where W says f of each record
   pub filling-turn : (f : Question → List ℕ → Rec → Bool) → ((q : Question) (t : List ℕ) (r : Rec) (rs : Recs) → W q t (cons r rs) ≡ (f q t r || W q t rs)) → 0 < k →
       {b' : List ℕ} {m' : Entries} → Filled s b m b' m' (endAt levels s c) (λ q t. f q t (treeAt levels s c)) → {d : ℕ} → d ≡ endAt levels s c → Filling W whole levels s a e end b' m' (k - 1) d
   filling-turn f step h g dq =
       let z = i .filled in
       let r = i .room in
+      let t0 : Rec = treeAt levels s c in
       rw dq (record {
-        all = others levels s k c (i .all) h;
-        so-far = λ q t. i .so-far q t || f q t (treeAt levels s c);
+        so-far = λ q t. i .so-far q t || f q t t0;
         filled = record { enters = enters-then (z .enters) (g .enters); few = g .few; same = g .same ∙ z .same; from = omega (arith, z .from, g .from); to = omega (arith, z .to, g .to) };
-        rest = λ q t.
-            i .rest q t ∙
-            (ap (λ (rs : Recs). i .so-far q t || W q t rs) (readAll-more (treeAt levels s) (endAt levels s) k c h) ∙
-            (ap (λ (x : Bool). i .so-far q t || x) (step q t (treeAt levels s c) (readAll (treeAt levels s) (endAt levels s) (k - 1) (endAt levels s c))) ∙
-            or-left (i .so-far q t) (f q t (treeAt levels s c)) (W q t (readAll (treeAt levels s) (endAt levels s) (k - 1) (endAt levels s c)))));
+        left = left-turn (i .left) h _ (λ rs j q t. (ap (λ (x : Bool). i .so-far q t || x) (step q t t0 rs) ∙ or-left (i .so-far q t) (f q t t0) (W q t rs)) j) refl;
         ends = sym (endOfAll-more (endAt levels s) k c h) ∙ i .ends;
         room = record { sorted = g .enters .sorted; few = g .few; long = omega (arith, r .long, g .same); short = r .short; from = omega (arith, r .from, g .from, g .same); to = omega (arith, r .to, g .to, g .same) };
       })
@@ -234,7 +212,7 @@ module _ {W : Question → List ℕ → Recs → Bool} {whole : Recs} {levels : 
   pub filling-done : ((q : Question) (t : List ℕ) → W q t nil ≡ false) → k ≤ 0 → Filled s a e b m end (λ q t. W q t whole)
   filling-done none h =
       filled-eq (omega (arith, i .ends, endOfAll-none (endAt levels s) k c h))
-      (λ q t. i .rest q t ∙ (ap (λ (rs : Recs). i .so-far q t || W q t rs) (readAll-none (treeAt levels s) (endAt levels s) k c h) ∙ (ap (λ (x : Bool). i .so-far q t || x) (none q t) ∙ or-none (i .so-far q t))))
+      (λ q t. ap (λ (G : Question → List ℕ → Bool). G q t) (left-done (i .left) h) ∙ (ap (λ (x : Bool). i .so-far q t || x) (none q t) ∙ or-none (i .so-far q t)))
       (i .filled)
 
 -- the questions about all declarators, and about all items

@@ -3,18 +3,18 @@ use mathlib.Core.Path.{_≡_, refl, sym, _∙_, ap}
 use mathlib.Core.List.{List}
 use mathlib.Core.Bool.{Bool, true, false, cond, _&&_}
 use mathlib.Core.Logic.{_⊎_, inl, inr, ⊎-elim}
-use Prim.Native.Nat.{ℕ, _-_, _<_, _≤_}
+use Prim.Native.Nat.{ℕ, _-_, _<_}
 use native.Mathlib.Decide.{decLt}
 use native.Mathlib.Omega.{arith}
 use lib.Dec.{eqb}
 use borrow.Author.Tests.{ne-eqb}
-use Rattle.definition.specs.Tree.{Rec, Recs, rec, nil, markAt, countAt, textAt, bodyAt, readAll, endAt, treeAt, encode}
+use Rattle.definition.specs.Tree.{Rec, Recs, rec, nil, markAt, countAt, textAt, bodyAt, treeAt, encode}
 use Rattle.definition.specs.Grammar.{mark}
-use Rattle.definition.specs.Children.{AcceptedAt, AllAccepted, childAt}
+use Rattle.definition.specs.Children.{AcceptedAt, childAt}
 use Rattle.definition.specs.Record.{headOf, kidsOf, textOf, is, dummySp, fresh, hasFlag, has1, kid}
 use Rattle.definition.specs.Helpers.{noExprs, firstCooked, tplToTsType, tsLitType, tsKeywordType}
-use Rattle.definition.proofs.Children.{children, child-0, first-one, others, readAll-more, readAll-none}
-use Rattle.definition.proofs.Kids.{mark-is, flags-is, text-is, kids-are, kid-none}
+use Rattle.definition.proofs.Children.{child-0}
+use Rattle.definition.proofs.Kids.{mark-is, flags-is, text-is, kid-none}
 use Rattle.records.specs.declared.Head as Fields
 use Rattle.records.specs.Fields.{fieldsAt}
 use Rattle.records.specs.Wrote.{Put}
@@ -32,36 +32,6 @@ a-quasi h = ⊎-elim (λ e. rw e) (λ e. rw e) h
 
 pub no-quasi-mark : {m : ℕ} → ((m ≡ mark "Op") ⊎ (m ≡ mark "Qu") → ⊥) → false ≡ isQuasi m
 no-quasi-mark h = rw (ne-eqb _ _ (λ e. h (inr e)), ne-eqb _ _ (λ e. h (inl e)))
-
--- with n children of the record at `at` left, the first of them at x: they are accepted, and those before them are no expressions
-pub record Quasis (levels : ℕ) (s : List ℕ) (at n x : ℕ) : Type 0 where
-  pub all : AllAccepted (levels - 1) s n x
-  pub same : noExprs (kidsOf (treeAt levels s at)) ≡ noExprs (readAll (treeAt (levels - 1) s) (endAt (levels - 1) s) n x)
-
-pub quasis-start : (levels : ℕ) (s : List ℕ) (at : ℕ) → AcceptedAt levels s at → (n x : ℕ) → n ≡ countAt s at → x ≡ bodyAt s at → Quasis levels s at n x
-quasis-start levels s at a n x en ex = rw (en, ex) (record { all = children levels s at a; same = ap noExprs (kids-are levels s at a) })
-
-module _ (levels : ℕ) (s : List ℕ) (at n x : ℕ) (q : Quasis levels s at n x) where
-  pub quasis-done : n ≤ 0 → true ≡ noExprs (kidsOf (treeAt levels s at))
-  unfolding noExprs
-  quasis-done h = sym (q .same ∙ ap noExprs (readAll-none (treeAt (levels - 1) s) (endAt (levels - 1) s) n x h))
-
-  module _ (h : 0 < n) where
-    pub quasi-accepted : AcceptedAt (levels - 1) s x
-    quasi-accepted = first-one (levels - 1) s n x (q .all) h
-
-    one-more : noExprs (kidsOf (treeAt levels s at))
-        ≡ (isQuasi (markAt s x) && noExprs (readAll (treeAt (levels - 1) s) (endAt (levels - 1) s) (n - 1) (endAt (levels - 1) s x)))
-    unfolding noExprs
-    one-more =
-        q .same ∙ (ap noExprs (readAll-more (treeAt (levels - 1) s) (endAt (levels - 1) s) n x h)
-        ∙ ap (λ (m : ℕ). isQuasi m && noExprs (readAll (treeAt (levels - 1) s) (endAt (levels - 1) s) (n - 1) (endAt (levels - 1) s x))) (mark-is (levels - 1) s x))
-
-    pub quasis-stop : isQuasi (markAt s x) ≡ false → false ≡ noExprs (kidsOf (treeAt levels s at))
-    quasis-stop e = sym (one-more ∙ rw e)
-
-    pub quasis-next : isQuasi (markAt s x) ≡ true → (y : ℕ) → y ≡ endAt (levels - 1) s x → Quasis levels s at (n - 1) y
-    quasis-next e y ey = rw ey (record { all = others (levels - 1) s n x (q .all) h; same = one-more ∙ rw e })
 
 -- ---- its first quasi
 

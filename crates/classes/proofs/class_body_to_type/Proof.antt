@@ -2,9 +2,10 @@
 use Prim.Native.Nat.{_-_}
 use native.Mathlib.Omega.{arith}
 use borrow.Author.Needs.{needs}
+use Rattle.definition.proofs.Walk.{left-first}
 use Rattle.records.proofs.Accepted.{room, lies, level}
 use Rattle.parts.proofs.Ready.{ready-at}
-use Rattle.classes.proofs.Members.{cl-count, cl-params, cl-kids, Body, body-first, body-low, body-turn, body-more, class-body, class-made}
+use Rattle.classes.proofs.Members.{cl-count, cl-params, cl-kids, Body, body-turn, body-more, class-body, class-made}
 use Rattle.classes.proofs.class_body_to_type.Statement.{statement}
 use Rattle.classes.proofs.class_body_to_type.Tie as tie
 use Rattle.classes.proofs.class_body_to_type.Reads as reads
@@ -54,22 +55,22 @@ keep-requires : tie.Need-keep-requires Inv-loop μ-loop
 keep-requires c κs = cl-params (c .before .before .before .before .before .before .before .before .before .before .before .before .pre .0 .accepted) (c .before .before .before .before .before .before .before .before .before .before .before .before .pre .1) (c .before .before .before .before .before .body-at .ensures)
 
 loop-holds : tie.Need-loop-holds Inv-loop μ-loop
-loop-holds c = class-body _ _ (cl-kids (c .before .before .before .before .before .before .before .before .before .before .before .before .before .before .before .pre .0 .accepted) (c .before .before .before .before .before .before .before .before .before .before .before .before .before .before .before .pre .1) (c .before .before .before .before .before .before .before .before .body-at .ensures) (c .before .before .before .before .before .before .record-end .ensures)) (c .before .before .before .before .before .before .before .before .before .before .before .before .before .before .shared-slice-known .given) (c .before .before .before .before .before .before .before .before .before .read-head .ensures) _ (c .before .before .before .before .before .before .before .before .before .before .before .before .before .before .before .pre .0 .low) (omega (arith, c .before .before .before .before .before .before .before .before .before .before .before .before .before .before .before .good)) (c .before .before .keep .ensures)
+loop-holds c = class-body (c .before .before .before .before .before .before .before .before .before .before .before .before .before .before .before .args .list .now) (c .before .before .before .before .before .before .before .before .before .before .before .before .before .before .before .args .scope) (cl-kids (c .before .before .before .before .before .before .before .before .before .before .before .before .before .before .before .pre .0 .accepted) (c .before .before .before .before .before .before .before .before .before .before .before .before .before .before .before .pre .1) (c .before .before .before .before .before .before .before .before .body-at .ensures) (c .before .before .before .before .before .before .record-end .ensures)) (c .before .before .before .before .before .before .before .before .before .before .before .before .before .before .shared-slice-known .given) (c .before .before .before .before .before .before .before .before .before .read-head .ensures) _ (c .before .before .before .before .before .before .before .before .before .before .before .before .before .before .before .pre .0 .low) (omega (arith, c .before .before .before .before .before .before .before .before .before .before .before .before .before .before .before .good)) (c .before .before .keep .ensures)
 
 sub-class-member : tie.Need-sub-class-member Inv-loop μ-loop
 sub-class-member c = omega (arith, level (c .before .before .before .before .before .before .before .before .before .before .before .before .before .before .before .before .before .pre .0 .accepted))
 
 class-member-requires : tie.Need-class-member-requires Inv-loop μ-loop
-class-member-requires c κs = ready-at (c .before .before .before .before .before .before .before .before .before .before .before .before .before .before .before .before .before .before .before .pre .0) (body-first _ _ _ _ (c .before .before .before .loop .inv) (c .before .before .loop-test .taken)) (body-low _ _ _ _ (c .before .before .before .loop .inv))
+class-member-requires c κs = ready-at (c .before .before .before .before .before .before .before .before .before .before .before .before .before .before .before .before .before .before .before .pre .0) (left-first (c .before .before .before .loop .inv .making .left) (c .before .before .loop-test .taken)) (c .before .before .before .loop .inv .making .low)
 
 add-count : tie.Need-add-count Inv-loop μ-loop
-add-count c = omega (arith, body-more _ _ _ _ (c .before .before .before .before .before .before .before .before .before .before .loop .inv) (c .before .before .before .before .before .before .before .before .before .loop-test .taken) (c .before .before .before .before .before .before .class-member .ensures))
+add-count c = omega (arith, body-more (c .before .before .before .before .before .before .before .before .before .before .before .before .before .before .before .before .before .before .before .before .before .before .before .before .before .before .args .list .now) (c .before .before .before .before .before .before .before .before .before .before .before .before .before .before .before .before .before .before .before .before .before .before .before .before .before .before .args .scope) _ _ (c .before .before .before .before .before .before .before .before .before .before .loop .inv) (c .before .before .before .before .before .before .before .before .before .loop-test .taken) (c .before .before .before .before .before .before .class-member .ensures))
 
 sub-record-end-2 : tie.Need-sub-record-end-2 Inv-loop μ-loop
 sub-record-end-2 c = omega (arith, level (c .before .before .before .before .before .before .before .before .before .before .before .before .before .before .before .before .before .before .before .before .before .before .before .before .before .before .pre .0 .accepted))
 
 record-end-requires-2 : tie.Need-record-end-requires-2 Inv-loop μ-loop
-record-end-requires-2 c κs = lies (body-first _ _ _ _ (c .before .before .before .before .before .before .before .before .before .before .loop .inv) (c .before .before .before .before .before .before .before .before .before .loop-test .taken))
+record-end-requires-2 c κs = lies (left-first (c .before .before .before .before .before .before .before .before .before .before .loop .inv .making .left) (c .before .before .before .before .before .before .before .before .before .loop-test .taken))
 
 sub-n-2 : tie.Need-sub-n-2 Inv-loop μ-loop
 sub-n-2 c = omega arith
@@ -78,13 +79,13 @@ loop-less : tie.Need-loop-less Inv-loop μ-loop
 loop-less c = omega arith
 
 loop-again : tie.Need-loop-again Inv-loop μ-loop
-loop-again c = rw (c .record-end2 .ensures) (body-turn _ _ _ _ (c .before .before .before .before .before .before .before .before .before .before .before .loop .inv) (c .before .before .before .before .before .before .before .before .before .before .loop-test .taken) (c .before .before .before .before .before .before .before .class-member .ensures))
+loop-again c = body-turn (c .before .before .before .before .before .before .before .before .before .before .before .before .before .before .before .before .before .before .before .before .before .before .before .before .before .before .before .args .list .now) (c .before .before .before .before .before .before .before .before .before .before .before .before .before .before .before .before .before .before .before .before .before .before .before .before .before .before .before .args .scope) _ _ (c .before .before .before .before .before .before .before .before .before .before .before .loop .inv) (c .before .before .before .before .before .before .before .before .before .before .loop-test .taken) (c .before .before .before .before .before .before .before .class-member .ensures) (c .record-end2 .ensures)
 
 put-front-requires : tie.Need-put-front-requires Inv-loop μ-loop
 put-front-requires c κs = c .before .before .before .before .before .before .before .before .before .before .before .before .before .before .before .before .before .before .pre .0 .accepted
 
 returns : tie.Need-returns Inv-loop μ-loop
-returns c = class-made _ _ (cl-kids (c .before .before .before .before .before .before .before .before .before .before .before .before .before .before .before .before .before .before .before .before .before .pre .0 .accepted) (c .before .before .before .before .before .before .before .before .before .before .before .before .before .before .before .before .before .before .before .before .before .pre .1) (c .before .before .before .before .before .before .before .before .before .before .before .before .before .before .body-at .ensures) (c .before .before .before .before .before .before .before .before .before .before .before .before .record-end .ensures)) (c .before .before .before .before .before .before .before .before .before .before .before .before .before .before .before .before .before .before .before .before .before .pre .0 .accepted) (c .before .before .before .before .before .before .before .before .before .before .before .before .before .before .before .before .before .before .before .before .shared-slice-known .given) (c .before .before .before .before .before .before .before .before .before .before .before .before .before .before .before .before .before .before .before .before .before .args .s) (c .before .before .before .before .before .before .before .before .before .before .before .before .before .before .before .read-head .ensures) (c .before .before .before .before .before .before .before .before .before .before .advance .ensures) (c .before .before .before .before .before .before .before .before .before .before .before .front-size .ensures .0) (omega (arith, c .before .before .before .before .before .before .before .before .before .before .before .before .before .before .before .before .before .before .before .before .before .good)) (c .before .before .before .before .before .before .before .before .keep .ensures) (c .before .before .before .before .before .loop .inv) (omega arith) (c .before .before .put-front .ensures)
+returns c = class-made (c .before .before .before .before .before .before .before .before .before .before .before .before .before .before .before .before .before .before .before .before .before .args .list .now) (c .before .before .before .before .before .before .before .before .before .before .before .before .before .before .before .before .before .before .before .before .before .args .scope) (cl-kids (c .before .before .before .before .before .before .before .before .before .before .before .before .before .before .before .before .before .before .before .before .before .pre .0 .accepted) (c .before .before .before .before .before .before .before .before .before .before .before .before .before .before .before .before .before .before .before .before .before .pre .1) (c .before .before .before .before .before .before .before .before .before .before .before .before .before .before .body-at .ensures) (c .before .before .before .before .before .before .before .before .before .before .before .before .record-end .ensures)) (c .before .before .before .before .before .before .before .before .before .before .before .before .before .before .before .before .before .before .before .before .before .pre .0 .accepted) (c .before .before .before .before .before .before .before .before .before .before .before .before .before .before .before .before .before .before .before .before .shared-slice-known .given) (c .before .before .before .before .before .before .before .before .before .before .before .before .before .before .before .before .before .before .before .before .before .args .s) (c .before .before .before .before .before .before .before .before .before .before .before .before .before .before .before .read-head .ensures) (c .before .before .before .before .before .before .before .before .before .before .advance .ensures) (c .before .before .before .before .before .before .before .before .before .before .before .front-size .ensures .0) (omega (arith, c .before .before .before .before .before .before .before .before .before .before .before .before .before .before .before .before .before .before .before .before .before .good)) (c .before .before .before .before .before .before .before .before .keep .ensures) (c .before .before .before .before .before .loop .inv) (omega arith) (c .before .before .put-front .ensures)
 
 same-length : tie.Need-same-length Inv-loop μ-loop
 same-length c = returns c .step .ran .out .same

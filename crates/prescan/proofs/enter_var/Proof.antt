@@ -8,9 +8,10 @@ use Rattle.definition.specs.Tree.{endAt, treeAt}
 use Rattle.definition.specs.Record.{kidsOf}
 use Rattle.definition.specs.Prescan.{addDeclarator}
 use Rattle.definition.proofs.Children.{end-after}
+use Rattle.definition.proofs.Walk.{left-first}
 use Rattle.records.proofs.Accepted.{room, lies, level}
 use Rattle.prescan.proofs.Laws.{var-other, var-const, declares-step, declares-none}
-use Rattle.prescan.proofs.Tables.{Vars, Filling, filling-start, filling-first, filling-room, filling-turn, filling-done, filled-none, filled-eq}
+use Rattle.prescan.proofs.Tables.{Vars, Filling, filling-start, filling-turn, filling-done, filled-none, filled-eq}
 use Rattle.prescan.proofs.enter_var.Statement.{statement}
 use Rattle.prescan.proofs.enter_var.Tie as tie
 
@@ -39,13 +40,13 @@ sub-enter-declarator : tie.Need-sub-enter-declarator Inv-loop μ-loop
 sub-enter-declarator c = omega (arith, level (c .before .before .before .before .before .before .before .before .pre .0))
 
 enter-declarator-requires : tie.Need-enter-declarator-requires Inv-loop μ-loop
-enter-declarator-requires c κs = (filling-first (c .before .before .loop .inv) (c .before .loop-test .taken), filling-room (c .before .before .loop .inv))
+enter-declarator-requires c κs = (left-first (c .before .before .loop .inv .left) (c .before .loop-test .taken), c .before .before .loop .inv .room)
 
 sub-record-end : tie.Need-sub-record-end Inv-loop μ-loop
 sub-record-end c = omega (arith, level (c .before .before .before .before .before .before .before .before .before .before .before .before .pre .0))
 
 record-end-requires : tie.Need-record-end-requires Inv-loop μ-loop
-record-end-requires c κs = lies (filling-first (c .before .before .before .before .before .loop .inv) (c .before .before .before .before .loop-test .taken))
+record-end-requires c κs = lies (left-first (c .before .before .before .before .before .loop .inv .left) (c .before .before .before .before .loop-test .taken))
 
 sub-rest : tie.Need-sub-rest Inv-loop μ-loop
 sub-rest c = omega arith

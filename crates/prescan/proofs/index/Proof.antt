@@ -7,8 +7,9 @@ use Rattle.definition.specs.Tree.{endAt, treeAt}
 use Rattle.definition.specs.Check.{deepest}
 use Rattle.definition.specs.Record.{kidsOf}
 use Rattle.definition.specs.Prescan.{addItem}
+use Rattle.definition.proofs.Walk.{left-first}
 use Rattle.records.proofs.Accepted.{room, lies}
-use Rattle.prescan.proofs.Tables.{Items, Filling, room-start, filling-start, filling-first, filling-room, filling-turn, filling-done, items-step, items-none, indexed, inside}
+use Rattle.prescan.proofs.Tables.{Items, Filling, room-start, filling-start, filling-turn, filling-done, items-step, items-none, indexed, inside}
 use Rattle.prescan.proofs.index.Statement.{statement}
 use Rattle.prescan.proofs.index.Tie as tie
 
@@ -31,13 +32,13 @@ sub-enter-item : tie.Need-sub-enter-item Inv-loop μ-loop
 sub-enter-item c = omega arith
 
 enter-item-requires : tie.Need-enter-item-requires Inv-loop μ-loop
-enter-item-requires c κs = (filling-first (c .before .before .loop .inv) (c .before .loop-test .taken), filling-room (c .before .before .loop .inv))
+enter-item-requires c κs = (left-first (c .before .before .loop .inv .left) (c .before .loop-test .taken), c .before .before .loop .inv .room)
 
 sub-record-end : tie.Need-sub-record-end Inv-loop μ-loop
 sub-record-end c = omega arith
 
 record-end-requires : tie.Need-record-end-requires Inv-loop μ-loop
-record-end-requires c κs = lies (filling-first (c .before .before .before .before .before .loop .inv) (c .before .before .before .before .loop-test .taken))
+record-end-requires c κs = lies (left-first (c .before .before .before .before .before .loop .inv .left) (c .before .before .before .before .loop-test .taken))
 
 sub-rest : tie.Need-sub-rest Inv-loop μ-loop
 sub-rest c = omega arith

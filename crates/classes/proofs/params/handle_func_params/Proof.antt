@@ -1,9 +1,12 @@
 -- `params::handle_func_params` meets its contract.
 use native.Mathlib.Omega.{arith}
+use Rattle.definition.specs.Classes.{handleFuncParam}
+use Rattle.definition.proofs.Walk.{left-first}
 use Rattle.swc_helpers.proofs.Made.{is-whole}
-use Rattle.parts.proofs.Each.{making-first, making-done, making-out, making-diagnostics}
+use Rattle.parts.proofs.Each.{making-done, making-out, making-diagnostics, Eaching, eaching-start}
+use Rattle.classes.specs.Typings.{typingOf}
 use Rattle.classes.proofs.Ready.{ready-one}
-use Rattle.classes.proofs.Parameters.{parameters, Handling, handling-start, handling-turn}
+use Rattle.classes.proofs.Parameters.{handling-turn}
 use Rattle.classes.proofs.params.handle_func_params.Statement.{statement}
 use Rattle.classes.proofs.params.handle_func_params.Tie as tie
 use Rattle.classes.proofs.params.handle_func_params.Reads as reads
@@ -12,19 +15,19 @@ use Rattle.classes.proofs.params.handle_func_param.Reads as handle-func
 use Rattle.records.proofs.record_end.Reads as record-end-reads
 
 abbrev Inv-loop : tie.InvT-loop
-Inv-loop tree at n levels index scope out₀ diagnostics₀ next₀ k₀ param₀ out diagnostics next k param = Handling tree scope levels (parameters tree scope levels n at (next₀ .counter)) out₀ out diagnostics₀ diagnostics next₀ next k param
+Inv-loop tree at n levels index scope out₀ diagnostics₀ next₀ k₀ param₀ out diagnostics next k param = Eaching (handleFuncParam (typingOf tree scope)) levels tree n at out₀ out diagnostics₀ diagnostics next₀ next k param
 
 abbrev μ-loop : tie.MeasureT-loop
 μ-loop tree at n levels index scope out₀ diagnostics₀ next₀ k₀ param₀ out diagnostics next k param = k
 
 loop-holds : tie.Need-loop-holds Inv-loop μ-loop
-loop-holds c = handling-start _ (c .before .before .before .before .args .scope) _ _ _ _ (c .before .before .before .before .pre .accepted) (c .before .before .before .before .pre .low) (omega (arith, c .before .before .before .before .good)) (omega (arith, c .before .before .before .before .good))
+loop-holds c = eaching-start _ _ _ _ _ _ (c .before .before .before .before .pre .accepted) (c .before .before .before .before .pre .low) (omega (arith, c .before .before .before .before .good)) (omega (arith, c .before .before .before .before .good))
 
 handle-func-param-requires : tie.Need-handle-func-param-requires Inv-loop μ-loop
-handle-func-param-requires c κs = ready-one (c .before .before .before .before .before .before .before .before .pre) (making-first _ _ _ (c .before .before .before .loop .inv) (c .before .before .loop-test .taken)) (c .before .before .before .loop .inv .low)
+handle-func-param-requires c κs = ready-one (c .before .before .before .before .before .before .before .before .pre) (left-first (c .before .before .before .loop .inv .left) (c .before .before .loop-test .taken)) (c .before .before .before .loop .inv .low)
 
 record-end-requires : tie.Need-record-end-requires Inv-loop μ-loop
-record-end-requires c κs = is-whole _ _ _ (making-first _ _ _ (c .before .before .before .before .before .before .before .before .loop .inv) (c .before .before .before .before .before .before .before .loop-test .taken))
+record-end-requires c κs = is-whole _ _ _ (left-first (c .before .before .before .before .before .before .before .before .loop .inv .left) (c .before .before .before .before .before .before .before .loop-test .taken))
 
 sub-k : tie.Need-sub-k Inv-loop μ-loop
 sub-k c = omega arith
@@ -33,7 +36,7 @@ loop-less : tie.Need-loop-less Inv-loop μ-loop
 loop-less c = omega arith
 
 loop-again : tie.Need-loop-again Inv-loop μ-loop
-loop-again c = rw (c .record-end .ensures) (handling-turn _ (c .before .before .before .before .before .before .before .before .before .before .before .before .before .before .args .scope) _ (c .before .before .before .before .before .before .before .before .before .loop .inv) (c .before .before .before .before .before .before .before .before .loop-test .taken) (c .before .before .before .before .before .handle-func-param .ensures))
+loop-again c = handling-turn (c .before .before .before .before .before .before .before .before .before .before .before .before .before .before .args .scope) _ _ (c .before .before .before .before .before .before .before .before .before .loop .inv) (c .before .before .before .before .before .before .before .before .loop-test .taken) (c .before .before .before .before .before .handle-func-param .ensures) (c .record-end .ensures)
 
 same-length : tie.Need-same-length Inv-loop μ-loop
 same-length c = making-out _ _ _ (c .before .loop .inv)

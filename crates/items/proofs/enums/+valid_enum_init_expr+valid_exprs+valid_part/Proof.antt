@@ -1,10 +1,14 @@
 -- The cycle of `valid_enum_init_expr`: each member meets its contract, and the remaining depth falls.
-use mathlib.Core.Path.{sym}
+use mathlib.Core.Path.{refl, sym}
 use native.Mathlib.Omega.{arith}
+use Rattle.definition.specs.Tree.{treeAt}
+use Rattle.definition.specs.Record.{kidsOf}
+use Rattle.definition.specs.Enums.{validAll}
 use Rattle.definition.proofs.Children.{itself, some-left}
+use Rattle.definition.proofs.Walk.{Left, left-kids, left-first, left-done, all-turn, all-stop}
 use Rattle.swc_helpers.proofs.Made.{is-whole}
-use Rattle.items.proofs.Inits.{told, told-either, told-any, told-not, bn-first, bn-second, bn-false, bn-true, over-first, over-is, oc-first, oc-false, oc-is, typed-first, typed-second, typed-is, always, template-is, never, Validating, validating-start, validating-first, validating-stop, validating-turn, validating-done, part-other, part-expr}
-use Prim.Native.Nat.{ℕ, _+_, _*_, _<_}
+use Rattle.items.proofs.Inits.{told, told-either, told-any, told-not, bn-first, bn-second, bn-false, bn-true, over-first, over-is, oc-first, oc-false, oc-is, typed-first, typed-second, typed-is, always, template-is, never, validPart, part-other, part-expr}
+use Prim.Native.Nat.{ℕ, _+_, _-_, _*_, _<_}
 use borrow.Fn.Kinds.{In}
 use borrow.Fn.PlainCycle.{Measures, is, falls, and}
 use Rattle.items.proofs.enums.valid_enum_init_expr.Reads as valid-enum-init-expr
@@ -195,7 +199,7 @@ valid-enum-init-expr-returns-9 : (t : ℕ) → valid-enum-init-expr-lts.Need-ret
 valid-enum-init-expr-returns-9 t c = never _ _ _ (c .before .before .before .pre .1) (told-not (c .before .mark-at .ensures .0) (c .match .rest .0 .0 .0 .0 .0 .1)) (λ q. c .match .rest .0 .0 .0 .0 .1 (told-either (sym (c .before .mark-at .ensures .0)) q)) (told-not (c .before .mark-at .ensures .0) (c .match .rest .0 .0 .0 .1)) (λ q. c .match .rest .0 .0 .1 (told-any (sym (c .before .mark-at .ensures .0)) q)) (told-not (c .before .mark-at .ensures .0) (c .match .rest .0 .1)) (λ q. c .match .rest .1 (told-either (sym (c .before .mark-at .ensures .0)) q))
 
 abbrev valid-exprs-Inv-loop : valid-exprs-lts.InvT-loop
-valid-exprs-Inv-loop tree at levels n₀ child₀ n child = Validating levels tree at n child
+valid-exprs-Inv-loop tree at levels n₀ child₀ n child = Left validAll (validAll (kidsOf (treeAt levels tree at))) (levels - 1) tree n child
 
 abbrev valid-exprs-μ-loop : valid-exprs-lts.MeasureT-loop
 valid-exprs-μ-loop tree at levels n₀ child₀ n child = n
@@ -210,7 +214,7 @@ valid-exprs-body-at-requires t c κs = itself _ _ _ (c .before .before .pre .1) 
 
 -- src/enums.rt:85:5
 valid-exprs-loop-holds : (t : ℕ) → valid-exprs-lts.Need-loop-holds (valid-exprs-calls t) (valid-exprs-at t) valid-exprs.Post valid-exprs-Inv-loop valid-exprs-μ-loop
-valid-exprs-loop-holds t c = validating-start _ _ _ (c .before .before .before .pre .1) (c .before .count-at .ensures .0) (c .body-at .ensures)
+valid-exprs-loop-holds t c = left-kids validAll (c .before .before .before .pre .1) (c .before .count-at .ensures .0) (c .body-at .ensures)
 
 -- src/enums.rt:86:37
 valid-exprs-sub-valid-part : (t : ℕ) → valid-exprs-lts.Need-sub-valid-part (valid-exprs-calls t) (valid-exprs-at t) valid-exprs.Post valid-exprs-Inv-loop valid-exprs-μ-loop
@@ -218,11 +222,12 @@ valid-exprs-sub-valid-part t c = omega (arith, some-left _ _ _ (c .before .befor
 
 -- src/enums.rt:86:13
 valid-exprs-valid-part-requires : (t : ℕ) → valid-exprs-lts.Need-valid-part-requires (valid-exprs-calls t) (valid-exprs-at t) valid-exprs.Post valid-exprs-Inv-loop valid-exprs-μ-loop
-valid-exprs-valid-part-requires t c κs = (omega (arith, some-left _ _ _ (c .before .before .before .before .before .pre .1), c .before .before .before .before .before .pre .0), validating-first (c .before .loop .inv) (c .loop-test .taken))
+valid-exprs-valid-part-requires t c κs = (omega (arith, some-left _ _ _ (c .before .before .before .before .before .pre .1), c .before .before .before .before .before .pre .0), left-first (c .before .loop .inv) (c .loop-test .taken))
 
 -- src/enums.rt:87:13
 valid-exprs-returns : (t : ℕ) → valid-exprs-lts.Need-returns (valid-exprs-calls t) (valid-exprs-at t) valid-exprs.Post valid-exprs-Inv-loop valid-exprs-μ-loop
-valid-exprs-returns t c = validating-stop (c .before .before .before .loop .inv) (c .before .before .loop-test .taken) (c .before .valid-part .ensures) (c .if1 .taken)
+unfolding validAll
+valid-exprs-returns t c = all-stop validPart (λ r rs. refl) (c .before .before .before .loop .inv) (c .before .before .loop-test .taken) (c .before .valid-part .ensures) (c .if1 .taken)
 
 -- src/enums.rt:89:41
 valid-exprs-sub-record-end : (t : ℕ) → valid-exprs-lts.Need-sub-record-end (valid-exprs-calls t) (valid-exprs-at t) valid-exprs.Post valid-exprs-Inv-loop valid-exprs-μ-loop
@@ -230,7 +235,7 @@ valid-exprs-sub-record-end t c = omega (arith, some-left _ _ _ (c .before .befor
 
 -- src/enums.rt:89:9
 valid-exprs-record-end-requires : (t : ℕ) → valid-exprs-lts.Need-record-end-requires (valid-exprs-calls t) (valid-exprs-at t) valid-exprs.Post valid-exprs-Inv-loop valid-exprs-μ-loop
-valid-exprs-record-end-requires t c κs = is-whole _ _ _ (validating-first (c .before .before .before .loop .inv) (c .before .before .loop-test .taken))
+valid-exprs-record-end-requires t c κs = is-whole _ _ _ (left-first (c .before .before .before .loop .inv) (c .before .before .loop-test .taken))
 
 -- src/enums.rt:90:9
 valid-exprs-sub-n : (t : ℕ) → valid-exprs-lts.Need-sub-n (valid-exprs-calls t) (valid-exprs-at t) valid-exprs.Post valid-exprs-Inv-loop valid-exprs-μ-loop
@@ -242,11 +247,13 @@ valid-exprs-loop-less t c = omega arith
 
 -- src/enums.rt:85:5
 valid-exprs-loop-again : (t : ℕ) → valid-exprs-lts.Need-loop-again (valid-exprs-calls t) (valid-exprs-at t) valid-exprs.Post valid-exprs-Inv-loop valid-exprs-μ-loop
-valid-exprs-loop-again t c = validating-turn (c .before .before .before .before .loop .inv) (c .before .before .before .loop-test .taken) (c .before .before .valid-part .ensures) (c .before .if1 .left) (c .record-end .ensures)
+unfolding validAll
+valid-exprs-loop-again t c = all-turn validPart (λ r rs. refl) (c .before .before .before .before .loop .inv) (c .before .before .before .loop-test .taken) (c .before .before .valid-part .ensures) (c .before .if1 .left) (c .record-end .ensures)
 
 -- src/enums.rt:79:1
 valid-exprs-returns-2 : (t : ℕ) → valid-exprs-lts.Need-returns-2 (valid-exprs-calls t) (valid-exprs-at t) valid-exprs.Post valid-exprs-Inv-loop valid-exprs-μ-loop
-valid-exprs-returns-2 t c = validating-done (c .before .loop .inv) (omega arith)
+unfolding validAll
+valid-exprs-returns-2 t c = sym (left-done (c .before .loop .inv) (omega arith))
 
 -- src/enums.rt:103:11
 valid-part-mark-at-requires : (t : ℕ) → valid-part-lts.Need-mark-at-requires (valid-part-calls t) (valid-part-at t) valid-part.Post

@@ -4,12 +4,12 @@ use borrow.Author.Needs.{needs}
 use mathlib.Core.Path.{refl, ap}
 use native.Mathlib.Omega.{arith}
 use Rattle.definition.proofs.Children.{itself, some-left}
+use Rattle.definition.proofs.Walk.{left-first}
 use Rattle.records.specs.declared.Head.{Head}
 use Rattle.swc_helpers.proofs.Made.{is-whole}
 use Rattle.typing.specs.Below.{paramsFrom}
 use Rattle.typing.proofs.Slots.{params-there, params-two}
 use Rattle.typing.proofs.Loops.{child-after}
-use Rattle.typing.proofs.Upto.{loop-first}
 use Rattle.typing.proofs.Whole.{count-small, ParamLoop, param-start, param-turn, function-done}
 use Rattle.typing.proofs.function_type.Reads as function-type
 use Rattle.typing.proofs.param_type.Reads as param-type
@@ -57,7 +57,7 @@ pub sub-param-type : (t : ℕ) → function-type-lts.Need-sub-param-type (calls 
 sub-param-type t c = omega (arith, some-left _ _ _ (c .before .before .before .before .before .before .before .before .before .before .before .before .before .before .before .pre .1 .0 .accepted))
 
 pub param-type-requires : (t : ℕ) → function-type-lts.Need-param-type-requires (calls t) (function-type-at t) function-type.Post Inv-loop μ-loop
-param-type-requires t c κs = (omega (arith, c .before .before .before .before .before .before .before .before .before .before .before .before .before .before .before .before .before .pre .0, some-left _ _ _ (c .before .before .before .before .before .before .before .before .before .before .before .before .before .before .before .before .before .pre .1 .0 .accepted)), record { accepted = (loop-first _ _ _ (c .before .before .before .loop .inv) (c .before .before .loop-test .taken)); low = c .before .before .before .loop .inv .low; indexed = c .before .before .before .before .before .before .before .before .before .before .before .before .before .before .before .before .before .pre .1 .0 .indexed })
+param-type-requires t c κs = (omega (arith, c .before .before .before .before .before .before .before .before .before .before .before .before .before .before .before .before .before .pre .0, some-left _ _ _ (c .before .before .before .before .before .before .before .before .before .before .before .before .before .before .before .before .before .pre .1 .0 .accepted)), record { accepted = (left-first (c .before .before .before .loop .inv .left) (c .before .before .loop-test .taken)); low = c .before .before .before .loop .inv .low; indexed = c .before .before .before .before .before .before .before .before .before .before .before .before .before .before .before .before .before .pre .1 .0 .indexed })
 
 pub add-count : (t : ℕ) → function-type-lts.Need-add-count (calls t) (function-type-at t) function-type.Post Inv-loop μ-loop
 add-count t c = omega (arith, param-turn (c .before .before .before .before .before .before .before .before .before .before .before .before .before .before .before .before .before .before .before .before .before .before .before .before .args .tree .now) (c .before .before .before .before .before .before .before .before .before .before .before .before .before .before .before .before .before .before .before .before .before .before .before .before .args .scope .unresolved) (c .before .before .before .before .before .before .before .before .before .before .before .before .before .before .before .before .before .before .before .before .before .before .before .before .args .function) (c .before .before .before .before .before .before .before .before .before .before .before .before .before .before .before .before .before .before .before .before .before .before .before .before .args .levels) (c .before .before .before .before .before .before .before .before .before .before .before .before .before .before .before .before .before .before .before .before .before .before .before .before .args .at) (c .before .before .before .before .before .before .before .before .before .before .loop .inv) (c .before .before .before .before .before .before .before .before .before .loop-test .taken) (c .before .before .before .before .before .before .param-type .ensures) .few)
@@ -66,7 +66,7 @@ pub sub-record-end : (t : ℕ) → function-type-lts.Need-sub-record-end (calls 
 sub-record-end t c = omega (arith, some-left _ _ _ (c .before .before .before .before .before .before .before .before .before .before .before .before .before .before .before .before .before .before .before .before .before .before .before .before .pre .1 .0 .accepted))
 
 pub record-end-requires : (t : ℕ) → function-type-lts.Need-record-end-requires (calls t) (function-type-at t) function-type.Post Inv-loop μ-loop
-record-end-requires t c κs = is-whole _ _ _ (loop-first _ _ _ (c .before .before .before .before .before .before .before .before .before .before .loop .inv) (c .before .before .before .before .before .before .before .before .before .loop-test .taken))
+record-end-requires t c κs = is-whole _ _ _ (left-first (c .before .before .before .before .before .before .before .before .before .before .loop .inv .left) (c .before .before .before .before .before .before .before .before .before .loop-test .taken))
 
 pub sub-n-2 : (t : ℕ) → function-type-lts.Need-sub-n-2 (calls t) (function-type-at t) function-type.Post Inv-loop μ-loop
 sub-n-2 t c = omega (arith, c .before .before .before .before .before .before .before .before .before .before .loop-test .taken)

@@ -3,8 +3,8 @@ use Prim.Native.Nat.{ℕ}
 use borrow.Author.Needs.{needs}
 use native.Mathlib.Omega.{arith}
 use Rattle.definition.proofs.Children.{itself, some-left}
+use Rattle.definition.proofs.Walk.{left-first}
 use Rattle.swc_helpers.proofs.Made.{is-whole}
-use Rattle.typing.proofs.Upto.{loop-first}
 use Rattle.typing.proofs.Whole.{count-small, ObjectLoop, object-start, object-turn, object-done}
 use Rattle.typing.proofs.object_type.Reads as object-type
 use Rattle.typing.proofs.property_type.Reads as property-type
@@ -41,7 +41,7 @@ pub sub-property-type : (t : ℕ) → object-type-lts.Need-sub-property-type (ca
 sub-property-type t c = omega (arith, some-left _ _ _ (c .before .before .before .before .before .before .before .before .before .pre .1 .0 .accepted))
 
 pub property-type-requires : (t : ℕ) → object-type-lts.Need-property-type-requires (calls t) (object-type-at t) object-type.Post Inv-loop μ-loop
-property-type-requires t c κs = (omega (arith, c .before .before .before .before .before .before .before .before .before .before .before .pre .0, some-left _ _ _ (c .before .before .before .before .before .before .before .before .before .before .before .pre .1 .0 .accepted)), record { accepted = (loop-first _ _ _ (c .before .before .before .loop .inv) (c .before .before .loop-test .taken)); low = c .before .before .before .loop .inv .low; indexed = c .before .before .before .before .before .before .before .before .before .before .before .pre .1 .0 .indexed })
+property-type-requires t c κs = (omega (arith, c .before .before .before .before .before .before .before .before .before .before .before .pre .0, some-left _ _ _ (c .before .before .before .before .before .before .before .before .before .before .before .pre .1 .0 .accepted)), record { accepted = (left-first (c .before .before .before .loop .inv .left) (c .before .before .loop-test .taken)); low = c .before .before .before .loop .inv .low; indexed = c .before .before .before .before .before .before .before .before .before .before .before .pre .1 .0 .indexed })
 
 pub add-count : (t : ℕ) → object-type-lts.Need-add-count (calls t) (object-type-at t) object-type.Post Inv-loop μ-loop
 add-count t c = omega (arith, object-turn (c .before .before .before .before .before .before .before .before .before .before .before .before .before .before .before .before .before .before .args .tree .now) (c .before .before .before .before .before .before .before .before .before .before .before .before .before .before .before .before .before .before .args .mode) (c .before .before .before .before .before .before .before .before .before .before .before .before .before .before .before .before .before .before .args .levels) (c .before .before .before .before .before .before .before .before .before .before .before .before .before .before .before .before .before .before .args .at) (c .before .before .before .before .before .before .before .before .before .before .before .before .before .before .before .before .before .before .args .s) (c .before .before .before .before .before .before .before .before .before .before .loop .inv) (c .before .before .before .before .before .before .before .before .before .loop-test .taken) (c .before .before .before .before .before .before .property-type .ensures) .few)
@@ -50,7 +50,7 @@ pub sub-record-end : (t : ℕ) → object-type-lts.Need-sub-record-end (calls t)
 sub-record-end t c = omega (arith, some-left _ _ _ (c .before .before .before .before .before .before .before .before .before .before .before .before .before .before .before .before .before .before .pre .1 .0 .accepted))
 
 pub record-end-requires : (t : ℕ) → object-type-lts.Need-record-end-requires (calls t) (object-type-at t) object-type.Post Inv-loop μ-loop
-record-end-requires t c κs = is-whole _ _ _ (loop-first _ _ _ (c .before .before .before .before .before .before .before .before .before .before .loop .inv) (c .before .before .before .before .before .before .before .before .before .loop-test .taken))
+record-end-requires t c κs = is-whole _ _ _ (left-first (c .before .before .before .before .before .before .before .before .before .before .loop .inv .left) (c .before .before .before .before .before .before .before .before .before .loop-test .taken))
 
 pub sub-n : (t : ℕ) → object-type-lts.Need-sub-n (calls t) (object-type-at t) object-type.Post Inv-loop μ-loop
 sub-n t c = omega (arith, c .before .before .before .before .before .before .before .before .before .before .loop-test .taken)

@@ -3,9 +3,9 @@ use Prim.Native.Nat.{ℕ}
 use borrow.Author.Needs.{needs}
 use native.Mathlib.Omega.{arith}
 use Rattle.definition.proofs.Children.{itself, some-left}
+use Rattle.definition.proofs.Walk.{left-first}
 use Rattle.swc_helpers.proofs.Made.{is-whole}
 use Rattle.typing.proofs.Steps.{did-at}
-use Rattle.typing.proofs.Upto.{loop-first}
 use Rattle.typing.proofs.Whole.{count-small, TupleLoop, tuple-start, tuple-turn, tuple-stop, tuple-done}
 use Rattle.typing.proofs.tuple_type.Reads as tuple-type
 use Rattle.typing.proofs.element_type.Reads as element-type
@@ -43,7 +43,7 @@ pub sub-element-type : (t : ℕ) → tuple-type-lts.Need-sub-element-type (calls
 sub-element-type t c = omega (arith, some-left _ _ _ (c .before .before .before .before .before .before .before .before .before .pre .1 .accepted))
 
 pub element-type-requires : (t : ℕ) → tuple-type-lts.Need-element-type-requires (calls t) (tuple-type-at t) tuple-type.Post Inv-loop μ-loop
-element-type-requires t c κs = (omega (arith, c .before .before .before .before .before .before .before .before .before .before .before .pre .0, some-left _ _ _ (c .before .before .before .before .before .before .before .before .before .before .before .pre .1 .accepted)), record { accepted = (loop-first _ _ _ (c .before .before .before .loop .inv) (c .before .before .loop-test .taken)); low = c .before .before .before .loop .inv .low; indexed = c .before .before .before .before .before .before .before .before .before .before .before .pre .1 .indexed })
+element-type-requires t c κs = (omega (arith, c .before .before .before .before .before .before .before .before .before .before .before .pre .0, some-left _ _ _ (c .before .before .before .before .before .before .before .before .before .before .before .pre .1 .accepted)), record { accepted = (left-first (c .before .before .before .loop .inv .left) (c .before .before .loop-test .taken)); low = c .before .before .before .loop .inv .low; indexed = c .before .before .before .before .before .before .before .before .before .before .before .pre .1 .indexed })
 
 pub enum-known-made : (t : ℕ) → tuple-type-lts.Need-enum-known-made (calls t) (tuple-type-at t) tuple-type.Post Inv-loop μ-loop
 enum-known-made t c = search needs
@@ -70,7 +70,7 @@ pub sub-record-end : (t : ℕ) → tuple-type-lts.Need-sub-record-end (calls t) 
 sub-record-end t c = omega (arith, some-left _ _ _ (c .before .before .before .before .before .before .before .before .before .before .before .before .before .before .before .before .before .before .before .before .before .pre .1 .accepted))
 
 pub record-end-requires : (t : ℕ) → tuple-type-lts.Need-record-end-requires (calls t) (tuple-type-at t) tuple-type.Post Inv-loop μ-loop
-record-end-requires t c κs = is-whole _ _ _ (loop-first _ _ _ (c .before .before .before .before .before .before .before .before .before .before .before .before .before .loop .inv) (c .before .before .before .before .before .before .before .before .before .before .before .before .loop-test .taken))
+record-end-requires t c κs = is-whole _ _ _ (left-first (c .before .before .before .before .before .before .before .before .before .before .before .before .before .loop .inv .left) (c .before .before .before .before .before .before .before .before .before .before .before .before .loop-test .taken))
 
 pub sub-n : (t : ℕ) → tuple-type-lts.Need-sub-n (calls t) (tuple-type-at t) tuple-type.Post Inv-loop μ-loop
 sub-n t c = omega (arith, c .before .before .before .before .before .before .before .before .before .before .before .before .before .loop-test .taken)
