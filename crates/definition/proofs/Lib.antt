@@ -8,6 +8,7 @@ pub mod Kids
 pub mod Walk
 pub mod Counting
 pub mod CountingItems
+pub mod Depths
 pub mod Silence
 pub mod Properties
 pub mod SilenceModule

@@ -13,6 +13,7 @@ pub mod Classes
 pub mod Enums
 pub mod Items
 pub mod Transform
+pub mod Depths
 pub mod Demand3
 pub mod Widths
 pub mod Silence

@@ -190,6 +190,9 @@ pub record Diag : Type 0 where
 abbrev pub diag : String → Head → Diag
 diag s h = record { mark = mark s; start = h .start; end = h .end }
 
+abbrev pub diagnosticMarks : List ℕ
+diagnosticMarks = mark "d1" ∷ mark "d2" ∷ mark "d3" ∷ mark "d4" ∷ mark "d5" ∷ []
+
 abbrev pub diagBytes : Diag → List ℕ
 diagBytes d = le2 (d .mark) ++ (le4 (d .start) ++ le4 (d .end))
 
