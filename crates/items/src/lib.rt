@@ -127,7 +127,7 @@ pub fn transform_module_items(
 }
 
 // One of the items, by its kind.
-fn transform_module_item(
+pub fn transform_module_item(
     tree: &[u8],
     at: usize,
     levels: usize,
