@@ -20,6 +20,9 @@ const USAGE: &str = "\
 oracle run [--list HEX] [--context N] [--out N] [--diagnostics N] [TREE]
     the call on one tree, printed as the program `declares` does; with --output
     the tree that was written comes last, in notation
+oracle depths [--list HEX] [--context N] [--out N] [--diagnostics N] [TREE]
+    how many of each diagnostic and how deep, printed as the program `depths`
+    does
 oracle show          bytes on standard input, printed in notation
 oracle text TREE     notation, printed as bytes
 oracle gen N SEED    N random cases and those at the limits, and their counts
@@ -54,6 +57,7 @@ fn command(args: &[String]) -> Result<(), String> {
   let rest = args.get(1..).unwrap_or(&[]);
   match args.first().map(String::as_str) {
     Some("run") => run(rest),
+    Some("depths") => depths(rest),
     Some("show") => show(),
     Some("text") => text(rest),
     Some("gen") => {
@@ -147,8 +151,19 @@ fn number<T: std::str::FromStr>(word: Option<&String>) -> Result<T, String> {
     .ok_or(USAGE.to_string())
 }
 
-/// As `declares`: list empty, unresolved context 1, its limits.
-fn run(args: &[String]) -> Result<(), String> {
+/// What `declares` fixes, unless the words say otherwise: list empty,
+/// unresolved context 1, its limits.
+struct Given {
+  tree: Vec<u8>,
+  list: Vec<u8>,
+  unresolved: u32,
+  out: Vec<u8>,
+  diagnostics: Vec<u8>,
+  /// Whether to print the output too.
+  output: bool,
+}
+
+fn given(args: &[String]) -> Result<Given, String> {
   let mut tree = None;
   let mut list = vec![];
   let mut unresolved = 1;
@@ -169,27 +184,72 @@ fn run(args: &[String]) -> Result<(), String> {
       word => tree = Some(parse_tree(word)?),
     }
   }
-  let tree = match tree {
-    Some(tree) => tree,
-    None => standard_input()?,
-  };
-  if tree.len() > 32_768 {
+  Ok(Given {
+    tree: match tree {
+      Some(tree) => tree,
+      None => standard_input()?,
+    },
+    list,
+    unresolved,
+    out: vec![0; out],
+    diagnostics: vec![0; diagnostics],
+    output,
+  })
+}
+
+impl Given {
+  fn is_too_long(&self) -> bool {
+    self.tree.len() > 32_768
+  }
+}
+
+/// As `declares`.
+fn run(args: &[String]) -> Result<(), String> {
+  let mut on = given(args)?;
+  if on.is_too_long() {
     println!("too long");
     return Ok(());
   }
-  let mut out = vec![0; out];
-  let mut diagnostics = vec![0; diagnostics];
-  let answer = call(&tree, &list, unresolved, &mut out, &mut diagnostics);
+  let answer = call(
+    &on.tree,
+    &on.list,
+    on.unresolved,
+    &mut on.out,
+    &mut on.diagnostics,
+  );
   println!("{answer}");
   if let Answer::Done(length, count) = answer {
-    for d in diagnostics.chunks(10).take(count) {
+    for d in on.diagnostics.chunks(10).take(count) {
       let (start, end) = oracle::grammar::entry_range(d);
       println!("{} {start} {end}", d[1] as char);
     }
-    if output {
-      let (tree, _) = Rec::read(&out[..length], 0).expect("it was written");
+    if on.output {
+      let (tree, _) = Rec::read(&on.out[..length], 0).expect("it was written");
       println!("{}", notation::show(&tree));
     }
+  }
+  Ok(())
+}
+
+/// As the program `depths`.
+fn depths(args: &[String]) -> Result<(), String> {
+  let mut on = given(args)?;
+  if on.is_too_long() {
+    println!("too long");
+    return Ok(());
+  }
+  let mut counts = [0; oracle::depths::CELLS];
+  let answer = oracle::depths::depths(
+    &on.tree,
+    &on.list,
+    on.unresolved,
+    &mut on.out,
+    &mut on.diagnostics,
+    &mut counts,
+  );
+  match answer {
+    Answer::Done(..) => print!("{}", oracle::depths::print(&counts)),
+    Answer::Refused(_) => println!("{answer}"),
   }
   Ok(())
 }
