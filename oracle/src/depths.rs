@@ -28,13 +28,20 @@ pub const CELLS: usize = ROWS * COLUMNS;
 /// The table, row by row.
 pub type Counts = [u32; CELLS];
 
-/// A diagnostic, and the record that it is marked at: its mark, and how many
-/// `Ns` records hold it. A record does not hold itself, and an `Nd` is no `Ns`.
+/// A diagnostic, and the record that it is marked at.
 #[derive(Clone, Copy, Debug, PartialEq, Eq)]
 pub struct Marked {
   pub diagnostic: Diagnostic,
+  pub at: At,
+}
+
+/// A record's mark, and how many `Ns` and how many `Nd` records hold it. A
+/// record does not hold itself.
+#[derive(Clone, Copy, Debug, PartialEq, Eq)]
+pub struct At {
   pub mark: Mark,
   pub depth: usize,
+  pub dots: usize,
 }
 
 type Range = (u32, u32);
@@ -43,8 +50,7 @@ type Range = (u32, u32);
 struct Place {
   own: Range,
   former: Range,
-  mark: Mark,
-  depth: usize,
+  at: At,
 }
 
 /// The records in preorder; the first is number 1, so that no own range is that
@@ -56,11 +62,11 @@ impl Places {
   /// Gives each record of the tree a range of its own.
   fn give(tree: &mut Rec) -> Places {
     let mut places = Places::default();
-    places.add(tree, 0);
+    places.add(tree, 0, 0);
     places
   }
 
-  fn add(&mut self, r: &mut Rec, depth: usize) {
+  fn add(&mut self, r: &mut Rec, depth: usize, dots: usize) {
     let number = self.0.len() as u32 + 1;
     let former = (r.start, r.end);
     // Both ends stay what they were modulo CHOICES (see decode.rs).
@@ -69,12 +75,16 @@ impl Places {
     self.0.push(Place {
       own: (r.start, r.end),
       former,
-      mark: r.mark,
-      depth,
+      at: At {
+        mark: r.mark,
+        depth,
+        dots,
+      },
     });
     let depth = depth + r.is("Ns") as usize;
+    let dots = dots + r.is("Nd") as usize;
     for kid in &mut r.kids {
-      self.add(kid, depth);
+      self.add(kid, depth, dots);
     }
   }
 
@@ -127,8 +137,7 @@ pub fn marked(tree: &Rec, list: &[u8], unresolved: u32) -> Vec<Marked> {
           start: place.former.0,
           end: place.former.1,
         },
-        mark: place.mark,
-        depth: place.depth,
+        at: place.at,
       }
     })
     .collect();
@@ -143,7 +152,7 @@ pub fn marked(tree: &Rec, list: &[u8], unresolved: u32) -> Vec<Marked> {
 pub fn table(marked: &[Marked]) -> Counts {
   let mut counts = [0; CELLS];
   for m in marked {
-    counts[cell(m.diagnostic.digit, m.depth)] += 1;
+    counts[cell(m.diagnostic.digit, m.at.depth)] += 1;
   }
   counts
 }
