@@ -200,6 +200,19 @@ pub fn print(counts: &Counts) -> String {
   text + &format!("{total}\n")
 }
 
+/// The cells that are not 0, each as kind, depth and count: `1:0:2,5:3:1`, or
+/// `-` where there is none.
+pub fn show(counts: &Counts) -> String {
+  let cells = counts.iter().enumerate().filter(|(_, count)| **count > 0);
+  let words: Vec<String> = cells
+    .map(|(at, count)| format!("{}:{}:{count}", at / COLUMNS + 1, at % COLUMNS))
+    .collect();
+  match words.is_empty() {
+    true => "-".to_string(),
+    false => words.join(","),
+  }
+}
+
 /// What a call gave: the answer, the bytes that it wrote, and the table, which
 /// is absent on a refusal.
 #[derive(Clone, Debug, PartialEq, Eq)]

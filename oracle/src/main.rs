@@ -290,6 +290,9 @@ fn run(args: &[String]) -> Result<(), String> {
 /// As the program `depths`.
 fn depths(args: &[String]) -> Result<(), String> {
   let mut on = given(args)?;
+  if on.output {
+    return Err(USAGE.to_string());
+  }
   if on.is_too_long() {
     println!("too long");
     return Ok(());

@@ -61,6 +61,7 @@ fn an_empty_module() {
   let counts = table(&parse("Mo").unwrap());
   assert_eq!(counts, [0; CELLS]);
   assert_eq!(depths::print(&counts), ZEROS.repeat(5) + "0\n");
+  assert_eq!(depths::show(&counts), "-");
 }
 
 #[test]
@@ -72,7 +73,9 @@ fn printed() {
   wanted += &("0 1".to_string() + &" 0".repeat(30) + "\n");
   wanted += &("1 1".to_string() + &" 0".repeat(30) + "\n");
   wanted += "7\n";
-  assert_eq!(depths::print(&table(&tree.unwrap())), wanted);
+  let counts = table(&tree.unwrap());
+  assert_eq!(depths::print(&counts), wanted);
+  assert_eq!(depths::show(&counts), "1:0:1,1:1:3,4:1:1,5:0:1,5:1:1");
 }
 
 /// The table of the shortest item of a kind in so many namespaces.
@@ -234,7 +237,7 @@ fn agrees(case: &Case) {
 /// ordinary one, wherever the tree is accepted.
 #[test]
 fn ordinary_cases() {
-  for number in 0..60_000 {
+  for number in 0..70_000 {
     agrees(&numbered(21, number, false));
   }
 }
@@ -242,10 +245,10 @@ fn ordinary_cases() {
 #[test]
 fn cases_with_namespaces() {
   let mut depths = Depths::default();
-  for number in 0..40_000 {
+  for number in 0..30_000 {
     let case = numbered_depth(22, number, false);
     agrees(&case);
-    if number < 10_000 {
+    if number < 5_000 {
       depths.add(&case);
     }
   }
@@ -298,7 +301,7 @@ fn accepted(seed: u64, number: u64) -> Option<(Rec, Case)> {
 #[test]
 fn where_each_kind_stands() {
   let mut marks = vec![BTreeSet::new(); 6];
-  for number in 0..10_000 {
+  for number in 0..4_000 {
     let Some((tree, case)) = accepted(23, number) else {
       continue;
     };
@@ -336,7 +339,7 @@ fn with_byte_ranges(r: &mut Rec, at: usize) -> usize {
 #[test]
 fn counted_by_bytes() {
   let mut seen = 0;
-  for number in 0..10_000 {
+  for number in 0..4_000 {
     let Some((mut tree, case)) = accepted(24, number) else {
       continue;
     };
@@ -376,7 +379,7 @@ fn counted_by_bytes() {
     );
     assert!(counts == wanted);
   }
-  assert!(seen > 10_000);
+  assert!(seen > 10_000, "{seen}");
 }
 
 /// The items of a tree, in one body more.
@@ -394,7 +397,7 @@ fn wrapped(tree: &Rec, names: usize) -> Rec {
 #[test]
 fn one_namespace_more() {
   let mut moved_some = 0;
-  for number in 0..10_000 {
+  for number in 0..4_000 {
     let Some((tree, case)) = accepted(25, number) else {
       continue;
     };
@@ -417,5 +420,5 @@ fn one_namespace_more() {
     assert!(of(&dotted) == first);
     moved_some += (moved != first) as u32;
   }
-  assert!(moved_some > 1_000);
+  assert!(moved_some > 1_000, "{moved_some}");
 }

@@ -1,7 +1,8 @@
 //! Random cases: grammatical trees in which every mark and every rule of the
 //! transform comes up often, overload lists that hit and miss, damaged copies,
 //! trees and lists at their limits, and buffers that are just long enough, one
-//! byte short, or ample. The same seed gives the same cases.
+//! byte short, or ample; and cases with namespaces in namespaces, for the depth
+//! of diagnostics. The same seed gives the same cases.
 
 mod damage;
 mod depth_limits;
