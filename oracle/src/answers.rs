@@ -3,6 +3,7 @@
 //! says.
 
 use crate::call::Answer;
+use crate::depths;
 use crate::generate::Case;
 use crate::lines::outcome;
 
@@ -21,17 +22,20 @@ fn stored(bytes: &[u8], longest: usize) -> &[u8] {
   }
 }
 
-/// A case with its answer; buffers are cut to what the program has room for.
-pub fn write(case: &Case) -> Vec<u8> {
-  let case = Case {
+/// The case with its buffers cut to what the program has room for.
+fn cut(case: &Case) -> Case {
+  Case {
     tree: case.tree.clone(),
     list: case.list.clone(),
     out: case.out.min(ROOM),
     diagnostics: case.diagnostics.min(ROOM),
     unresolved: case.unresolved,
-  };
-  let outcome = outcome(&case);
-  let answer = match outcome.answer {
+  }
+}
+
+/// The ten numbers, others after them, the tree and the list.
+fn head(case: &Case, answer: Answer, others: &[usize]) -> Vec<u8> {
+  let answer = match answer {
     Answer::Done(bytes, count) => [0, bytes, count],
     Answer::Refused(no) => [no.number as usize, no.place, 0],
   };
@@ -47,14 +51,52 @@ pub fn write(case: &Case) -> Vec<u8> {
     case.out,
     case.diagnostics,
   ]
-  .into_iter()
-  .chain(answer)
+  .iter()
+  .chain(&answer)
+  .chain(others)
   {
-    bytes.extend((number as u32).to_le_bytes());
+    bytes.extend((*number as u32).to_le_bytes());
   }
   bytes.extend(tree);
   bytes.extend(list);
+  bytes
+}
+
+/// A case with its answer.
+pub fn write(case: &Case) -> Vec<u8> {
+  let case = cut(case);
+  let outcome = outcome(&case);
+  let mut bytes = head(&case, outcome.answer, &[]);
   bytes.extend(outcome.output);
   bytes.extend(outcome.diagnostics);
   bytes
+}
+
+/// The same for `depths`: an eleventh number says how many cells of the table
+/// are not 0, and they come last, in order: for each its place, row by row (0
+/// to 159), and its count, four bytes each. A refusal has none: the counts are
+/// as they were.
+pub fn write_depths(case: &Case) -> Vec<u8> {
+  let case = cut(case);
+  let outcome = depths::outcome(&case);
+  let counts = outcome.counts.unwrap_or([0; depths::CELLS]);
+  let cells: Vec<(u32, u32)> =
+    (0..).zip(counts).filter(|cell| cell.1 > 0).collect();
+  let mut bytes = head(&case, outcome.answer, &[cells.len()]);
+  bytes.extend(outcome.output);
+  bytes.extend(outcome.diagnostics);
+  for (place, count) in cells {
+    bytes.extend(place.to_le_bytes());
+    bytes.extend(count.to_le_bytes());
+  }
+  bytes
+}
+
+/// Whether the whole output of the case fits in the program's buffers, or is
+/// refused with them too.
+pub fn has_room(case: &Case) -> bool {
+  match depths::outcome(case).answer {
+    Answer::Done(bytes, count) => bytes <= ROOM && 10 * count <= ROOM,
+    Answer::Refused(_) => true,
+  }
 }

@@ -22,7 +22,12 @@ pub fn module(tree: &Rec) -> (Module, Notes) {
   (Module { span, body }, decode.notes)
 }
 
+/// Every number of choices divides this one, so a range whose start and end
+/// are the same modulo it chooses the same node.
+pub const CHOICES: u32 = 180;
+
 fn pick(r: &Rec, of: usize) -> usize {
+  debug_assert!(CHOICES as usize % of == 0);
   let sum = r.start as u64 * 7 + r.end as u64 * 3 + r.flags as u64;
   (sum % of as u64) as usize
 }

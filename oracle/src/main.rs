@@ -9,8 +9,10 @@ use oracle::call::call;
 use oracle::generate::Case;
 use oracle::leaves;
 use oracle::lines;
+use oracle::measure::Depths;
 use oracle::measure::count;
 use oracle::measure::numbered;
+use oracle::measure::numbered_depth;
 use oracle::measure::twice;
 use oracle::notation;
 use oracle::record::Rec;
@@ -20,9 +22,15 @@ const USAGE: &str = "\
 oracle run [--list HEX] [--context N] [--out N] [--diagnostics N] [TREE]
     the call on one tree, printed as the program `declares` does; with --output
     the tree that was written comes last, in notation
+oracle depths [--list HEX] [--context N] [--out N] [--diagnostics N] [TREE]
+    how many of each diagnostic and how deep, printed as the program `depths`
+    does
 oracle show          bytes on standard input, printed in notation
 oracle text TREE     notation, printed as bytes
 oracle gen N SEED    N random cases and those at the limits, and their counts
+oracle depth-gen N SEED [--ordinary]
+    N random cases with namespaces in namespaces, and how many diagnostics of
+    each kind stand at which depth; or the same of the cases of `gen`
 oracle twice N SEED  demand 3 over N random cases, each run twice
 oracle cases N SEED [--max BYTES] [--limits]
     N random cases with their answers, a line each (see lines.rs); trees and
@@ -37,6 +45,10 @@ oracle answers FOLDER N SEED
     the cases of the program `test_replay` with the Rust's answers: those of
     cases/shown.txt, the small and some of the deep ones at the limits, and N
     random ones with trees of at most 400 bytes; written to stdin and stdout in its folder
+oracle depth-answers FOLDER N SEED
+    the same for the program `test_depths`, with the table of each case: those
+    of generate/depth_limits.rs that are small, and N random ones with
+    namespaces in namespaces and trees of at most 1800 bytes
 TREE is in notation, as 'Mo(Xe(Ar))'; without it bytes come from standard input.";
 
 fn main() -> ExitCode {
@@ -54,6 +66,7 @@ fn command(args: &[String]) -> Result<(), String> {
   let rest = args.get(1..).unwrap_or(&[]);
   match args.first().map(String::as_str) {
     Some("run") => run(rest),
+    Some("depths") => depths(rest),
     Some("show") => show(),
     Some("text") => text(rest),
     Some("gen") => {
@@ -64,6 +77,7 @@ fn command(args: &[String]) -> Result<(), String> {
         _ => Err("the last two counts have to be 0".to_string()),
       }
     }
+    Some("depth-gen") => depth_gen(rest),
     Some("twice") => {
       let twice = twice(number(rest.first())?, number(rest.get(1))?);
       twice.print();
@@ -90,7 +104,30 @@ fn command(args: &[String]) -> Result<(), String> {
       program(rest, &leaves::stdin(&trees), &types::stdout(&trees))
     }
     Some("answers") => answers(rest),
+    Some("depth-answers") => depth_answers(rest),
     _ => Err(USAGE.to_string()),
+  }
+}
+
+fn depth_gen(args: &[String]) -> Result<(), String> {
+  let wanted: u64 = number(args.first())?;
+  let seed = number(args.get(1))?;
+  let ordinary = match args.get(2).map(String::as_str) {
+    None => false,
+    Some("--ordinary") => true,
+    _ => return Err(USAGE.to_string()),
+  };
+  let mut depths = Depths::default();
+  for place in 0..wanted {
+    depths.add(&match ordinary {
+      true => numbered(seed, place, false),
+      false => numbered_depth(seed, place, false),
+    });
+  }
+  depths.print();
+  match depths.in_last_column() {
+    0 => Ok(()),
+    _ => Err("the last count has to be 0".to_string()),
   }
 }
 
@@ -127,6 +164,29 @@ fn answers(args: &[String]) -> Result<(), String> {
   program(args, &stdin, &format!("{count} cases, 0 differ\n"))
 }
 
+fn depth_answers(args: &[String]) -> Result<(), String> {
+  let wanted: usize = number(args.get(1))?;
+  let seed = number(args.get(2))?;
+  let fixed = oracle::generate::depth_limits();
+  let fixed = fixed.into_iter().filter(|case| {
+    (case.tree.len() <= 4096 || case.tree.len() > 524_288)
+      && oracle::answers::has_room(case)
+  });
+  let random = (0..).map(|place| numbered_depth(seed, place, false));
+  let random = random.filter(|case| {
+    case.tree.len() <= 1800
+      && case.list.len() <= 400
+      && oracle::answers::has_room(case)
+  });
+  let mut stdin = vec![];
+  let mut count = 0;
+  for case in fixed.chain(random.take(wanted)) {
+    stdin.extend(oracle::answers::write_depths(&case));
+    count += 1;
+  }
+  program(args, &stdin, &format!("{count} cases, 0 differ\n"))
+}
+
 fn standard_input() -> Result<Vec<u8>, String> {
   let mut bytes = vec![];
   std::io::stdin()
@@ -147,8 +207,19 @@ fn number<T: std::str::FromStr>(word: Option<&String>) -> Result<T, String> {
     .ok_or(USAGE.to_string())
 }
 
-/// As `declares`: list empty, unresolved context 1, its limits.
-fn run(args: &[String]) -> Result<(), String> {
+/// What `declares` fixes, unless the words say otherwise: list empty,
+/// unresolved context 1, its limits.
+struct Given {
+  tree: Vec<u8>,
+  list: Vec<u8>,
+  unresolved: u32,
+  out: Vec<u8>,
+  diagnostics: Vec<u8>,
+  /// Whether to print the output too.
+  output: bool,
+}
+
+fn given(args: &[String]) -> Result<Given, String> {
   let mut tree = None;
   let mut list = vec![];
   let mut unresolved = 1;
@@ -169,27 +240,75 @@ fn run(args: &[String]) -> Result<(), String> {
       word => tree = Some(parse_tree(word)?),
     }
   }
-  let tree = match tree {
-    Some(tree) => tree,
-    None => standard_input()?,
-  };
-  if tree.len() > 32_768 {
+  Ok(Given {
+    tree: match tree {
+      Some(tree) => tree,
+      None => standard_input()?,
+    },
+    list,
+    unresolved,
+    out: vec![0; out],
+    diagnostics: vec![0; diagnostics],
+    output,
+  })
+}
+
+impl Given {
+  fn is_too_long(&self) -> bool {
+    self.tree.len() > 32_768
+  }
+}
+
+/// As `declares`.
+fn run(args: &[String]) -> Result<(), String> {
+  let mut on = given(args)?;
+  if on.is_too_long() {
     println!("too long");
     return Ok(());
   }
-  let mut out = vec![0; out];
-  let mut diagnostics = vec![0; diagnostics];
-  let answer = call(&tree, &list, unresolved, &mut out, &mut diagnostics);
+  let answer = call(
+    &on.tree,
+    &on.list,
+    on.unresolved,
+    &mut on.out,
+    &mut on.diagnostics,
+  );
   println!("{answer}");
   if let Answer::Done(length, count) = answer {
-    for d in diagnostics.chunks(10).take(count) {
+    for d in on.diagnostics.chunks(10).take(count) {
       let (start, end) = oracle::grammar::entry_range(d);
       println!("{} {start} {end}", d[1] as char);
     }
-    if output {
-      let (tree, _) = Rec::read(&out[..length], 0).expect("it was written");
+    if on.output {
+      let (tree, _) = Rec::read(&on.out[..length], 0).expect("it was written");
       println!("{}", notation::show(&tree));
     }
+  }
+  Ok(())
+}
+
+/// As the program `depths`.
+fn depths(args: &[String]) -> Result<(), String> {
+  let mut on = given(args)?;
+  if on.output {
+    return Err(USAGE.to_string());
+  }
+  if on.is_too_long() {
+    println!("too long");
+    return Ok(());
+  }
+  let mut counts = [0; oracle::depths::CELLS];
+  let answer = oracle::depths::depths(
+    &on.tree,
+    &on.list,
+    on.unresolved,
+    &mut on.out,
+    &mut on.diagnostics,
+    &mut counts,
+  );
+  match answer {
+    Answer::Done(..) => print!("{}", oracle::depths::print(&counts)),
+    Answer::Refused(_) => println!("{answer}"),
   }
   Ok(())
 }

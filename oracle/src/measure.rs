@@ -5,10 +5,12 @@ use std::collections::BTreeMap;
 use crate::call::Answer;
 use crate::call::call;
 use crate::decode;
+use crate::depths;
 use crate::encode;
 use crate::generate::Case;
 use crate::generate::Rng;
 use crate::generate::case;
+use crate::generate::depth_case;
 use crate::generate::limits;
 use crate::grammar::Grammar;
 use crate::grammar::check;
@@ -23,6 +25,13 @@ pub fn numbered(seed: u64, number: u64, ample: bool) -> Case {
   let mut rng = Rng::new(seed.wrapping_mul(1_000_000_007).wrapping_add(number));
   let size = *rng.one_of(&SIZES);
   case(&mut rng, size, ample)
+}
+
+/// The same, of the run with namespaces in namespaces.
+pub fn numbered_depth(seed: u64, number: u64, ample: bool) -> Case {
+  let mut rng = Rng::new(seed.wrapping_mul(1_000_000_007).wrapping_add(number));
+  let size = *rng.one_of(&SIZES);
+  depth_case(&mut rng, size, ample)
 }
 
 #[derive(Default)]
@@ -102,6 +111,96 @@ pub fn count(cases: u64, seed: u64) -> Counts {
     counts.add(&numbered(seed, number, false));
   }
   counts
+}
+
+/// How many diagnostics of each kind stand at which depth.
+pub struct Depths {
+  pub cases: u64,
+  pub done: u64,
+  /// By the refusal's number.
+  pub refused: BTreeMap<u8, u64>,
+  /// Of calls that were done, row by row: diagnostics, and cases with one.
+  pub diagnostics: [u64; depths::CELLS],
+  pub with_one: [u64; depths::CELLS],
+  /// Cases by their deepest diagnostic.
+  pub deepest: [u64; depths::COLUMNS],
+}
+
+impl Default for Depths {
+  fn default() -> Depths {
+    Depths {
+      cases: 0,
+      done: 0,
+      refused: BTreeMap::new(),
+      diagnostics: [0; depths::CELLS],
+      with_one: [0; depths::CELLS],
+      deepest: [0; depths::COLUMNS],
+    }
+  }
+}
+
+impl Depths {
+  pub fn add(&mut self, case: &Case) {
+    self.cases += 1;
+    let outcome = depths::outcome(case);
+    match outcome.answer {
+      Answer::Done(..) => self.done += 1,
+      Answer::Refused(no) => *self.refused.entry(no.number).or_default() += 1,
+    }
+    let Some(counts) = outcome.counts else {
+      return;
+    };
+    let mut deepest = None;
+    for (cell, count) in counts.iter().enumerate() {
+      self.diagnostics[cell] += *count as u64;
+      if *count > 0 {
+        self.with_one[cell] += 1;
+        deepest = deepest.max(Some(cell % depths::COLUMNS));
+      }
+    }
+    if let Some(depth) = deepest {
+      self.deepest[depth] += 1;
+    }
+  }
+
+  /// Cases with a diagnostic so deep or deeper.
+  pub fn as_deep_as(&self, depth: usize) -> u64 {
+    self.deepest[depth..].iter().sum()
+  }
+
+  /// The diagnostics in the last column.
+  pub fn in_last_column(&self) -> u64 {
+    self
+      .diagnostics
+      .chunks(depths::COLUMNS)
+      .map(|row| row[31])
+      .sum()
+  }
+
+  pub fn print(&self) {
+    println!("cases {}", self.cases);
+    println!("done {}", self.done);
+    for (number, count) in &self.refused {
+      println!("refused {number}: {count}");
+    }
+    for depth in [0, 1, 2, 10, 29, 30] {
+      let count = self.as_deep_as(depth);
+      println!("cases with a diagnostic at depth {depth} or more: {count}");
+    }
+    let row = |counts: &[u64]| -> String {
+      let words = counts.iter().enumerate().filter(|(_, count)| **count > 0);
+      words
+        .map(|(depth, count)| format!(" {depth}:{count}"))
+        .collect()
+    };
+    for (kind, counts) in self.diagnostics.chunks(depths::COLUMNS).enumerate() {
+      println!("diagnostics d{} by depth:{}", kind + 1, row(counts));
+    }
+    for (kind, counts) in self.with_one.chunks(depths::COLUMNS).enumerate() {
+      println!("cases with a d{} by depth:{}", kind + 1, row(counts));
+    }
+    println!("diagnostics at depth 31: {}", self.in_last_column());
+  }
 }
 
 /// Demand 3 over random cases, each run twice. The conditions, in document

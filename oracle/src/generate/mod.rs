@@ -1,14 +1,21 @@
 //! Random cases: grammatical trees in which every mark and every rule of the
 //! transform comes up often, overload lists that hit and miss, damaged copies,
 //! trees and lists at their limits, and buffers that are just long enough, one
-//! byte short, or ample. The same seed gives the same cases.
+//! byte short, or ample; and cases with namespaces in namespaces, for the depth
+//! of diagnostics. The same seed gives the same cases.
 
 mod damage;
+mod depth_limits;
 mod limits;
 mod tree;
 
+pub use depth_limits::KINDS;
+pub use depth_limits::Way;
+pub use depth_limits::depth_limits;
+pub use depth_limits::in_namespaces;
 pub use limits::limits;
 pub use limits::long_key;
+pub use tree::nested;
 pub use tree::tree;
 
 use crate::call::result;
@@ -111,7 +118,7 @@ fn list(rng: &mut Rng, tree: &Rec) -> Vec<u8> {
 /// One random case. With ample buffers where the answer is not to depend on
 /// their length.
 pub fn case(rng: &mut Rng, size: usize, ample: bool) -> Case {
-  let (mut tree, unresolved) = match rng.below(40) {
+  let (tree, unresolved) = match rng.below(40) {
     0 => {
       let depth = 60 + rng.below(7);
       (deep(rng, depth), 1)
@@ -121,6 +128,18 @@ pub fn case(rng: &mut Rng, size: usize, ample: bool) -> Case {
       tree(rng, size)
     }
   };
+  around(rng, tree, unresolved, ample)
+}
+
+/// The same, with namespaces in namespaces and diagnostics at many depths.
+pub fn depth_case(rng: &mut Rng, size: usize, ample: bool) -> Case {
+  let size = 2 + rng.below(size);
+  let (tree, unresolved) = nested(rng, size);
+  around(rng, tree, unresolved, ample)
+}
+
+/// A case of a tree: a list, perhaps some damage, and buffers.
+fn around(rng: &mut Rng, mut tree: Rec, unresolved: u32, ample: bool) -> Case {
   let mut list = list(rng, &tree);
   let mut bytes;
   match rng.below(10) {

@@ -1,6 +1,10 @@
 //! Grammatical trees in which every mark and every rule of the transform
 //! comes up often.
 
+mod namespaces;
+
+pub use namespaces::nested;
+
 use super::Rng;
 use crate::grammar::MAX_DEPTH;
 use crate::record::Rec;
@@ -73,23 +77,7 @@ struct Tree<'r> {
 
 /// An accepted tree of about `size` records, and the unresolved context.
 pub fn tree(rng: &mut Rng, size: usize) -> (Rec, u32) {
-  let unresolved = *rng.one_of(&[0, 1, 1, 1, 2, 7, u32::MAX]);
-  let contexts = [0, 1, 2, 3, unresolved, unresolved.wrapping_add(1)];
-  let mut names = vec![];
-  for _ in 0..4 {
-    let symbol = *rng.one_of(&SYMBOLS[..6]);
-    names.push((*rng.one_of(&contexts), symbol));
-  }
-  let noise = *rng.one_of(&[0, 0, 1, 3]);
-  let mut make = Tree {
-    rng,
-    unresolved,
-    names,
-    left: size,
-    ops: 4 * noise,
-    stray: 6 * noise,
-    heads: 10 * noise,
-  };
+  let mut make = Tree::new(rng, size);
   let count = match make.rng.percent(2) {
     true => 0,
     false => 1 + make.rng.below(1 + size / 4).min(7),
@@ -104,10 +92,30 @@ pub fn tree(rng: &mut Rng, size: usize) -> (Rec, u32) {
   }
   let root = make.done("Mo", 0, items);
   debug_assert!(root.depth() <= MAX_DEPTH);
-  (root, unresolved)
+  (root, make.unresolved)
 }
 
-impl Tree<'_> {
+impl<'r> Tree<'r> {
+  fn new(rng: &'r mut Rng, size: usize) -> Tree<'r> {
+    let unresolved = *rng.one_of(&[0, 1, 1, 1, 2, 7, u32::MAX]);
+    let contexts = [0, 1, 2, 3, unresolved, unresolved.wrapping_add(1)];
+    let mut names = vec![];
+    for _ in 0..4 {
+      let symbol = *rng.one_of(&SYMBOLS[..6]);
+      names.push((*rng.one_of(&contexts), symbol));
+    }
+    let noise = *rng.one_of(&[0, 0, 1, 3]);
+    Tree {
+      rng,
+      unresolved,
+      names,
+      left: size,
+      ops: 4 * noise,
+      stray: 6 * noise,
+      heads: 10 * noise,
+    }
+  }
+
   fn range(&mut self) -> (u32, u32) {
     match self.rng.below(20) {
       0..5 => (0, 0),
