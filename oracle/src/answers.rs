@@ -1,6 +1,6 @@
-//! The cases of the program `test_replay` with the Rust's answers: ten numbers
-//! of four bytes for each, then its bytes, as crates/test_replay/src/main.rt
-//! says.
+//! The cases of the program `test_replay` with the Rust's answers: twelve
+//! numbers of four bytes for each, then its bytes, as
+//! crates/test_replay/src/main.rt says.
 
 use crate::call::Answer;
 use crate::depths;
@@ -33,8 +33,8 @@ fn cut(case: &Case) -> Case {
   }
 }
 
-/// The ten numbers, others after them, the tree and the list.
-fn head(case: &Case, answer: Answer, others: &[usize]) -> Vec<u8> {
+/// The twelve numbers, the last two of which are given, the tree and the list.
+fn head(case: &Case, answer: Answer, last: [usize; 2]) -> Vec<u8> {
   let answer = match answer {
     Answer::Done(bytes, count) => [0, bytes, count],
     Answer::Refused(no) => [no.number as usize, no.place, 0],
@@ -53,7 +53,7 @@ fn head(case: &Case, answer: Answer, others: &[usize]) -> Vec<u8> {
   ]
   .iter()
   .chain(&answer)
-  .chain(others)
+  .chain(&last)
   {
     bytes.extend((*number as u32).to_le_bytes());
   }
@@ -62,27 +62,27 @@ fn head(case: &Case, answer: Answer, others: &[usize]) -> Vec<u8> {
   bytes
 }
 
-/// A case with its answer.
+/// A case of the transform with its answer.
 pub fn write(case: &Case) -> Vec<u8> {
   let case = cut(case);
   let outcome = outcome(&case);
-  let mut bytes = head(&case, outcome.answer, &[]);
+  let mut bytes = head(&case, outcome.answer, [0, 0]);
   bytes.extend(outcome.output);
   bytes.extend(outcome.diagnostics);
   bytes
 }
 
-/// The same for `depths`: an eleventh number says how many cells of the table
-/// are not 0, and they come last, in order: for each its place, row by row (0
-/// to 159), and its count, four bytes each. A refusal has none: the counts are
-/// as they were.
+/// The same for `depths`: the eleventh number is 1, the twelfth says how many
+/// cells of the table are not 0, and they come last, in order: for each its
+/// place, row by row (0 to 159), and its count, four bytes each. A refusal has
+/// none: the counts are as they were.
 pub fn write_depths(case: &Case) -> Vec<u8> {
   let case = cut(case);
   let outcome = depths::outcome(&case);
   let counts = outcome.counts.unwrap_or([0; depths::CELLS]);
   let cells: Vec<(u32, u32)> =
     (0..).zip(counts).filter(|cell| cell.1 > 0).collect();
-  let mut bytes = head(&case, outcome.answer, &[cells.len()]);
+  let mut bytes = head(&case, outcome.answer, [1, cells.len()]);
   bytes.extend(outcome.output);
   bytes.extend(outcome.diagnostics);
   for (place, count) in cells {

@@ -41,14 +41,12 @@ oracle leaves FOLDER [N SEED]
 oracle types FOLDER [N SEED]
     the cases of `test_leaves` or `test_types` and what it has to print, written
     to the files stdin and stdout in its folder; or those of N random trees
-oracle answers FOLDER N SEED
+oracle answers FOLDER N SEED M
     the cases of the program `test_replay` with the Rust's answers: those of
     cases/shown.txt, the small and some of the deep ones at the limits, and N
-    random ones with trees of at most 400 bytes; written to stdin and stdout in its folder
-oracle depth-answers FOLDER N SEED
-    the same for the program `test_depths`, with the table of each case: those
-    of generate/depth_limits.rs that are small, and N random ones with
-    namespaces in namespaces and trees of at most 1800 bytes
+    random ones with trees of at most 400 bytes; then those of `depths`, with
+    the table of each: the fixed ones that are small, and M random ones with
+    namespaces in namespaces; written to stdin and stdout in its folder
 TREE is in notation, as 'Mo(Xe(Ar))'; without it bytes come from standard input.";
 
 fn main() -> ExitCode {
@@ -104,7 +102,6 @@ fn command(args: &[String]) -> Result<(), String> {
       program(rest, &leaves::stdin(&trees), &types::stdout(&trees))
     }
     Some("answers") => answers(rest),
-    Some("depth-answers") => depth_answers(rest),
     _ => Err(USAGE.to_string()),
   }
 }
@@ -146,45 +143,38 @@ fn is_deep(place: usize, case: &Case) -> bool {
 fn answers(args: &[String]) -> Result<(), String> {
   let wanted: usize = number(args.get(1))?;
   let seed = number(args.get(2))?;
+  let deep: usize = number(args.get(3))?;
   let shown = include_str!("../cases/shown.txt");
   let shown = shown.lines().filter_map(|line| Some(lines::read(line)?.0));
   let random = (0..).map(|place| numbered(seed, place, false));
   let limits = oracle::generate::limits().into_iter().enumerate();
   let limits =
     limits.filter(|(place, case)| is_small(case) || is_deep(*place, case));
-  let mut stdin = vec![];
-  let mut count = 0;
-  for case in shown
+  let transform = shown
     .chain(limits.map(|(_, case)| case))
-    .chain(random.filter(is_small).take(wanted))
-  {
-    stdin.extend(oracle::answers::write(&case));
-    count += 1;
-  }
-  program(args, &stdin, &format!("{count} cases, 0 differ\n"))
+    .chain(random.filter(is_small).take(wanted));
+  let mut cases: Vec<Vec<u8>> =
+    transform.map(|case| oracle::answers::write(&case)).collect();
+  let depths = depth_cases(deep, seed);
+  cases.extend(depths.map(|case| oracle::answers::write_depths(&case)));
+  let count = cases.len();
+  program(args, &cases.concat(), &format!("{count} cases, 0 differ\n"))
 }
 
-fn depth_answers(args: &[String]) -> Result<(), String> {
-  let wanted: usize = number(args.get(1))?;
-  let seed = number(args.get(2))?;
+/// The fixed cases of `depths`, and so many random ones.
+fn depth_cases(wanted: usize, seed: u64) -> impl Iterator<Item = Case> {
   let fixed = oracle::generate::depth_limits();
   let fixed = fixed.into_iter().filter(|case| {
     (case.tree.len() <= 4096 || case.tree.len() > 524_288)
       && oracle::answers::has_room(case)
   });
-  let random = (0..).map(|place| numbered_depth(seed, place, false));
+  let random = (0..).map(move |place| numbered_depth(seed, place, false));
   let random = random.filter(|case| {
     case.tree.len() <= 1800
       && case.list.len() <= 400
       && oracle::answers::has_room(case)
   });
-  let mut stdin = vec![];
-  let mut count = 0;
-  for case in fixed.chain(random.take(wanted)) {
-    stdin.extend(oracle::answers::write_depths(&case));
-    count += 1;
-  }
-  program(args, &stdin, &format!("{count} cases, 0 differ\n"))
+  fixed.chain(random.take(wanted))
 }
 
 fn standard_input() -> Result<Vec<u8>, String> {

@@ -1,18 +1,19 @@
--- The table cell by cell, and the diagnostics that are counted in it.
+-- The table cell by cell, the diagnostics that are counted in it, and its sums.
 use mathlib.Core.Path.{_≡_, refl, sym, ap, _∙_, subst}
 use mathlib.Core.List.{List, [], _∷_, _++_}
 use mathlib.Core.Bool.{Bool, true, false, cond, _&&_, _||_}
 use Prim.Native.Nat.{ℕ, zero, suc, _+_, _*_, _-_, _<_, _≤_}
+use native.Mathlib.Numerals.{add-one}
 use native.Mathlib.Omega.{arith}
 use lib.Dec.{eqb}
-use lib.ListN.{length, getD, set, length-set}
-use lib.Seq.{getD-set-same, getD-set-other}
+use lib.ListN.{length, getD, set, length-set, drop, drop-of-length-le}
+use lib.Seq.{getD-set-same, getD-set-other, drop-cons}
 use borrow.Author.Tests.{eqb-true, eqb-false, eq-eqb, ne-eqb}
 use Rattle.definition.specs.Tree.{le2, le4, u16At}
 use Rattle.definition.specs.Grammar.{mark}
 use Rattle.definition.specs.Record.{Diag, diagnosticMarks, diagBytes, diagsBytes}
 use Rattle.definition.specs.Counting.{among, Kinds}
-use Rattle.definition.specs.Depths.{columns, allAt, countOf}
+use Rattle.definition.specs.Depths.{columns, allAt, countOf, sum, total}
 use Rattle.definition.proofs.Places.{At, at-left, at-right, le2-at}
 use Rattle.definition.proofs.Calls.{length-diagsBytes}
 use Rattle.depth_counts.specs.Tables.{rows, Shape, cell, Small, AddsOne, Adds, diagsAt, Holds}
@@ -182,3 +183,22 @@ module _ (g : List ℕ) (p : ℕ) (ds : List Diag) (k : Kinds ds) (h : Holds g p
 
   pub held-room : p + 10 * length ds ≤ length g
   held-room = omega (arith, h .fits, length-diagsBytes ds)
+
+-- ---- sums
+
+-- those from the place i on: the first of them and the others
+pub sum-more : (l : List ℕ) (i : ℕ) → i < length l → sum (drop i l) ≡ getD l i 0 + sum (drop (i + 1) l)
+unfolding sum
+sum-more l i h = rw (add-one i, drop-cons l i 0 h) refl
+
+pub sum-none : (l : List ℕ) (i : ℕ) → length l ≤ i → sum (drop i l) ≡ 0
+unfolding sum
+sum-none l i h = rw (drop-of-length-le l h) refl
+
+pub total-more : (t : List (List ℕ)) (i : ℕ) → i < length t → total (drop i t) ≡ sum (getD t i []) + total (drop (i + 1) t)
+unfolding total
+total-more t i h = rw (add-one i, drop-cons t i [] h) refl
+
+pub total-none : (t : List (List ℕ)) (i : ℕ) → length t ≤ i → total (drop i t) ≡ 0
+unfolding total
+total-none t i h = rw (drop-of-length-le t h) refl

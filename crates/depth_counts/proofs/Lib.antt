@@ -2,3 +2,4 @@ pub mod Spaces
 pub mod Cells
 pub mod Walking
 pub mod Whole
+pub mod Rows

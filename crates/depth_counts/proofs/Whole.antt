@@ -4,6 +4,8 @@ use mathlib.Core.List.{List, [], _∷_}
 use mathlib.Core.Bool.{true}
 use Prim.Native.Nat.{ℕ, zero, suc, _+_, _-_, _<_, _≤_}
 use native.Mathlib.Omega.{arith}
+use mir.Syntax.{w8}
+use mir.Val
 use lib.ListN.{length, getD, drop, length-append, length-drop, List·getD-append}
 use lib.Seq.{ext-getD}
 use Rattle.definition.specs.Tree.{Recs, countAt, bodyAt, treeAt}
@@ -12,12 +14,14 @@ use Rattle.definition.specs.Children.{AcceptedAt}
 use Rattle.definition.specs.Record.{Diag, diagnosticMarks, diagsBytes}
 use Rattle.definition.specs.Transform.{transform, done, over, call}
 use Rattle.definition.specs.Transform as Transform
-use Rattle.definition.specs.Depths.{Placed, whatOf, columns, countOf, rowOf, rowsOf, tableOf, placed, countsBy, callDepths}
+use Rattle.definition.specs.Depths.{Placed, whatOf, columns, countOf, rowOf, rowsOf, tableOf, total, placed, countsBy, callDepths}
 use Rattle.definition.proofs.Accepted.{accepted-tree}
 use Rattle.definition.proofs.Calls.{call-done}
 use Rattle.definition.proofs.Children.{root-accepted, children}
 use Rattle.definition.proofs.Kids.{kids-are}
-use Rattle.definition.proofs.Depths.{without-depths}
+use Rattle.definition.proofs.CountingItems.{diagnostics-of-bytes}
+use Rattle.definition.proofs.Depths.{without-depths, total-is}
+use Rattle.records.proofs.Whole.{slice-bytes}
 use Rattle.prescan.specs.Table.{Indexed}
 use Rattle.typing.specs.Did.{idsOf}
 use Rattle.classes.specs.Typings.{ReadyAll}
@@ -27,7 +31,7 @@ use Rattle.transform_dts.specs.declared.Answer.{Answer}
 use Rattle.transform_dts.specs.declared.Answer.the-variants.{Done, Refused}
 use Rattle.transform_dts.specs.Answers.{transformed, answered, Gives}
 use Rattle.transform_dts.proofs.Module.{scopeOf}
-use Rattle.depth_counts.specs.Tables.{rows, cell, Small, Adds, Holds}
+use Rattle.depth_counts.specs.Tables.{rows, Shape, cell, Small, Adds, Holds}
 use Rattle.depth_counts.specs.Answers.{GivesCounted}
 use Rattle.depth_counts.proofs.Walking.{placedOfAll}
 
@@ -69,6 +73,13 @@ table-is {t} {u} xs none a =
     let z : 0 + d ≡ d = omega arith in
     omega (arith, a .cells r d hr hd, none r d hr hd, row-at columns (getD diagnosticMarks r 0) 0 xs d hd, ap (λ (k : ℕ). countOf (getD diagnosticMarks r 0) k xs) z))
     ∙ sym at)
+
+pub table-shape : (xs : List Placed) → Shape (tableOf xs)
+unfolding tableOf
+table-shape xs = record {
+  tall = rows-length diagnosticMarks xs;
+  wide = λ r h. ap length (rows-at diagnosticMarks xs r h) ∙ row-length columns (getD diagnosticMarks r 0) 0 xs;
+}
 
 -- ---- the module
 
@@ -149,3 +160,29 @@ module _ (tree list : List ℕ) (ctx : ℕ) (out diags : List ℕ) {r : Answer} 
     gives = subst (λ (a : Answer). Gives (call tree list ctx out diags) a o g) e w;
     table = ap (λ (a : Transform.Answer). countsBy a (tableOf (placed list ctx (treeAt deepest tree 0))) t) (sym (ap answered e) ∙ w .answer);
   }
+
+-- the total of a success
+module _ (tree list : List ℕ) (ctx : ℕ) (out diags : List ℕ) (t : List (List ℕ)) {n k : ℕ} {r : Answer} {o g : List ℕ} {u : List (List ℕ)} (known : (i : ℕ) → mir.Val.Fits w8 (getD tree i 0))
+    (w : GivesCounted (callDepths tree list ctx out diags t) r o g u) (e : r ≡ Done n k) where
+  answer-done : call tree list ctx out diags .answer ≡ done n k
+  unfolding callDepths
+  answer-done = sym (w .gives .answer) ∙ ap answered e
+
+  pub counted-table : u ≡ tableOf (placed list ctx (treeAt deepest tree 0))
+  unfolding callDepths
+  counted-table = w .table ∙ ap (λ (x : Transform.Answer). countsBy x (tableOf (placed list ctx (treeAt deepest tree 0))) t) answer-done
+
+  pub counted-shape : Shape u
+  counted-shape = subst Shape (sym counted-table) (table-shape (placed list ctx (treeAt deepest tree 0)))
+
+  -- "the total equals the number of records written"
+  pub counted-total : total u ≡ k
+  counted-total =
+      let z = call-done tree list ctx out diags n k answer-done in
+      ap total counted-table ∙ (total-is tree list ctx (z .0) (slice-bytes tree known) (z .1) ∙ sym (z .2 .count))
+
+  -- which is small
+  pub counted-small : total u ≤ longestTree
+  counted-small =
+      let z = call-done tree list ctx out diags n k answer-done in
+      omega (arith, counted-total, z .2 .count, diagnostics-of-bytes tree list ctx (z .0) (slice-bytes tree known) (z .1), accepted-tree tree list (z .0) (z .1) .0 .short)

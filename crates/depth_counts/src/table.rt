@@ -5,6 +5,7 @@ ghost use Prim.Native.Nat.{_+_, _*_, _<_, _≤_};
 ghost use lib.ListN.{length, getD};
 ghost use Rattle.definition.specs.Record.{diagnosticMarks};
 ghost use Rattle.definition.specs.Counting.{among, Kinds};
+ghost use Rattle.definition.specs.Depths as Depths;
 ghost use Rattle.definition.specs.Depths.{columns, allAt};
 ghost use Rattle.depth_counts.specs.Tables.{rows, Small, Shape, AddsOne, Adds, diagsAt, cell};
 use records::DIAGNOSTIC_SIZE;
@@ -17,6 +18,8 @@ use records::u16_at;
 pub const ROWS: usize = 5;
 
 pub const COLUMNS: usize = 32;
+
+pub const CELLS: usize = ROWS * COLUMNS;
 
 pub type Table = [[usize; COLUMNS]; ROWS];
 
@@ -56,4 +59,46 @@ pub fn count_marks(diagnostics: &[u8], at: usize, n: usize, depth: usize, table:
         p += DIAGNOSTIC_SIZE;
         k -= 1;
     }
+}
+
+// The sum of a row.
+fn row_total(row: [usize; COLUMNS]) -> usize
+    requires { ⌜ Depths.sum row < 18446744073709551616 ⌝ }
+    ensures { λ r. ⌜ r ≡ Depths.sum row ⌝ }
+{
+    let mut sum = 0;
+    let mut depth = 0;
+    while depth < COLUMNS {
+        sum += row[depth];
+        depth += 1;
+    }
+    sum
+}
+
+// "Below it goes a total": the sum of the counts.
+pub fn total(table: Table) -> usize
+    requires { ⌜ Depths.total table < 18446744073709551616 ⌝ }
+    ensures { λ r. ⌜ r ≡ Depths.total table ⌝ }
+{
+    let mut sum = 0;
+    let mut row = 0;
+    while row < ROWS {
+        sum += row_total(table[row]);
+        row += 1;
+    }
+    sum
+}
+
+// The table row by row: "d1 first, depth 0 first".
+pub fn in_one(table: Table) -> [u32; CELLS]
+    requires { ⌜ Shape table × (Depths.total table < 4294967296) ⌝ }
+    ensures { λ r. ⌜ r ≡ Depths.inOne table ⌝ }
+{
+    let mut counts = [0u32; CELLS];
+    let mut i = 0;
+    while i < CELLS {
+        counts[i] = table[i / COLUMNS][i % COLUMNS] as u32;
+        i += 1;
+    }
+    counts
 }

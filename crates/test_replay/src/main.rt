@@ -1,8 +1,9 @@
-// Replays answers of the Rust: for each case in standard input both buffers are filled with noise, the call is made, and its number, place or
-// counts and every byte of both buffers, those beyond the counts and those of a refusal too, are compared with what the Rust gave. A case is ten
-// numbers of four bytes (the tree's bytes that follow and its length, the same of the list, the unresolved context, the lengths of both buffers,
-// and the answer: 0, bytes and diagnostics, or the refusal's number, its place and 0), then tree, list, output and diagnostics. Where a length is
-// more than the bytes that follow, any bytes do. `oracle answers` makes the cases.
+// Replays answers of the Rust: for each case in standard input both buffers and the table are filled with noise, the call is made, and its number, place
+// or counts and every byte of both buffers, those beyond the counts and those of a refusal too, are compared with what the Rust gave; so is the table
+// of a call of `depths`. A case is twelve numbers of four bytes (the tree's bytes that follow and its length, the same of the list, the unresolved
+// context, the lengths of both buffers; the answer: 0, bytes and diagnostics, or the refusal's number, its place and 0; 1 for `depths`, 0 for the
+// transform, and how many cells of the table are not 0), then tree, list, output and diagnostics, and the cells: the place of each, row by row, and its
+// count, four bytes each. Where a length is more than the bytes that follow, any bytes do. `oracle answers` makes the cases.
 ghost use Prim.Native.Nat.{_≤_};
 use console::ROOM;
 use console::front;
@@ -10,6 +11,10 @@ use console::front_mut;
 use console::print;
 use console::print_number;
 use console::read_bytes;
+use depth_counts::table::CELLS;
+use depth_counts::table::COLUMNS;
+use depth_counts::table::ROWS;
+use depth_counts::table::Table;
 use records::DIAGNOSTIC_SIZE;
 use transform_dts::Answer;
 
@@ -21,8 +26,13 @@ const TREE: usize = 524289;
 
 const LIST: usize = 40970;
 
-// Ten numbers of four bytes.
-const NUMBERS: usize = 40;
+// Twelve numbers of four bytes.
+const NUMBERS: usize = 48;
+
+// A cell: its place and its count.
+const CELL: usize = 8;
+
+const CELLS_ROOM: usize = CELLS * CELL;
 
 // A case before its bytes.
 struct Case {
@@ -36,6 +46,8 @@ struct Case {
     number: usize,
     first: usize,
     second: usize,
+    depths: usize,
+    cells: usize,
 }
 
 // Whether a case gave what the Rust gave: 0 or 1 differences; or 2, no case.
@@ -51,7 +63,7 @@ fn print_case(number: usize) {
     print(b" differs\n");
 }
 
-// The number at a place of the ten; 0 where there is none.
+// The number at a place of the twelve; 0 where there is none.
 fn number_at(bytes: &[u8], at: usize) -> usize {
     if bytes.len() < NUMBERS {
         return 0;
@@ -81,6 +93,8 @@ fn case_of(bytes: &[u8]) -> Case {
         number: number_at(bytes, 28),
         first: number_at(bytes, 32),
         second: number_at(bytes, 36),
+        depths: number_at(bytes, 40),
+        cells: number_at(bytes, 44),
     }
 }
 
@@ -166,20 +180,90 @@ fn marked(case: Case) -> usize {
     0
 }
 
-// The call on a case, with its answer and both buffers compared.
+// The bytes of the cells that the case expects; of more than a table has, one byte too many.
+fn cells_size(case: Case) -> usize {
+    if CELLS < case.cells {
+        return CELLS_ROOM + 1;
+    }
+    case.cells * CELL
+}
+
+// What the table holds before the call.
+fn noise_table() -> Table {
+    let mut table = [[0usize; COLUMNS]; ROWS];
+    let mut i = 0;
+    while i < CELLS {
+        table[i / COLUMNS][i % COLUMNS] = 3 * i + 1;
+        i += 1;
+    }
+    table
+}
+
+// The table that the case expects: of a refusal the one that was.
+fn expected_table(case: Case, cells: &[u8]) -> Table {
+    if case.number != 0 {
+        return noise_table();
+    }
+    let mut table = [[0usize; COLUMNS]; ROWS];
+    let mut at = 0;
+    while CELL <= cells.len() - at {
+        let place = records::u32_at(cells, at) as usize;
+        if place < CELLS {
+            table[place / COLUMNS][place % COLUMNS] = records::u32_at(cells, at + 4) as usize;
+        }
+        at += CELL;
+    }
+    table
+}
+
+fn same_table(a: Table, b: Table) -> bool {
+    let mut i = 0;
+    while i < CELLS {
+        if a[i / COLUMNS][i % COLUMNS] != b[i / COLUMNS][i % COLUMNS] {
+            return false;
+        }
+        i += 1;
+    }
+    true
+}
+
+// The call on a case, with the table compared where it has one.
+fn answer_of(
+    case: Case,
+    tree: &[u8],
+    list: &[u8],
+    cells: &[u8],
+    out: &mut [u8],
+    dia: &mut [u8],
+) -> bool {
+    if case.depths == 0 {
+        return is_answer(
+            transform_dts::transform(tree, list, case.unresolved, out, dia),
+            case,
+        );
+    }
+    let mut table = noise_table();
+    let answer = depth_counts::depths(tree, list, case.unresolved, out, dia, &mut table);
+    if same_table(table, expected_table(case, front(cells, cells_size(case)))) {
+        return is_answer(answer, case);
+    }
+    false
+}
+
+// The same with both buffers compared.
 fn call(
     case: Case,
     tree: &[u8],
     list: &[u8],
     output: &[u8],
     diagnostics: &[u8],
+    cells: &[u8],
     out: &mut [u8],
     dia: &mut [u8],
 ) -> bool {
     fill(out);
     fill(dia);
-    let answer = transform_dts::transform(tree, list, case.unresolved, out, dia);
-    if !is_answer(answer, case) {
+    if !answer_of(case, tree, list, cells, out, dia) {
         return false;
     }
     if !holds(out, output, written(case)) {
@@ -189,7 +273,14 @@ fn call(
 }
 
 // The same with the buffers cut to the lengths of the case.
-fn call_cut(case: Case, tree: &[u8], list: &[u8], output: &[u8], diagnostics: &[u8]) -> bool {
+fn call_cut(
+    case: Case,
+    tree: &[u8],
+    list: &[u8],
+    output: &[u8],
+    diagnostics: &[u8],
+    cells: &[u8],
+) -> bool {
     if tree.len() < case.tree {
         return false;
     }
@@ -210,6 +301,7 @@ fn call_cut(case: Case, tree: &[u8], list: &[u8], output: &[u8], diagnostics: &[
         front(list, case.list),
         output,
         diagnostics,
+        cells,
         front_mut(&mut out, case.out),
         front_mut(&mut dia, case.diagnostics),
     )
@@ -221,13 +313,17 @@ fn compare(case: Case, tree: &[u8], list: &[u8], number: usize) -> usize
 {
     let mut output = [0u8; ROOM];
     let mut diagnostics = [0u8; ROOM];
+    let mut cells = [0u8; CELLS_ROOM];
     if !read_bytes(&mut output, written(case)).whole {
         return END;
     }
     if !read_bytes(&mut diagnostics, marked(case)).whole {
         return END;
     }
-    if call_cut(case, tree, list, &output, &diagnostics) {
+    if !read_bytes(&mut cells, cells_size(case)).whole {
+        return END;
+    }
+    if call_cut(case, tree, list, &output, &diagnostics, &cells) {
         return SAME;
     }
     print_case(number);
