@@ -18,12 +18,18 @@ use Rattle.definition.proofs.Places.{At, at-left, at-right, le2-at}
 use Rattle.definition.proofs.Calls.{length-diagsBytes}
 use Rattle.depth_counts.specs.Tables.{rows, Shape, cell, Small, AddsOne, Adds, diagsAt, Holds}
 
-by-eq : {P : Type 0} (j k : ℕ) → (j ≡ k → P) → ((j ≡ k → ⊥) → P) → P
+-- a fact by whether two numbers are equal
+pub by-eq : {P : Type 0} (j k : ℕ) → (j ≡ k → P) → ((j ≡ k → ⊥) → P) → P
 by-eq {P} j k y n = go (eqb j k) refl
   where
     go : (b : Bool) → eqb j k ≡ b → P
     go true e = y (eqb-true j k e)
     go false e = n (eqb-false j k e)
+
+-- a test counts for one at most
+pub one-most : (b : Bool) → cond b 1 0 ≤ 1
+one-most true = omega arith
+one-most false = omega arith
 
 -- ---- one more
 
@@ -97,7 +103,7 @@ module _ (g : List ℕ) (at n depth : ℕ) {t : List (List ℕ)} where
     unfolding diagsAt allAt countOf
     marking-turn h {row} {v} hr e w = record {
       room = omega (arith, l .room);
-      small = record { shape = w .shape; cells = λ r d hr' hd. omega (arith, w .cells r d hr' hd, l .small .cells r d hr' hd, most (eqb row r && eqb depth d)) };
+      small = record { shape = w .shape; cells = λ r d hr' hd. omega (arith, w .cells r d hr' hd, l .small .cells r d hr' hd, one-most (eqb row r && eqb depth d)) };
       kinds = (subst (λ (j : ℕ). Kinds (diagsAt g p j)) (some-left h) (l .kinds)) .1;
       sum = λ r d hr' hd.
           l .sum r d hr' hd
@@ -106,10 +112,6 @@ module _ (g : List ℕ) (at n depth : ℕ) {t : List (List ℕ)} where
           (ap (λ (m : ℕ). eqb m (getD diagnosticMarks r 0)) (sym e) ∙ apart row r hr hr')
           ∙ omega (arith, w .cells r d hr' hd)));
     }
-      where
-        most : (b : Bool) → cond b 1 0 ≤ 1
-        most true = omega arith
-        most false = omega arith
 
     pub marking-done : k ≤ 0 → Adds t u (allAt depth (diagsAt g at n))
     unfolding diagsAt allAt countOf
@@ -135,12 +137,8 @@ counts-by-marks m d e [] (y ∷ ys) q = absurd (let z = ap length q in omega ari
 counts-by-marks m d e (x ∷ xs) [] q = absurd (let z = ap length q in omega arith)
 counts-by-marks m d e (x ∷ xs) (y ∷ ys) q =
     let a : x .mark ≡ y .mark = ap (λ (l : List ℕ). getD l 0 0) q in
-    let b : marksOf xs ≡ marksOf ys = ap tail q in
+    let b : marksOf xs ≡ marksOf ys = ap (drop 1) q in
     rw a (ap (λ (z : ℕ). cond (eqb (y .mark) m && eqb e d) 1 0 + z) (counts-by-marks m d e xs ys b))
-  where
-    tail : List ℕ → List ℕ
-    tail [] = []
-    tail (x ∷ xs) = xs
 
 kinds-by-marks : (xs ys : List Diag) → marksOf xs ≡ marksOf ys → Kinds xs → Kinds ys
 kinds-by-marks [] [] q k = tt
@@ -148,11 +146,7 @@ kinds-by-marks [] (y ∷ ys) q k = absurd (let z = ap length q in omega arith)
 kinds-by-marks (x ∷ xs) [] q k = tt
 kinds-by-marks (x ∷ xs) (y ∷ ys) q k =
     let a : x .mark ≡ y .mark = ap (λ (l : List ℕ). getD l 0 0) q in
-    (rw (sym a) (k .0), kinds-by-marks xs ys (ap tail q) (k .1))
-  where
-    tail : List ℕ → List ℕ
-    tail [] = []
-    tail (x ∷ xs) = xs
+    (rw (sym a) (k .0), kinds-by-marks xs ys (ap (drop 1) q) (k .1))
 
 -- a mark of the five has two bytes
 kind-small : (m : ℕ) → among diagnosticMarks m ≡ true → m < 65536

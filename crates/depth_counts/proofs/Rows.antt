@@ -1,15 +1,13 @@
 -- The table row by row in one list.
-use mathlib.Core.Path.{_≡_, refl, sym, ap, _∙_}
+use mathlib.Core.Path.{_≡_, sym, ap, _∙_}
 use mathlib.Core.List.{List, [], _∷_, _++_}
 use Prim.Native.Nat.{ℕ, zero, suc, _+_, _*_, _/_, _%_, _<_, _≤_}
 use native.Mathlib.Omega.{arith}
-use lib.Dec.{eqb}
-use mathlib.Core.Bool.{Bool, true, false}
-use borrow.Author.Tests.{eqb-true, eqb-false}
 use lib.ListN.{length, getD, set, length-set, length-append, List·getD-append}
 use lib.Seq.{ext-getD, getD-append-add, getD-set-same, getD-set-other}
 use Rattle.definition.specs.Depths.{columns, sum, total, inOne}
 use Rattle.depth_counts.specs.Tables.{rows, Shape, cell}
+use Rattle.depth_counts.proofs.Cells.{by-eq}
 
 -- ---- a count is no more than the total
 
@@ -65,12 +63,10 @@ module _ (t : List (List ℕ)) (s : Shape t) where
   copying-turn {counts} {i} l h {v} e = record {
     size = length-set counts i v ∙ l .size;
     within = omega arith;
-    same = λ j k. go j k (eqb j i) refl;
+    same = λ j k. by-eq j i
+        (λ z. rw z (getD-set-same counts i v 0 (omega (arith, l .size)) ∙ e))
+        (λ n. getD-set-other counts i j v 0 n ∙ l .same j (let z = n in omega arith));
   }
-    where
-      go : (j : ℕ) → j < i + 1 → (b : Bool) → eqb j i ≡ b → getD (set counts i v) j 0 ≡ cell t (j / columns) (j % columns)
-      go j k true q = let z : j ≡ i = eqb-true j i q in rw z (getD-set-same counts i v 0 (omega (arith, l .size)) ∙ e)
-      go j k false q = getD-set-other counts i j v 0 (eqb-false j i q) ∙ l .same j (let z = eqb-false j i q in omega arith)
 
   pub copying-done : {counts : List ℕ} {i : ℕ} → Copying counts i → rows * columns ≤ i → counts ≡ inOne t
   copying-done {counts} l h =

@@ -1,7 +1,7 @@
 -- The walk over the items: a dry run of one, and all of them one after the other.
 use mathlib.Core.Path.{_≡_, refl, sym, ap, _∙_, subst}
 use mathlib.Core.List.{List, [], _∷_, _++_, append-nil, append-assoc}
-use mathlib.Core.Bool.{Bool, true, false, cond, _&&_}
+use mathlib.Core.Bool.{Bool, false, _&&_}
 use Prim.Native.Nat.{ℕ, suc, _+_, _*_, _-_, _/_, _<_, _≤_, _^_}
 use native.Mathlib.Omega.{arith}
 use lib.Dec.{eqb}
@@ -33,7 +33,7 @@ use Rattle.classes.specs.Typings.{typingOf, ReadyAll}
 use Rattle.items.specs.Steps.{recordsAt, itemOf, itemsOf}
 use Rattle.depth_counts.specs.Tables.{Shape, Small, Adds, diagsAt, Holds}
 use Rattle.depth_counts.specs.Walks.{Spaced, Flat, IsBlock, itemsOfBlock, Counts}
-use Rattle.depth_counts.proofs.Cells.{held-kinds, held-adds, held-room}
+use Rattle.depth_counts.proofs.Cells.{one-most, held-kinds, held-adds, held-room}
 
 length-all : (d : ℕ) (xs : List Diag) → length (allAt d xs) ≡ length xs
 unfolding allAt
@@ -75,11 +75,7 @@ count-append m d (x ∷ xs) ys = omega (arith, count-append m d xs ys)
 count-most : (m d : ℕ) (xs : List Placed) → countOf m d xs ≤ length xs
 unfolding countOf
 count-most m d [] = omega arith
-count-most m d (x ∷ xs) = omega (arith, count-most m d xs, most (eqb (x .what .mark) m && eqb (x .depth) d))
-  where
-    most : (b : Bool) → cond b 1 0 ≤ 1
-    most true = omega arith
-    most false = omega arith
+count-most m d (x ∷ xs) = omega (arith, count-most m d xs, one-most (eqb (x .what .mark) m && eqb (x .depth) d))
 
 adds-none : {t : List (List ℕ)} → Shape t → Adds t t []
 unfolding countOf

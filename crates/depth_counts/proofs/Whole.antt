@@ -6,7 +6,7 @@ use Prim.Native.Nat.{ℕ, zero, suc, _+_, _-_, _<_, _≤_}
 use native.Mathlib.Omega.{arith}
 use mir.Syntax.{w8}
 use mir.Val
-use lib.ListN.{length, getD, drop, length-append, length-drop, List·getD-append}
+use lib.ListN.{length, getD, replicate, length-replicate, getD-replicate, drop, length-append, length-drop, List·getD-append}
 use lib.Seq.{ext-getD}
 use Rattle.definition.specs.Tree.{Recs, countAt, bodyAt, treeAt}
 use Rattle.definition.specs.Check.{longestTree, deepest}
@@ -97,27 +97,14 @@ module _ (tree : List ℕ) (a : AcceptedAt deepest tree 0) {n first : ℕ} (e : 
 
 -- ---- a table without counts
 
-abbrev pub many : {A : Type 0} → ℕ → A → List A
-many zero a = []
-many (suc n) a = a ∷ many n a
+pub blank-cells : (r d : ℕ) → r < rows → d < columns → cell (replicate {A = List ℕ} rows (replicate {A = ℕ} columns 0)) r d ≡ 0
+blank-cells r d hr hd = ap (λ (l : List ℕ). getD l d 0) (getD-replicate {A = List ℕ} rows r (replicate {A = ℕ} columns 0) [] hr) ∙ getD-replicate {A = ℕ} columns d 0 0 hd
 
-many-length : {A : Type 0} (n : ℕ) (a : A) → length (many n a) ≡ n
-many-length zero a = refl
-many-length (suc n) a = ap suc (many-length n a)
-
-many-at : {A : Type 0} (n : ℕ) (a z : A) (i : ℕ) → i < n → getD (many n a) i z ≡ a
-many-at zero a z i h = absurd (omega arith)
-many-at (suc n) a z zero h = refl
-many-at (suc n) a z (suc i) h = many-at n a z i (omega arith)
-
-pub blank-cells : (r d : ℕ) → r < rows → d < columns → cell (many {A = List ℕ} rows (many {A = ℕ} columns 0)) r d ≡ 0
-blank-cells r d hr hd = ap (λ (l : List ℕ). getD l d 0) (many-at {A = List ℕ} rows (many {A = ℕ} columns 0) [] r hr) ∙ many-at {A = ℕ} columns 0 0 d hd
-
-pub blank-small : Small (many {A = List ℕ} rows (many {A = ℕ} columns 0)) 0
+pub blank-small : Small (replicate {A = List ℕ} rows (replicate {A = ℕ} columns 0)) 0
 blank-small = record {
   shape = record {
-    tall = many-length {A = List ℕ} rows (many {A = ℕ} columns 0);
-    wide = λ r hr. ap length (many-at {A = List ℕ} rows (many {A = ℕ} columns 0) [] r hr) ∙ many-length {A = ℕ} columns 0;
+    tall = length-replicate {A = List ℕ} rows (replicate {A = ℕ} columns 0);
+    wide = λ r hr. ap length (getD-replicate {A = List ℕ} rows r (replicate {A = ℕ} columns 0) [] hr) ∙ length-replicate {A = ℕ} columns 0;
   };
   cells = λ r d hr hd. omega (arith, blank-cells r d hr hd);
 }
