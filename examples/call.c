@@ -1,14 +1,17 @@
 /* The exported call from C: the declarations of the module whose tree stands in standard input, with an empty overload list and the unresolved
-   context 1. Prints what the program `declares` prints, and behind each diagnostic what it means.
+   context 1. Prints what the program `declares` prints, and behind each diagnostic what it means; with the word `depths`, what the program `depths`
+   prints: how many of each diagnostic, and in how many namespaces.
 
        rt staticlib dts
        cc -Iinclude examples/call.c target/staticlib/libdts.a -o call
        ./call < crates/declares/stdin
+       ./call depths < crates/depths/stdin
 */
 #include "dts.h"
 #include <inttypes.h>
 #include <stdio.h>
 #include <stdlib.h>
+#include <string.h>
 
 /* d1 to d5 */
 static const char *const words[] = {
@@ -29,9 +32,11 @@ static uint32_t u32_at(const uint8_t *bytes) {
     return bytes[0] | (uint32_t)bytes[1] << 8 | (uint32_t)bytes[2] << 16 | (uint32_t)bytes[3] << 24;
 }
 
-int main(void) {
+int main(int argc, char **argv) {
+    int depths = argc == 2 && strcmp(argv[1], "depths") == 0;
     size_t length = fread(tree, 1, sizeof tree, stdin);
     uint8_t *out = NULL;
+    uint32_t counts[160];
     uint64_t answer[2];
     uint32_t number = 9;
     /* Few outputs are twice as long as their tree, and none is 16 times as long: if 9 is said of that too, a key is longer than 65,531 bytes, and
@@ -44,10 +49,18 @@ int main(void) {
             fputs("no memory\n", stderr);
             return 1;
         }
-        number = dts_transform(tree, length, (const uint8_t *)"", 0, 1, out, out_length, diagnostics, sizeof diagnostics, answer);
+        const uint8_t *list = (const uint8_t *)"";
+        number = depths ? dts_depths(tree, length, list, 0, 1, out, out_length, diagnostics, sizeof diagnostics, counts, answer)
+                        : dts_transform(tree, length, list, 0, 1, out, out_length, diagnostics, sizeof diagnostics, answer);
     }
     if (number != 0) {
         printf("refused %" PRIu32 " at %" PRIu64 "\n", number, answer[0]);
+    } else if (depths) {
+        /* a row of 32 counts for each of d1 to d5, then how many diagnostics there are */
+        for (int i = 0; i < 160; i++) {
+            printf("%" PRIu32 "%c", counts[i], i % 32 == 31 ? '\n' : ' ');
+        }
+        printf("%" PRIu64 "\n", answer[1]);
     } else {
         /* the declarations are the first answer[0] bytes of `out` */
         printf("ok %" PRIu64 " %" PRIu64 "\n", answer[0], answer[1]);

@@ -38,6 +38,11 @@ uint32_t dts_check(const uint8_t *tree, size_t tree_length, const uint8_t *list,
 uint32_t dts_transform(const uint8_t *tree, size_t tree_length, const uint8_t *list, size_t list_length, uint32_t unresolved_context,
                        uint8_t *out, size_t out_length, uint8_t *diagnostics, size_t diagnostics_length, uint64_t answer[2]);
 
+/* The same, and how many of each diagnostic, and how deep. Success: counts[32 * (d - 1) + depth] is the number of diagnostics d, 1 to 5, that stand at
+   this namespace depth, 0 to 31: the number of `Ns` records that hold the record that a diagnostic is marked at. Their sum is answer[1]. */
+uint32_t dts_depths(const uint8_t *tree, size_t tree_length, const uint8_t *list, size_t list_length, uint32_t unresolved_context,
+                    uint8_t *out, size_t out_length, uint8_t *diagnostics, size_t diagnostics_length, uint32_t counts[160], uint64_t answer[2]);
+
 #ifdef __cplusplus
 }
 #endif

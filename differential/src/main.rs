@@ -1,8 +1,9 @@
 //! `differential cases N SEED`: the proved call beside the unchanged Rust on the cases at the limits and N random ones, good and damaged, with
-//! exact, short and long buffers; each buffer holds noise first and is compared whole, and so is a second pass over what was written.
+//! exact, short and long buffers; each buffer holds noise first and is compared whole, and so is a second pass over what was written. Every fourth
+//! of them is a case for `dts_depths` too.
+//! `differential depths N SEED`: `dts_depths` beside the Rust, on N cases with namespaces in namespaces and those at the limits.
 //! `differential speed`: their times, as ratios in one run.
-#[path = "../../bench/src/shapes.rs"]
-mod shapes;
+mod depths;
 mod speed;
 
 use std::process::ExitCode;
@@ -13,43 +14,18 @@ use oracle::call::Answer;
 use oracle::call::call;
 use oracle::generate::Case;
 use oracle::generate::Rng;
+use oracle::generate::depth_limits;
 use oracle::generate::limits;
 use oracle::grammar::Refused;
 use oracle::lines;
 use oracle::measure::numbered;
-
-unsafe extern "C" {
-    fn dts_transform(
-        tree: *const u8,
-        tree_len: usize,
-        list: *const u8,
-        list_len: usize,
-        unresolved_context: u32,
-        out: *mut u8,
-        out_len: usize,
-        diagnostics: *mut u8,
-        diagnostics_len: usize,
-        answer: *mut u64,
-    ) -> u32;
-}
+use oracle::measure::numbered_depth;
+use vatnext_dts::raw;
 
 /// The proved call.
 pub fn proved(tree: &[u8], list: &[u8], unresolved: u32, out: &mut [u8], diagnostics: &mut [u8]) -> Answer {
     let mut answer = [0; 2];
-    let number = unsafe {
-        dts_transform(
-            tree.as_ptr(),
-            tree.len(),
-            list.as_ptr(),
-            list.len(),
-            unresolved,
-            out.as_mut_ptr(),
-            out.len(),
-            diagnostics.as_mut_ptr(),
-            diagnostics.len(),
-            answer.as_mut_ptr(),
-        )
-    };
+    let number = raw::transform(tree, list, unresolved, out, diagnostics, &mut answer);
     match number {
         0 => Answer::Done(answer[0] as usize, answer[1] as usize),
         _ => Answer::Refused(Refused { number: number as u8, place: answer[0] as usize }),
@@ -147,17 +123,16 @@ impl Tally {
 
 const AT_ONCE: u64 = 1000;
 
-fn cases(wanted: u64, seed: u64) -> Tally {
-    let mut tally = Tally::default();
-    let mut rng = Rng::new(seed);
-    for case in limits() {
-        tally.add(&case, &mut rng);
-    }
+/// How many of the random cases are one for `dts_depths` too: the Rust runs three times there.
+const ALSO_DEPTHS: u64 = 4;
+
+/// What each thread tallies on its share of the random cases, which `add` gets by their places.
+fn share<T: Default + Send>(wanted: u64, seed: u64, add: impl Fn(&mut T, u64, &mut Rng) + Sync) -> Vec<T> {
     let next = AtomicU64::new(0);
     let threads = std::thread::available_parallelism().map_or(1, |n| n.get());
     std::thread::scope(|scope| {
         let run = || {
-            let mut tally = Tally::default();
+            let mut tally = T::default();
             loop {
                 let from = next.fetch_add(AT_ONCE, Ordering::Relaxed);
                 if from >= wanted {
@@ -165,13 +140,41 @@ fn cases(wanted: u64, seed: u64) -> Tally {
                 }
                 let mut rng = Rng::new(seed.wrapping_add(from));
                 for place in from..wanted.min(from + AT_ONCE) {
-                    tally.add(&numbered(seed, place, false), &mut rng);
+                    add(&mut tally, place, &mut rng);
                 }
             }
         };
         let handles: Vec<_> = (0..threads).map(|_| scope.spawn(run)).collect();
-        handles.into_iter().fold(tally, |sum, handle| sum.join(handle.join().expect("a thread that ends")))
+        handles.into_iter().map(|handle| handle.join().expect("a thread that ends")).collect()
     })
+}
+
+fn cases(wanted: u64, seed: u64) -> (Tally, depths::Tally) {
+    let mut tallies = (Tally::default(), depths::Tally::default());
+    let add = |(tally, depths): &mut (Tally, depths::Tally), case: &Case, also: bool, rng: &mut Rng| {
+        tally.add(case, rng);
+        if also {
+            depths.add(case, rng);
+        }
+    };
+    let mut rng = Rng::new(seed);
+    for case in limits() {
+        add(&mut tallies, &case, true, &mut rng);
+    }
+    let random = |tallies: &mut _, place: u64, rng: &mut Rng| {
+        add(tallies, &numbered(seed, place, false), place % ALSO_DEPTHS == 0, rng);
+    };
+    share(wanted, seed, random).into_iter().fold(tallies, |sum, more| (sum.0.join(more.0), sum.1.join(more.1)))
+}
+
+fn depth_cases(wanted: u64, seed: u64) -> depths::Tally {
+    let mut tally = depths::Tally::default();
+    let mut rng = Rng::new(seed);
+    for case in depth_limits() {
+        tally.add(&case, &mut rng);
+    }
+    let random = |tally: &mut depths::Tally, place: u64, rng: &mut Rng| tally.add(&numbered_depth(seed, place, false), rng);
+    share(wanted, seed, random).into_iter().fold(tally, depths::Tally::join)
 }
 
 fn main() -> ExitCode {
@@ -179,15 +182,23 @@ fn main() -> ExitCode {
     let number = |at: usize| words.get(at).and_then(|word| word.parse::<u64>().ok());
     match (words.first().map(String::as_str), number(1), number(2)) {
         (Some("cases"), Some(wanted), Some(seed)) => {
-            let tally = cases(wanted, seed);
+            let (tally, depths) = cases(wanted, seed);
             tally.print();
-            if tally.differ > 0 || tally.done == 0 {
+            depths.print("ordinary cases");
+            if tally.differ > 0 || tally.done == 0 || !depths.agrees() {
+                return ExitCode::FAILURE;
+            }
+        }
+        (Some("depths"), Some(wanted), Some(seed)) => {
+            let depths = depth_cases(wanted, seed);
+            depths.print("namespaces in namespaces");
+            if !depths.agrees() {
                 return ExitCode::FAILURE;
             }
         }
         (Some("speed"), None, None) => speed::print(),
         _ => {
-            eprintln!("differential cases N SEED\ndifferential speed");
+            eprintln!("differential cases N SEED\ndifferential depths N SEED\ndifferential speed");
             return ExitCode::FAILURE;
         }
     }

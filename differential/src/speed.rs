@@ -4,6 +4,8 @@ use std::hint::black_box;
 use std::time::Duration;
 use std::time::Instant;
 
+use bench::shapes;
+use bench::unlisted;
 use oracle::call;
 use oracle::decode;
 use oracle::encode;
@@ -11,9 +13,6 @@ use oracle::generate::Rng;
 use oracle::generate::tree;
 use oracle::grammar::check;
 use oracle::record::Rec;
-
-use crate::shapes::shapes;
-use crate::shapes::unlisted;
 
 /// The largest tree.
 const LARGEST: usize = 524_288;

@@ -1,18 +1,21 @@
 //! The proved declaration transform, as a safe call.
 //!
 //! A module goes in as a tree of flat records, and its declarations come out as such a tree, with the diagnostics of
-//! what could not be typed: [`transform`]. The work is done by the static library that `rt staticlib dts` proves and
-//! writes; this crate calls it, finds the sizes of its buffers, and reads what it wrote without a copy.
+//! what could not be typed: [`transform`], and [`depths`] where these are to be counted. The work is done by the static
+//! library that `rt staticlib dts` proves and writes; this crate calls it, finds the sizes of its buffers, and reads
+//! what it wrote without a copy.
 #![deny(unsafe_code, unsafe_op_in_unsafe_fn)]
 #![warn(missing_docs)]
 
 mod declarations;
+mod depths;
+pub mod raw;
 mod record;
 mod refused;
-mod sys;
 mod words;
 
 pub use declarations::{Code, Declarations, Diagnostic};
+pub use depths::Depths;
 pub use record::{Children, Record};
 pub use refused::{Refusal, Refused};
 pub use words::Words;
@@ -69,6 +72,15 @@ const LEAST_RECORD: usize = 15;
 /// that no head can hold: a key of more than 65,531 bytes in an object's type. The library says it then of every buffer;
 /// so it is taken for an answer once it is said of one that every output fits.
 pub fn transform(tree: &[u8], list: &[u8], unresolved_context: u32) -> Result<Declarations, Refused> {
+    with_buffers(tree, |out, diagnostics| transform_into(tree, list, unresolved_context, out, diagnostics))
+}
+
+/// The declarations and diagnostics of a tree by a call that writes into buffers, made again with longer ones where they
+/// are too short.
+fn with_buffers(
+    tree: &[u8],
+    mut call: impl FnMut(&mut [u8], &mut [u8]) -> Result<(usize, usize), Refused>,
+) -> Result<Declarations, Refused> {
     // of a longer tree nothing is written
     let length = tree.len().min(LONGEST_TREE);
     let most_output = MOST_OUTPUT * length;
@@ -76,7 +88,7 @@ pub fn transform(tree: &[u8], list: &[u8], unresolved_context: u32) -> Result<De
     let mut out = vec![0; (2 * length + 256).min(most_output)];
     let mut diagnostics = vec![0; (DIAGNOSTIC * 16).min(most_diagnostics)];
     loop {
-        match transform_into(tree, list, unresolved_context, &mut out, &mut diagnostics) {
+        match call(&mut out, &mut diagnostics) {
             Ok((bytes, count)) => {
                 out.truncate(bytes);
                 out.shrink_to_fit();
@@ -110,7 +122,59 @@ pub fn transform_into(
     out: &mut [u8],
     diagnostics: &mut [u8],
 ) -> Result<(usize, usize), Refused> {
-    let (number, answer) = sys::transform(tree, list, unresolved_context, out, diagnostics);
+    let mut answer = [0; 2];
+    let number = raw::transform(tree, list, unresolved_context, out, diagnostics, &mut answer);
+    done(number, answer)
+}
+
+/// The declarations of a module, with its diagnostics counted by what they are and by how many namespaces hold them.
+///
+/// ```
+/// use vatnext_dts::Code;
+///
+/// // `namespace n { export using a = b; }`
+/// let tree = b"Mo\0\0\0\0\0\x23\0\0\0\0\0\x01\0\
+///     Ns\0\0\0\0\0\x23\0\0\0\0\0\x02\0\
+///     Op\0\x0a\0\0\0\x0b\0\0\0\x01\0\0\0n\
+///     Nb\0\x0c\0\0\0\x23\0\0\0\0\0\x01\0\
+///     Ed\0\x0e\0\0\0\x21\0\0\0\0\0\x01\0\
+///     Us\0\x15\0\0\0\x21\0\0\0\0\0\0\0";
+/// let (declarations, depths) = vatnext_dts::depths(tree, &[], 1)?;
+///
+/// assert_eq!(depths.count(Code::UnsupportedUsing, 1), 1);
+/// assert_eq!(depths.count(Code::UnsupportedUsing, 0), 0);
+/// let found: Vec<_> = depths.iter().collect();
+/// assert_eq!(found, [(Code::UnableToInferType, 1, 1), (Code::UnsupportedUsing, 1, 1)]);
+/// assert_eq!(depths.total(), declarations.diagnostics().len());
+/// # Ok::<(), vatnext_dts::Refused>(())
+/// ```
+///
+/// # Errors
+///
+/// Those of [`transform`], which gives the same declarations; buffers and stack are as there.
+pub fn depths(tree: &[u8], list: &[u8], unresolved_context: u32) -> Result<(Declarations, Depths), Refused> {
+    let mut depths = Depths::default();
+    let declarations = with_buffers(tree, |out, diagnostics| {
+        depths_into(tree, list, unresolved_context, out, diagnostics, &mut depths)
+    })?;
+    Ok((declarations, depths))
+}
+
+/// The same into buffers and a table of the caller's, as [`transform_into`] does; every count is written.
+///
+/// # Errors
+///
+/// All refusals; the buffers and the table then hold what they held before.
+pub fn depths_into(
+    tree: &[u8],
+    list: &[u8],
+    unresolved_context: u32,
+    out: &mut [u8],
+    diagnostics: &mut [u8],
+    depths: &mut Depths,
+) -> Result<(usize, usize), Refused> {
+    let mut answer = [0; 2];
+    let number = raw::depths(tree, list, unresolved_context, out, diagnostics, &mut depths.rows, &mut answer);
     done(number, answer)
 }
 
@@ -129,7 +193,8 @@ pub fn transform_into(
 /// assert_eq!((refused.refusal, refused.place), (Refusal::CutShort, 0));
 /// ```
 pub fn check(tree: &[u8], list: &[u8]) -> Result<(), Refused> {
-    let (number, answer) = sys::check(tree, list);
+    let mut answer = [0; 2];
+    let number = raw::check(tree, list, &mut answer);
     done(number, answer).map(|_| ())
 }
 

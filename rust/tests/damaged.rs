@@ -2,7 +2,7 @@
 mod support;
 
 use support::{Node, Numbers, default, leaf, module, name, node};
-use vatnext_dts::{Record, Refusal, check, transform};
+use vatnext_dts::{Record, Refusal, check, depths, transform};
 
 const INPUTS: usize = 20_000;
 
@@ -33,11 +33,16 @@ fn try_one(tree: &[u8], list: &[u8]) -> bool {
     }
     match transform(tree, list, 1) {
         Ok(made) => {
+            let (same, table) = depths(tree, list, 1).expect("accepted");
+            assert_eq!((&same, table.total()), (&made, made.diagnostics().len()));
             assert_eq!(checked, Ok(()));
             assert_eq!(walk(made.root()), made.as_bytes().len());
             assert!(made.diagnostics().all(|d| d.start <= d.end && !d.to_string().is_empty()));
         }
-        Err(refused) => assert_eq!(checked, Err(refused)),
+        Err(refused) => {
+            assert_eq!(checked, Err(refused));
+            assert_eq!(depths(tree, list, 1), Err(refused));
+        }
     }
     checked.is_ok()
 }

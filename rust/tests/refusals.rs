@@ -2,15 +2,19 @@
 mod support;
 
 use support::{Node, default, leaf, module, name, node};
-use vatnext_dts::{LONGEST_TREE, Refusal, check, transform, transform_into};
+use vatnext_dts::{Depths, LONGEST_TREE, Refusal, check, depths, depths_into, transform, transform_into};
 
-/// What the check refuses, the transform refuses alike, and leaves its buffers as they were.
+/// What the check refuses, the transform refuses alike, with depths and without, and leaves what is lent as it was.
 fn refused(tree: &[u8], list: &[u8]) -> (Refusal, usize) {
     let refused = check(tree, list).expect_err("refused");
     assert_eq!(transform(tree, list, 1), Err(refused));
     let (mut out, mut diagnostics) = ([7; 1000], [8; 1000]);
     assert_eq!(transform_into(tree, list, 1, &mut out, &mut diagnostics), Err(refused));
     assert_eq!((out, diagnostics), ([7; 1000], [8; 1000]));
+    assert_eq!(depths(tree, list, 1), Err(refused));
+    let mut table = Depths::default();
+    assert_eq!(depths_into(tree, list, 1, &mut out, &mut diagnostics, &mut table), Err(refused));
+    assert_eq!((out, diagnostics, table), ([7; 1000], [8; 1000], Depths::default()));
     (refused.refusal, refused.place)
 }
 

@@ -1,5 +1,5 @@
-//! How much stack the exported call takes on trees of 64 levels: each is tried in a thread whose stack gets smaller, in a process of its own.
-use bench::{leaf, name, record, transform};
+//! How much stack the exported calls take on trees of 64 levels: each is tried in a thread whose stack gets smaller, in a process of its own.
+use bench::{depths, leaf, name, record, transform};
 use std::process::{Command, ExitCode, Stdio};
 
 /// The levels that a tree may have.
@@ -31,6 +31,7 @@ fn deep() -> Vec<(&'static str, Vec<u8>)> {
         ("arrows with defaults", default(nest((DEEPEST - 4) / 2, &function, leaf("Oe")))),
         ("frozen objects", default(nest(DEEPEST - 4, &frozen, leaf("Ob")))),
         ("namespaces", nest((DEEPEST - 2) / 2, &namespace, leaf("Im"))),
+        ("namespaces around an array", nest((DEEPEST - 4) / 2, &namespace, default(array(leaf("Oe"))))),
     ];
     let module = |item: Vec<u8>| {
         let imports = (500_000 - item.len()) / leaf("Im").len();
@@ -41,40 +42,45 @@ fn deep() -> Vec<(&'static str, Vec<u8>)> {
     items.into_iter().map(|(kind, item)| (kind, module(item))).collect()
 }
 
-/// The call in a thread with so many KiB of stack; the process ends with a signal where they are too few.
-fn try_one(kind: usize, kib: usize) {
+/// The calls, by their numbers.
+const CALLS: [(&str, fn(&[u8], &mut [u8], &mut [u8]) -> (u32, [u64; 2])); 2] = [("transform", transform), ("depths", depths)];
+
+/// A call in a thread with so many KiB of stack; the process ends with a signal where they are too few.
+fn try_one(call: usize, kind: usize, kib: usize) {
     let (_, tree) = deep().swap_remove(kind);
     let (mut out, mut diagnostics) = (vec![0; 2 << 20], vec![0; 1 << 20]);
-    let call = move || transform(&tree, &mut out, &mut diagnostics).0;
+    let call = move || CALLS[call].1(&tree, &mut out, &mut diagnostics).0;
     let number = std::thread::Builder::new().stack_size(kib << 10).spawn(call).expect("a thread").join().expect("an answer");
     assert_eq!(number, 0, "the tree is accepted");
 }
 
-fn ends(kind: usize, kib: usize) -> bool {
+fn ends(call: usize, kind: usize, kib: usize) -> bool {
     let program = std::env::current_exe().expect("this program");
-    let words = [kind.to_string(), kib.to_string()];
+    let words = [call, kind, kib].map(|word| word.to_string());
     Command::new(program).args(words).stderr(Stdio::null()).status().expect("a process").success()
 }
 
 fn main() -> ExitCode {
     let words: Vec<usize> = std::env::args().skip(1).filter_map(|word| word.parse().ok()).collect();
-    if let [kind, kib] = words[..] {
-        try_one(kind, kib);
+    if let [call, kind, kib] = words[..] {
+        try_one(call, kind, kib);
         return ExitCode::SUCCESS;
     }
     let mut most = 0;
-    for (kind, (what, tree)) in deep().iter().enumerate() {
-        if !ends(kind, ENOUGH) {
-            println!("{what}: more than {ENOUGH} KiB of stack");
-            return ExitCode::FAILURE;
+    for (call, (name, _)) in CALLS.iter().enumerate() {
+        for (kind, (what, tree)) in deep().iter().enumerate() {
+            if !ends(call, kind, ENOUGH) {
+                println!("{name}, {what}: more than {ENOUGH} KiB of stack");
+                return ExitCode::FAILURE;
+            }
+            let (mut low, mut high) = (0, ENOUGH);
+            while 4 < high - low {
+                let middle = (low + high) / 2;
+                if ends(call, kind, middle) { high = middle } else { low = middle }
+            }
+            println!("{name}, {what}, {DEEPEST} levels, {} bytes: {high} KiB of stack are enough, {low} are not", tree.len());
+            most = most.max(high);
         }
-        let (mut low, mut high) = (0, ENOUGH);
-        while 4 < high - low {
-            let middle = (low + high) / 2;
-            if ends(kind, middle) { high = middle } else { low = middle }
-        }
-        println!("{what}, {DEEPEST} levels, {} bytes: {high} KiB of stack are enough, {low} are not", tree.len());
-        most = most.max(high);
     }
     println!("{most} KiB for every call");
     ExitCode::SUCCESS

@@ -8,23 +8,16 @@ use native.Mathlib.Omega.{arith}
 use lib.Dec.{eqb}
 use lib.ListN.{length, getD, set, length-set, drop, drop-of-length-le}
 use lib.Seq.{getD-set-same, getD-set-other, drop-cons}
-use borrow.Author.Tests.{eqb-true, eqb-false, eq-eqb, ne-eqb}
+use borrow.Author.Tests.{eqb-true, eq-eqb, ne-eqb}
 use Rattle.definition.specs.Tree.{le2, le4, u16At}
 use Rattle.definition.specs.Grammar.{mark}
 use Rattle.definition.specs.Record.{Diag, diagnosticMarks, diagBytes, diagsBytes}
 use Rattle.definition.specs.Counting.{among, Kinds}
 use Rattle.definition.specs.Depths.{columns, allAt, countOf, sum, total}
+use Rattle.definition.proofs.Tests.{by-eq}
 use Rattle.definition.proofs.Places.{At, at-left, at-right, le2-at}
 use Rattle.definition.proofs.Calls.{length-diagsBytes}
 use Rattle.depth_counts.specs.Tables.{rows, Shape, cell, Small, AddsOne, Adds, diagsAt, Holds}
-
--- a fact by whether two numbers are equal
-pub by-eq : {P : Type 0} (j k : ℕ) → (j ≡ k → P) → ((j ≡ k → ⊥) → P) → P
-by-eq {P} j k y n = go (eqb j k) refl
-  where
-    go : (b : Bool) → eqb j k ≡ b → P
-    go true e = y (eqb-true j k e)
-    go false e = n (eqb-false j k e)
 
 -- a test counts for one at most
 pub one-most : (b : Bool) → cond b 1 0 ≤ 1

@@ -7,7 +7,7 @@ use lib.ListN.{length, getD, set, length-set, length-append, List·getD-append}
 use lib.Seq.{ext-getD, getD-append-add, getD-set-same, getD-set-other}
 use Rattle.definition.specs.Depths.{columns, sum, total, inOne}
 use Rattle.depth_counts.specs.Tables.{rows, Shape, cell}
-use Rattle.depth_counts.proofs.Cells.{by-eq}
+use Rattle.definition.proofs.Tests.{by-eq}
 
 -- ---- a count is no more than the total
 

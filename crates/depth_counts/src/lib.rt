@@ -17,6 +17,7 @@ use crate::table::Table;
 use crate::walk::count_items;
 use prescan::DECLARATION_SIZE;
 use prescan::LARGE_TABLE;
+use prescan::MIDDLE_TABLE;
 use prescan::Scope;
 use records::DEEPEST;
 use transform_dts::Answer;
@@ -24,9 +25,6 @@ use typing::State;
 
 pub mod table;
 mod walk;
-
-// The length of the table of names of a smaller tree: half as many declarations have room, and each takes DECLARATION_SIZE bytes at least.
-const MIDDLE_TABLE: usize = 2048;
 
 // The counts of an accepted tree, whose diagnostics stand in a buffer; `names` is a table for its index.
 fn with_names(

@@ -9,11 +9,12 @@ use native.Mathlib.Omega.{arith}
 use lib.Dec.{eqb, ltb}
 use lib.ListN.{length, getD, take, drop, set, length-set, drop-of-length-le, length-drop}
 use lib.Seq.{take-all, drop-cons, drop-drop, getD-set-same, getD-set-other, getD-take, getD-drop, length-take-le}
-use borrow.Author.Tests.{eq-eqb, ne-eqb, eqb-true, eqb-false, lt-ltb, le-ltb, ltb-true, ltb-false}
+use borrow.Author.Tests.{eq-eqb, ne-eqb, eqb-true, lt-ltb, le-ltb, ltb-true, ltb-false}
 use borrow.Rule.Slice.PartMut.{putMid}
 use Rattle.definition.specs.Tree.{textAt, bodyAt}
 use Rattle.definition.specs.Record.{sameText}
 use Rattle.definition.specs.Prescan.{Question, Question.typeofSafe, Question.nonGenericClass, Question.arrayTyped}
+use Rattle.definition.proofs.Tests.{by-eq}
 use Rattle.index.specs.declared.Entries.{Entries}
 use Rattle.index.specs.Index.{lessText, nameAt, bitOf, pick, entryOf, joinedOf, Sorted, Answers, Lower, nameIs, Raised, Lowered, Inserted, Enters, entriesOf}
 
@@ -22,14 +23,7 @@ use Rattle.index.specs.Index.{lessText, nameAt, bitOf, pick, entryOf, jo
 pub never : {A : Type 0} {b : Bool} → b ≡ true → b ≡ false → A
 never p q = absurd (let z : _≡_ {A = ℕ} 0 1 = cc in omega arith)
 
--- a fact by whether two numbers are equal
-by-eq : {P : Type 0} (j k : ℕ) → (j ≡ k → P) → ((j ≡ k → ⊥) → P) → P
-by-eq {P} j k y n = go (eqb j k) refl
-  where
-    go : (b : Bool) → eqb j k ≡ b → P
-    go true e = y (eqb-true j k e)
-    go false e = n (eqb-false j k e)
-
+-- a fact by whether a number is less than another
 by-lt : {P : Type 0} (j k : ℕ) → (j < k → P) → (k ≤ j → P) → P
 by-lt {P} j k y n = go (ltb j k) refl
   where

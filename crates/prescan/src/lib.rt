@@ -53,8 +53,11 @@ use records::text_at;
 // The bytes that a declaration of a name takes at least: four records, and the context of the name.
 pub const DECLARATION_SIZE: usize = 4 * HEAD_SIZE + CONTEXT_SIZE;
 
-// The length of a table that is enough for every tree: it may have half as many names.
+// The length of a table that is enough for every tree, and of one for smaller trees: a table has room for half as many declarations, and each takes
+// DECLARATION_SIZE bytes at least.
 pub const LARGE_TABLE: usize = 16384;
+
+pub const MIDDLE_TABLE: usize = 2048;
 
 // The sets of `PrescannedModuleIds`.
 pub enum Question {

@@ -13,6 +13,7 @@ use grammar::Checked;
 use grammar::Refusal;
 use prescan::DECLARATION_SIZE;
 use prescan::LARGE_TABLE;
+use prescan::MIDDLE_TABLE;
 use prescan::Scope;
 use records::DEEPEST;
 use records::DIAGNOSTIC_SIZE;
@@ -26,10 +27,8 @@ pub enum Answer {
     Refused(Refusal, usize),
 }
 
-// The lengths of the tables of names of small trees: half as many declarations have room, and each takes DECLARATION_SIZE bytes at least.
+// The length of the table of names of a small tree.
 const SMALL_TABLE: usize = 128;
-
-const MIDDLE_TABLE: usize = 2048;
 
 // Where a run begins.
 fn begin() -> State
