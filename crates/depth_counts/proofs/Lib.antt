@@ -3,3 +3,4 @@ pub mod Cells
 pub mod Walking
 pub mod Whole
 pub mod Rows
+pub mod Counts

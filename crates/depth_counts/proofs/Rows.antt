@@ -28,7 +28,7 @@ cell-most t r d = omega (arith, sum-most (getD t r []) d, total-most t r)
 
 -- ---- where the counts stand
 
-row-cell : (t : List (List ℕ)) → ((r : ℕ) → r < length t → length (getD t r []) ≡ columns) → (r d : ℕ) → r < length t → d < columns → getD (inOne t) (columns * r + d) 0 ≡ cell t r d
+pub row-cell : (t : List (List ℕ)) → ((r : ℕ) → r < length t → length (getD t r []) ≡ columns) → (r d : ℕ) → r < length t → d < columns → getD (inOne t) (columns * r + d) 0 ≡ cell t r d
 unfolding inOne
 row-cell [] f r d h k = absurd (omega arith)
 row-cell (x ∷ t) f zero d h k =
@@ -44,7 +44,7 @@ one-length [] f = omega arith
 one-length (x ∷ t) f = omega (arith, length-append x (inOne t), f 0 (omega arith), one-length t (λ r h. f (suc r) (omega arith)))
 
 module _ (t : List (List ℕ)) (s : Shape t) where
-  wide : (r : ℕ) → r < length t → length (getD t r []) ≡ columns
+  pub wide : (r : ℕ) → r < length t → length (getD t r []) ≡ columns
   wide r h = s .wide r (omega (arith, s .tall))
 
   one-at : (j : ℕ) → j < rows * columns → getD (inOne t) j 0 ≡ cell t (j / columns) (j % columns)

@@ -74,6 +74,12 @@ table-is {t} {u} xs none a =
     omega (arith, a .cells r d hr hd, none r d hr hd, row-at columns (getD diagnosticMarks r 0) 0 xs d hd, ap (λ (k : ℕ). countOf (getD diagnosticMarks r 0) k xs) z))
     ∙ sym at)
 
+pub table-cell : (xs : List Placed) (r d : ℕ) → r < rows → d < columns → cell (tableOf xs) r d ≡ countOf (getD diagnosticMarks r 0) d xs
+unfolding tableOf
+table-cell xs r d hr hd =
+    ap (λ (l : List ℕ). getD l d 0) (rows-at diagnosticMarks xs r hr)
+    ∙ (row-at columns (getD diagnosticMarks r 0) 0 xs d hd ∙ ap (λ (k : ℕ). countOf (getD diagnosticMarks r 0) k xs) (omega arith))
+
 pub table-shape : (xs : List Placed) → Shape (tableOf xs)
 unfolding tableOf
 table-shape xs = record {
