@@ -84,7 +84,7 @@ use Rattle.definition.specs.Typing.{
   patToTsFnParam,
 }
 use Rattle.definition.proofs.Round.{length-headBytes}
-use Rattle.definition.specs.Counting.{records, allRecords, below, Kinds, Within}
+use Rattle.definition.specs.Counting.{records, allRecords, below, Within}
 
 -- ---- records and bytes
 
@@ -107,31 +107,27 @@ mutual
 
 -- ---- steps
 
-kinds-append : (xs ys : List Diag) → Kinds xs → Kinds ys → Kinds (xs ++ ys)
-kinds-append [] ys p q = q
-kinds-append (x ∷ xs) ys p q = (p .0, kinds-append xs ys (p .1) q)
-
 pub within-pure : {A : Type 0} (a : A) (n m : ℕ) → Within n m (pure a n)
-within-pure a n m = record { diagnostics = omega arith; kinds = tt; low = omega arith; high = omega arith }
+within-pure a n m = record { diagnostics = omega arith; low = omega arith; high = omega arith }
 
 -- the same cost, of another value
 pub within-value : {A B : Type 0} {n m : ℕ} {b : B} (o : Out A) → Within n m o → Within n m (b, o .1, o .2)
-within-value o w = record { diagnostics = w .diagnostics; kinds = w .kinds; low = w .low; high = w .high }
+within-value o w = record { diagnostics = w .diagnostics; low = w .low; high = w .high }
 
 pub within-wider : {A : Type 0} {n m : ℕ} {o : Out A} (k : ℕ) → Within n m o → m ≤ k → Within n k o
-within-wider k w le = record { diagnostics = omega arith; kinds = w .kinds; low = omega arith; high = omega arith }
+within-wider k w le = record { diagnostics = omega arith; low = omega arith; high = omega arith }
 
 -- one step after another
 pub within-then : {A B C : Type 0} {n m k : ℕ} (c : C) (a : Out A) (b : Out B) → Within n m a → Within (a .2) k b → Within n (m + k) (c, a .1 ++ b .1, b .2)
-within-then c a b v w = record { diagnostics = simp length-append (omega arith); kinds = kinds-append (a .1) (b .1) (v .kinds) (w .kinds); low = omega arith; high = omega arith }
+within-then c a b v w = record { diagnostics = simp length-append (omega arith); low = omega arith; high = omega arith }
 
 pub within-if : {A : Type 0} (b : Bool) (f g : ℕ → Out A) (n m : ℕ) → Within n m (f n) → Within n m (g n) → Within n m (ifM b f g n)
 within-if true f g n m v w = v
 within-if false f g n m v w = w
 
 -- diagnostics after a step that has failed
-pub within-more : {A B : Type 0} {n m : ℕ} (b : B) (o : Out A) (ds : List Diag) → Kinds ds → Within n m o → Within n (m + length ds) (b, o .1 ++ ds, o .2)
-within-more b o ds k w = record { diagnostics = simp length-append (omega arith); kinds = kinds-append (o .1) ds (w .kinds) k; low = omega arith; high = omega arith }
+pub within-more : {A B : Type 0} {n m : ℕ} (b : B) (o : Out A) (ds : List Diag) → Within n m o → Within n (m + length ds) (b, o .1 ++ ds, o .2)
+within-more b o ds w = record { diagnostics = simp length-append (omega arith); low = omega arith; high = omega arith }
 
 -- a step on the first of some records, then one on the others
 pub within-cons : {A B C : Type 0} {n : ℕ} (r : Rec) (rs : Recs) (c : C) (a : Out A) (b : Out B) → Within n (records r) a → Within (a .2) (allRecords rs) b →
@@ -152,11 +148,11 @@ unfolding allRecords
 within-others r rs w = within-wider _ w (omega arith)
 
 -- a type, or any and more diagnostics
-pub within-orAny : {n m : ℕ} (o : Out (Option Rec)) (ds : List Diag) → Kinds ds → Within n m o → Within n (m + length ds) (orAny o ds)
-within-orAny {n} {m} o ds k w = go (o .0) (o .1) (o .2) w
+pub within-orAny : {n m : ℕ} (o : Out (Option Rec)) (ds : List Diag) → Within n m o → Within n (m + length ds) (orAny o ds)
+within-orAny {n} {m} o ds w = go (o .0) (o .1) (o .2) w
   where
     go : (x : Option Rec) (l : List Diag) (c : ℕ) → Within n m (x, l, c) → Within n (m + length ds) (orAny (x, l, c) ds)
-    go none l c w = within-more (anyTypeAnn dummySp) (none, l, c) ds k w
+    go none l c w = within-more (anyTypeAnn dummySp) (none, l, c) ds w
     go (some t) l c w = within-wider (m + length ds) (within-value (some t, l, c) w) (omega arith)
 
 -- one more element
@@ -173,11 +169,11 @@ elementBy-within eSpread h typed spread rest n m l p q s = go (spread n .0) (spr
   where
     go : (x : Option Rec) (ds : List Diag) (c : ℕ) → Within n m (x, ds, c) →
         Within n (suc m + l) (given x (none, ds ++ (diag "d4" h ∷ []), c) (λ t. element (tsRestType dummySp t) ds (rest c)))
-    go none ds c w = within-wider (suc m + l) (within-more none (none, ds, c) (diag "d4" h ∷ []) (refl, tt) w) (omega arith)
+    go none ds c w = within-wider (suc m + l) (within-more none (none, ds, c) (diag "d4" h ∷ []) w) (omega arith)
     go (some t) ds c w = within-element _ (t, ds, c) (rest c) (within-wider (suc m) (within-value (some t, ds, c) w) (omega arith)) (s c)
 elementBy-within eExpr h typed spread rest n m l p q s =
     let o : Out Rec = orAny (typed n) (diag "d1" h ∷ []) in
-    within-element (o .0) o (rest (o .2)) (within-wider (suc m) (within-orAny (typed n) (diag "d1" h ∷ []) (refl, tt) (p n)) (omega arith)) (s (o .2))
+    within-element (o .0) o (rest (o .2)) (within-wider (suc m) (within-orAny (typed n) (diag "d1" h ∷ []) (p n)) (omega arith)) (s (o .2))
 elementBy-within eOp h typed spread rest n m l p q s = within-wider (suc m + l) (s n) (omega arith)
 
 -- a typed default, whose name may be made
@@ -187,7 +183,7 @@ defaultParam-within {n} {m} h levels t o w = go (is "Bd" levels) _ _
   where
     go : (b : Bool) (x y : Recs) → Within n (suc m) (cond b (x, o .1, o .2) (y, o .1, suc (o .2)))
     go true x y = within-wider (suc m) (within-value o w) (omega arith)
-    go false x y = record { diagnostics = omega arith; kinds = w .kinds; low = omega arith; high = omega arith }
+    go false x y = record { diagnostics = omega arith; low = omega arith; high = omega arith }
 
 -- a parameter whose default costs at most m
 paramBy-within : (k : Param) (h : Head) (ks : Recs) (right : ℕ → Out (Option Rec)) (n m : ℕ) → Within n m (right n) → Within n (suc m) (paramBy k h ks right n)
@@ -198,7 +194,7 @@ paramBy-within qAssign h ks right n m p = go (right n .0) (right n .1) (right n 
     go : (x : Option Rec) (ds : List Diag) (c : ℕ) → Within n m (x, ds, c) → Within n (suc m) (given x (nil, ds, c) (λ t. defaultParam h (kid 0 ks) t ds c))
     go none ds c w = within-wider (suc m) (within-value (none, ds, c) w) (omega arith)
     go (some t) ds c w = defaultParam-within h (kid 0 ks) t (some t, ds, c) w
-paramBy-within qExpr h ks right n m p = record { diagnostics = omega arith; kinds = (refl, tt); low = omega arith; high = omega arith }
+paramBy-within qExpr h ks right n m p = record { diagnostics = omega arith; low = omega arith; high = omega arith }
 paramBy-within qOther h ks right n m p = within-pure nil n (suc m)
 
 module _ (ids : PrescannedModuleIds) (ctx : ℕ) where
@@ -209,17 +205,17 @@ module _ (ids : PrescannedModuleIds) (ctx : ℕ) where
   spreadBy-within sOther e typed n m p = within-pure none n m
 
   shorthand-within : (h : Head) (i : Rec) (r : Bool) (o : Option Rec) (n m : ℕ) → Within n (suc m) (shorthand h i r o n)
-  shorthand-within h i r none n m = record { diagnostics = omega arith; kinds = (refl, tt); low = omega arith; high = omega arith }
+  shorthand-within h i r none n m = record { diagnostics = omega arith; low = omega arith; high = omega arith }
   shorthand-within h i r (some t) n m = within-pure _ n (suc m)
 
   propBy-within : (k : Prop) (h : Head) (ks : Recs) (c r : Bool) (value : ℕ → Out (Option Rec)) (n m : ℕ) → Within n m (value n) → Within n (suc m) (propBy ids ctx k h ks c r value n)
   unfolding propBy
   propBy-within pKeyValue h ks c r value n m p =
       let ds : List Diag = diag "d2" (headOf (kid 1 ks)) ∷ [] in
-      within-value (orAny (value n) ds) (within-wider (suc m) (within-orAny (value n) ds (refl, tt) p) (omega arith))
+      within-value (orAny (value n) ds) (within-wider (suc m) (within-orAny (value n) ds p) (omega arith))
   propBy-within pShorthand h ks c r value n m p = shorthand-within h (kid 0 ks) r (identToTsType ids ctx (kid 0 ks) c) n m
-  propBy-within pSpread h ks c r value n m p = record { diagnostics = omega arith; kinds = (refl, tt); low = omega arith; high = omega arith }
-  propBy-within pOther h ks c r value n m p = record { diagnostics = omega arith; kinds = (refl, tt); low = omega arith; high = omega arith }
+  propBy-within pSpread h ks c r value n m p = record { diagnostics = omega arith; low = omega arith; high = omega arith }
+  propBy-within pOther h ks c r value n m p = record { diagnostics = omega arith; low = omega arith; high = omega arith }
   propBy-within pOp h ks c r value n m p = within-pure nil n (suc m)
 
   -- what stands below an expression costs at most m

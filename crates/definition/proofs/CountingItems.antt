@@ -9,7 +9,7 @@ use lib.Dec.{leb}
 use lib.ListN.{length}
 use Rattle.definition.specs.Tree.{Head, Rec, Recs, rec, nil, cons, Bytes, headSize, encode, treeAt}
 use Rattle.definition.specs.Check.{Checked, Checked.fine, Checked.refused as rejected, checkTree, deepest}
-use Rattle.definition.specs.Record.{headOf, kidsOf, markOf, is, isNo, dummySp, kid, Diag, diag, diagnosticMarks, diagsBytes, listed, Out, Typing, pure, each, flat, atKid, second}
+use Rattle.definition.specs.Record.{headOf, kidsOf, markOf, is, isNo, dummySp, kid, Diag, diag, diagsBytes, listed, Out, Typing, pure, each, flat, atKid, second}
 use Rattle.definition.specs.Helpers.{anyTypeAnn}
 use Rattle.definition.specs.Names.{validPropName}
 use Rattle.definition.specs.Prescan.{prescanModuleIds}
@@ -100,7 +100,7 @@ use Rattle.definition.specs.Items.{
   nestedFirst,
 }
 use Rattle.definition.specs.Transform.{transformBy, transform, done, refused, textsFit, written, callBy, call}
-use Rattle.definition.specs.Counting.{records, allRecords, below, among, Within}
+use Rattle.definition.specs.Counting.{records, allRecords, below, Within}
 use Rattle.definition.proofs.Converse.{read-accepted}
 use Rattle.definition.proofs.Counting.{records-below, records-bytes, within-pure, within-value, within-wider, within-if, within-more, within-cons, within-own, within-first, within-others, within-orAny, exprToTsType-within}
 use Rattle.definition.proofs.Calls.{length-diagsBytes}
@@ -139,8 +139,8 @@ typeOr-within : (f : ℕ → Out Rec) (t : Rec) (n m : ℕ) → Within n m (f n)
 typeOr-within f t n m w = within-if (isNo t) f (pure t) n m w (within-pure t n m)
 
 -- a step that marks one diagnostic
-marked : {A : Type 0} (a : A) (d : Diag) → among diagnosticMarks (d .mark) ≡ true → (n m : ℕ) → Within n (suc m) (a, d ∷ [], n)
-marked a d k n m = record { diagnostics = omega arith; kinds = (k, tt); low = omega arith; high = omega arith }
+marked : {A : Type 0} (a : A) (d : Diag) (n m : ℕ) → Within n (suc m) (a, d ∷ [], n)
+marked a d n m = record { diagnostics = omega arith; low = omega arith; high = omega arith }
 
 -- a typing that costs at most the records below what it types
 abbrev pub Modest : Typing → Type 0
@@ -151,11 +151,11 @@ Modest ty = (e : Rec) (c r : Bool) (n : ℕ) → Within n (below e) (ty e c r n)
 handleFuncParamIdent-within : (p : Rec) (n m : ℕ) → Within n (suc m) (handleFuncParamIdent p n)
 unfolding handleFuncParamIdent
 handleFuncParamIdent-within p n m =
-    within-value (typeOr _ (kid 1 (kidsOf p)) n) (typeOr-within _ (kid 1 (kidsOf p)) n (suc m) (marked (anyTypeAnn dummySp) (diag "d2" (headOf p)) refl n m))
+    within-value (typeOr _ (kid 1 (kidsOf p)) n) (typeOr-within _ (kid 1 (kidsOf p)) n (suc m) (marked (anyTypeAnn dummySp) (diag "d2" (headOf p)) n m))
 
 module _ (ty : Typing) (modest : Modest ty) where
   infer-within : (e : Rec) (n : ℕ) → Within n (suc (below e)) (inferExprFallbackAny ty e n)
-  infer-within e n = within-wider (suc (below e)) (within-orAny (ty e false false n) (diag "d2" (headOf e) ∷ []) (refl, tt) (modest e false false n)) (omega arith)
+  infer-within e n = within-wider (suc (below e)) (within-orAny (ty e false false n) (diag "d2" (headOf e) ∷ []) (modest e false false n)) (omega arith)
 
   handleFuncParamAssign-within : (k : Pattern) (left right whole : Rec) (n : ℕ) → Within n (suc (below right)) (handleFuncParamAssign ty k left right whole n)
   unfolding handleFuncParamAssign
@@ -211,7 +211,7 @@ module _ (ty : Typing) (modest : Modest ty) where
   propType-within : (value t : Rec) (n : ℕ) → Within n (below value) (propType ty value t n)
   propType-within value t n =
       within-if (isNo value) _ _ n _ (within-pure t n _)
-      (typeOr-within _ t n _ (within-wider _ (within-orAny (ty value false false n) [] tt (modest value false false n)) (omega arith)))
+      (typeOr-within _ t n _ (within-wider _ (within-orAny (ty value false false n) [] (modest value false false n)) (omega arith)))
 
   classProp-within : (r : Rec) (key : Option Rec) (n : ℕ) → Within n (below r) (classProp ty r key n)
   unfolding classProp
@@ -260,21 +260,21 @@ exportOf-within : {n m : ℕ} (h : Head) (ops : Recs) (o : Out (Option Rec)) →
 exportOf-within {n} {m} h ops o w = go (o .0) (o .1) (o .2) w
   where
     go : (x : Option Rec) (ds : List Diag) (c : ℕ) → Within n m (x, ds, c) → Within n (suc m) (exportOf h ops (x, ds, c))
-    go none ds c w = within-wider (suc m) (within-more nil (none, ds, c) (diag "d1" h ∷ []) (refl, tt) w) (omega arith)
+    go none ds c w = within-wider (suc m) (within-more nil (none, ds, c) (diag "d1" h ∷ []) w) (omega arith)
     go (some d) ds c w = within-wider (suc m) (within-value (some d, ds, c) w) (omega arith)
 
 module _ (ty : Typing) (modest : Modest ty) where
   declaratorType-within : (h : Head) (init : Rec) (n : ℕ) → Within n (suc (below init)) (declaratorType ty h init n)
   declaratorType-within h init n =
-      within-if (isNo init) _ _ n _ (marked (anyTypeAnn dummySp) (diag "d2" h) refl n (below init))
-      (within-wider _ (within-orAny (ty init false true n) (diag "d2" h ∷ []) (refl, tt) (modest init false true n)) (omega arith))
+      within-if (isNo init) _ _ n _ (marked (anyTypeAnn dummySp) (diag "d2" h) n (below init))
+      (within-wider _ (within-orAny (ty init false true n) (diag "d2" h ∷ []) (modest init false true n)) (omega arith))
 
   declaratorPattern-within : (h : Head) (init p : Rec) (n : ℕ) → Within n (suc (below init)) (declaratorPattern ty h init p n)
   unfolding declaratorPattern
   declaratorPattern-within h init p n =
       within-if (is "Bd" p) _ _ n _
       (within-value (typeOr _ (kid 1 (kidsOf p)) n) (typeOr-within _ (kid 1 (kidsOf p)) n _ (declaratorType-within (headOf p) init n)))
-      (marked p (diag "d1" h) refl n (below init))
+      (marked p (diag "d1" h) n (below init))
 
   pub declarator-within : (r : Rec) (n : ℕ) → Within n (records r) (declarator ty r n)
   unfolding declarator
@@ -327,7 +327,7 @@ module _ (ty : Typing) (modest : Modest ty) where
       export-within dVar eh ops = exportOf-within eh ops _ (within-wider _ var-decl (omega arith))
       export-within dEnum eh ops = exportOf-within eh ops _ (within-wider _ enum-decl (omega arith))
       export-within dModule eh ops = exportOf-within eh ops _ (within-wider _ module-decl (omega arith))
-      export-within dUsing eh ops = exportOf-within eh ops _ (marked none (diag "d5" h) refl n (allRecords ks))
+      export-within dUsing eh ops = exportOf-within eh ops _ (marked none (diag "d5" h) n (allRecords ks))
       export-within dType eh ops = within-pure _ n _
 
     default-within : (k : Default) (h : Head) (ks : Recs) (n : ℕ) → Within n (allRecords ks) (exportDefaultDecl list ctx ty k h ks n)
@@ -346,7 +346,7 @@ module _ (ty : Typing) (modest : Modest ty) where
         let o : Out (Option Rec) = ty (kid 0 ks) false true (suc n) in
         let w : Within (suc n) (below (kid 0 ks)) o = modest (kid 0 ks) false true (suc n) in
         let l = kid-below 0 ks in
-        within-if (is "Id" (kid 0 ks)) _ _ n _ (within-pure _ n _) (record { diagnostics = omega arith; kinds = w .kinds; low = omega arith; high = omega arith })
+        within-if (is "Id" (kid 0 ks)) _ _ n _ (within-pure _ n _) (record { diagnostics = omega arith; low = omega arith; high = omega arith })
 
     -- ---- items
 

@@ -1,43 +1,26 @@
--- The laws of request §1: an Ns stands in a Mo, an Ed or an Nb; without their depths the diagnostics are the transform's, in order; no depth of an
--- accepted tree is over 31; the counts of the table are as many as the diagnostics.
+-- The laws of request §1: without their depths the diagnostics are the transform's, in order; no depth of an accepted tree is over 31; the counts of
+-- the table are as many as the diagnostics. (`Spaces.antt`: items other than namespaces hold no Ns.)
 use mathlib.Core.Path.{_≡_, refl, sym, ap, _∙_, subst}
 use mathlib.Core.List.{List, [], _∷_, _++_}
-use mathlib.Core.Bool.{Bool, true, false, cond, _&&_, _||_}
+use mathlib.Core.Bool.{Bool, true, false, cond, _&&_}
 use Prim.Native.Nat.{ℕ, zero, suc, _+_, _*_, _-_, _<_, _≤_}
 use native.Mathlib.Omega.{arith}
 use lib.Dec.{eqb}
 use lib.ListN.{length}
 use borrow.Author.Tests.{eqb-true, eqb-false, eq-eqb, ne-eqb}
 use Rattle.definition.specs.Tree.{Head, Rec, Recs, rec, nil, cons, depth, depths, Bytes, treeAt}
-use Rattle.definition.specs.Grammar.{mark, marks, member, Part, one, many, property, Row, grammar}
+use Rattle.definition.specs.Grammar.{mark, member}
 use Rattle.definition.specs.Check.{fine, checkTree, deepest}
 use Rattle.definition.specs.Record.{kidsOf, markOf, is, kid, Diag, diagnosticMarks, Out, Typing}
-use Rattle.definition.specs.Counting.{among, Kinds}
+use Rattle.definition.specs.Marked.{Kinds}
 use Rattle.definition.specs.Prescan.{prescanModuleIds}
 use Rattle.definition.specs.Typing.{exprToTsType}
 use Rattle.definition.specs.Items.{itemKind, declKind, bodyKind, declToTypeDecl, transformModuleStmt, exportDecl, itemBy, bodyBy, transformModuleItems, transformModuleItem, exported, exportedDecl, nsParts, nsBodyFirst, transformTsNsBody, nestedSecond, nestedFirst}
 use Rattle.definition.specs.Transform.{transform, transformBy}
 use Rattle.definition.specs.Depths.{Placed, allAt, whatOf, itemsPlaced, itemPlaced, exportPlaced, exportedPlaced, spacePlaced, bodyFirstPlaced, bodyPlaced, placed, columns, countOf, rowOf, rowsOf, tableOf, sum, total}
-use Rattle.definition.proofs.Tests.{and-true}
+use Rattle.definition.proofs.Tests.{never, and-true, by-eq}
 use Rattle.definition.proofs.Converse.{read-accepted}
-use Rattle.definition.proofs.CountingItems.{transform-within}
-
--- ---- what holds an Ns
-
-abbrev pub anySlot : List Part → ℕ → Bool
-anySlot [] m = false
-anySlot (one s ∷ ps) m = member m (marks s) || anySlot ps m
-anySlot (many s ∷ ps) m = member m (marks s) || anySlot ps m
-anySlot (property ∷ ps) m = member m (marks "Bd Ag") || anySlot ps m
-
-abbrev pub holders : ℕ → List Row → List ℕ
-holders m [] = []
-holders m (r ∷ rs) = cond (anySlot (r .parts) m) (r .mark ∷ holders m rs) (holders m rs)
-
--- a Mo, an Ed and an Nb alone: so that no item other than these holds one, and an Ed only if its declaration is one
-pub space-holders : holders (mark "Ns") grammar ≡ mark "Mo" ∷ mark "Ed" ∷ mark "Nb" ∷ []
-unfolding grammar member marks
-space-holders = refl
+use Rattle.definition.proofs.MarkedItems.{transform-kinds}
 
 -- ---- without the depths
 
@@ -368,25 +351,18 @@ module _ (x : Placed) where
       go false q f = omega (arith, f, row-other columns m 0 q)
 
   -- the five marks are five
-  one-hit : among diagnosticMarks (x .what .mark) ≡ true → hits diagnosticMarks ≡ 1
-  unfolding hits
+  one-hit : member (x .what .mark) diagnosticMarks ≡ true → hits diagnosticMarks ≡ 1
+  unfolding hits member
   one-hit e =
-      by (mark "d1") (λ q. rw q)
-      (λ a. by (mark "d2") (λ q. rw q)
-      (λ b. by (mark "d3") (λ q. rw q)
-      (λ c. by (mark "d4") (λ q. rw q)
-      (λ d. by (mark "d5") (λ q. rw q)
-      (λ f. absurd (never (rw (a, b, c, d, f) at e)))))))
+      by-eq m (mark "d1") (λ q. rw q)
+      (λ a. by-eq m (mark "d2") (λ q. rw q)
+      (λ b. by-eq m (mark "d3") (λ q. rw q)
+      (λ c. by-eq m (mark "d4") (λ q. rw q)
+      (λ d. by-eq m (mark "d5") (λ q. rw q)
+      (λ f. absurd (never (rw (ne-eqb _ _ a, ne-eqb _ _ b, ne-eqb _ _ c, ne-eqb _ _ d, ne-eqb _ _ f) at e)))))))
     where
-      by : {P : Type 0} (m : ℕ) → (x .what .mark ≡ m → P) → (eqb (x .what .mark) m ≡ false → P) → P
-      by {P} m y n = go (eqb (x .what .mark) m) refl
-        where
-          go : (b : Bool) → eqb (x .what .mark) m ≡ b → P
-          go true q = y (eqb-true _ _ q)
-          go false q = n q
-
-      never : false ≡ true → ⊥
-      never z = let w : _≡_ {A = ℕ} 0 1 = cc in omega arith
+      m : ℕ
+      m = x .what .mark
 
 table-total : (xs : List Placed) → Low xs → Kinds (whatOf xs) → total (tableOf xs) ≡ length xs
 unfolding tableOf whatOf
@@ -405,4 +381,4 @@ pub total-is : (tree list : List ℕ) (ctx e : ℕ) → Bytes tree → checkTree
 total-is tree list ctx e b f =
     let r : Rec = treeAt deepest tree 0 in
     let w = without-depths list ctx r in
-    table-total (placed list ctx r) (never-deeper tree list ctx e b f) (subst Kinds (sym w) (transform-within list ctx r .kinds)) ∙ (sym (length-what (placed list ctx r)) ∙ ap length w)
+    table-total (placed list ctx r) (never-deeper tree list ctx e b f) (subst Kinds (sym w) (transform-kinds list ctx r)) ∙ (sym (length-what (placed list ctx r)) ∙ ap length w)

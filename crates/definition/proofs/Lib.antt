@@ -8,7 +8,12 @@ pub mod Kids
 pub mod Walk
 pub mod Counting
 pub mod CountingItems
+pub mod Marked
+pub mod MarkedItems
+pub mod Formed
+pub mod Spaces
 pub mod Depths
+pub mod DepthsMarked
 pub mod Silence
 pub mod Properties
 pub mod SilenceModule

@@ -1,10 +1,12 @@
 -- Request §1: "a table .. with one row for each of the five diagnostics and one column for each namespace depth from 0 to 31, where the depth is the
 -- number of Ns records that hold the record it is marked at. Below it goes a total."
 use Prim.Native.Nat.{ℕ, zero, suc, _+_}
+use mathlib.Core.Path.{_≡_}
+use mathlib.Core.Logic.{_⊎_}
 use mathlib.Core.List.{List, [], _∷_, _++_}
 use mathlib.Core.Bool.{Bool, true, false, cond, _&&_}
 use lib.Dec.{eqb}
-use Rattle.definition.specs.Tree.{Rec, Recs, rec, nil, cons, treeAt}
+use Rattle.definition.specs.Tree.{Head, Rec, Recs, rec, nil, cons, treeAt}
 use Rattle.definition.specs.Grammar.{mark}
 use Rattle.definition.specs.Check.{deepest}
 use Rattle.definition.specs.Record.{kidsOf, is, kid, Diag, diagnosticMarks, Typing}
@@ -37,8 +39,8 @@ module _ (list : List ℕ) (ctx : ℕ) (ty : Typing) where
     itemsPlaced nil top d n = []
     itemsPlaced (cons r rs) top d n = itemPlaced r top d n ++ itemsPlaced rs top d (transformModuleItem list ctx ty r top n .2)
 
-    -- an Ns, bare or exported, is marked nowhere but in its body, which one Ns more holds; another item holds no Ns (an Ns stands in a Mo, an Nb
-    -- or an Ed), so that all of its diagnostics are marked at this depth
+    -- an Ns, bare or exported, is marked nowhere but in its body, which one Ns more holds; another item holds no Ns (`no-space`), so that all of its
+    -- diagnostics are marked at this depth
     pub itemPlaced : Rec → Bool → ℕ → ℕ → List Placed
     itemPlaced (rec h ks) top d n =
         cond (eqb (h .mark) (mark "Ns")) (spacePlaced ks (suc d) n)
@@ -70,6 +72,26 @@ module _ (list : List ℕ) (ctx : ℕ) (ty : Typing) where
 -- the diagnostics of the transform of a Mo, each with its depth
 unfoldable pub placed : List ℕ → ℕ → Rec → List Placed
 placed list ctx r = itemsPlaced list ctx (exprToTsType (prescanModuleIds (kidsOf r)) ctx) (kidsOf r) true 0 0
+
+-- ---- "the number of Ns records that hold the record it is marked at"
+
+-- the heads of a tree's records in preorder, each with the number of Ns records that hold it; d of them hold the tree
+unfoldable mutual
+  pub heads : ℕ → Rec → List (Head × ℕ)
+  heads d (rec h ks) = (h, d) ∷ allHeads (cond (eqb (h .mark) (mark "Ns")) (suc d) d) ks
+
+  pub allHeads : ℕ → Recs → List (Head × ℕ)
+  allHeads d nil = []
+  allHeads d (cons r rs) = heads d r ++ allHeads d rs
+
+-- a diagnostic is marked at one of these records, and its depth is that record's
+abbrev pub MarkedAt : List (Head × ℕ) → Placed → Type 0
+MarkedAt [] x = ⊥
+MarkedAt (y ∷ ys) x = ((x .what .start ≡ y .0 .start) × (x .what .end ≡ y .0 .end) × (x .depth ≡ y .1)) ⊎ MarkedAt ys x
+
+abbrev pub AllMarkedAt : List (Head × ℕ) → List Placed → Type 0
+AllMarkedAt ys [] = Unit {0}
+AllMarkedAt ys (x ∷ xs) = MarkedAt ys x × AllMarkedAt ys xs
 
 -- ---- the table
 

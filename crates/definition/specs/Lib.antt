@@ -3,6 +3,7 @@ pub mod Grammar
 pub mod Check
 pub mod Children
 pub mod Record
+pub mod Formed
 pub mod ChildNames
 pub mod Counting
 pub mod Helpers
@@ -13,6 +14,7 @@ pub mod Classes
 pub mod Enums
 pub mod Items
 pub mod Transform
+pub mod Marked
 pub mod Depths
 pub mod Demand3
 pub mod Widths

@@ -10,9 +10,9 @@ use lib.ListN.{length, getD, set, length-set, drop, drop-of-length-le}
 use lib.Seq.{getD-set-same, getD-set-other, drop-cons}
 use borrow.Author.Tests.{eqb-true, eq-eqb, ne-eqb}
 use Rattle.definition.specs.Tree.{le2, le4, u16At}
-use Rattle.definition.specs.Grammar.{mark}
+use Rattle.definition.specs.Grammar.{mark, member}
 use Rattle.definition.specs.Record.{Diag, diagnosticMarks, diagBytes, diagsBytes}
-use Rattle.definition.specs.Counting.{among, Kinds}
+use Rattle.definition.specs.Marked.{Kinds}
 use Rattle.definition.specs.Depths.{columns, allAt, countOf, sum, total}
 use Rattle.definition.proofs.Tests.{by-eq}
 use Rattle.definition.proofs.Places.{At, at-left, at-right, le2-at}
@@ -48,7 +48,8 @@ added t row depth s hr hd e = rw e (record { shape = record { tall = length-set 
 -- ---- the rows
 
 -- a mark of the five that is none of the first four is the fifth
-pub last-row : (m : ℕ) → among diagnosticMarks m ≡ true → (m ≡ mark "d1" → ⊥) → (m ≡ mark "d2" → ⊥) → (m ≡ mark "d3" → ⊥) → (m ≡ mark "d4" → ⊥) → mark "d5" ≡ m
+pub last-row : (m : ℕ) → member m diagnosticMarks ≡ true → (m ≡ mark "d1" → ⊥) → (m ≡ mark "d2" → ⊥) → (m ≡ mark "d3" → ⊥) → (m ≡ mark "d4" → ⊥) → mark "d5" ≡ m
+unfolding member
 last-row m e a b c d = go (eqb m (mark "d5")) refl (rw (ne-eqb _ _ a, ne-eqb _ _ b, ne-eqb _ _ c, ne-eqb _ _ d) at e)
   where
     go : (b : Bool) → eqb m (mark "d5") ≡ b → (eqb m (mark "d5") || false) ≡ true → mark "d5" ≡ m
@@ -88,7 +89,7 @@ module _ (g : List ℕ) (at n depth : ℕ) {t : List (List ℕ)} where
     some-left : 0 < k → k ≡ suc (k - 1)
     some-left h = omega arith
 
-    pub marking-mark : 0 < k → among diagnosticMarks (u16At g p) ≡ true
+    pub marking-mark : 0 < k → member (u16At g p) diagnosticMarks ≡ true
     unfolding diagsAt
     marking-mark h = (subst (λ (j : ℕ). Kinds (diagsAt g p j)) (some-left h) (l .kinds)) .0
 
@@ -142,7 +143,7 @@ kinds-by-marks (x ∷ xs) (y ∷ ys) q k =
     (rw (sym a) (k .0), kinds-by-marks xs ys (ap (drop 1) q) (k .1))
 
 -- a mark of the five has two bytes
-kind-small : (m : ℕ) → among diagnosticMarks m ≡ true → m < 65536
+kind-small : (m : ℕ) → member m diagnosticMarks ≡ true → m < 65536
 kind-small m e = by-eq m (mark "d1") (λ q. omega arith) (λ a. by-eq m (mark "d2") (λ q. omega arith) (λ b. by-eq m (mark "d3") (λ q. omega arith) (λ c. by-eq m (mark "d4") (λ q. omega arith) (λ d. let z = last-row m e a b c d in omega arith))))
 
 held-at : {g : List ℕ} {p : ℕ} {ds : List Diag} → Holds g p ds → At g p (diagsBytes ds)

@@ -9,7 +9,7 @@ use lib.ListN.{length, getD, length-append}
 use Rattle.definition.specs.Tree.{Rec, Recs, nil, countAt, bodyAt, endAt, treeAt}
 use Rattle.definition.specs.Children.{AcceptedAt}
 use Rattle.definition.specs.Record.{kidsOf, Diag, diagnosticMarks, diagsBytes, Out}
-use Rattle.definition.specs.Counting.{Kinds}
+use Rattle.definition.specs.Marked.{Kinds}
 use Rattle.definition.specs.Items.{transformModuleItems}
 use Rattle.definition.specs.Depths.{Placed, columns, allAt, whatOf, itemsPlaced, itemPlaced, countOf}
 use Rattle.definition.proofs.Calls.{length-diagsBytes}
@@ -39,10 +39,6 @@ length-all : (d : ℕ) (xs : List Diag) → length (allAt d xs) ≡ length xs
 unfolding allAt
 length-all d [] = refl
 length-all d (x ∷ xs) = ap suc (length-all d xs)
-
--- each diagnostic of an item is one of the five
-pub item-kinds : (list tree : List ℕ) (scope : Scope) (top : Bool) (r : Rec) (n : ℕ) → Kinds (itemOf list tree scope top r n .1)
-item-kinds list tree scope top r n = item-within (typingOf tree scope) (exprToTsType-within (idsOf tree) (scope .unresolved)) list (scope .unresolved) r top n .kinds
 
 -- ---- a dry run
 

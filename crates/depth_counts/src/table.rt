@@ -3,8 +3,9 @@ ghost use mathlib.Core.Path.{_≡_};
 ghost use mathlib.Core.Bool.{true};
 ghost use Prim.Native.Nat.{_+_, _*_, _<_, _≤_};
 ghost use lib.ListN.{length, getD};
+ghost use Rattle.definition.specs.Grammar.{member};
 ghost use Rattle.definition.specs.Record.{diagnosticMarks};
-ghost use Rattle.definition.specs.Counting.{among, Kinds};
+ghost use Rattle.definition.specs.Marked.{Kinds};
 ghost use Rattle.definition.specs.Depths as Depths;
 ghost use Rattle.definition.specs.Depths.{columns, allAt};
 ghost use Rattle.depth_counts.specs.Tables.{rows, Small, Shape, AddsOne, Adds, diagsAt, cell};
@@ -25,7 +26,7 @@ pub type Table = [[usize; COLUMNS]; ROWS];
 
 // The row of a diagnostic's mark.
 fn row_of(mark: u16) -> usize
-    requires { ⌜ among diagnosticMarks mark ≡ true ⌝ }
+    requires { ⌜ member mark diagnosticMarks ≡ true ⌝ }
     ensures { λ r. ⌜ (r < rows) × (getD diagnosticMarks r 0 ≡ mark) ⌝ }
 {
     match mark {

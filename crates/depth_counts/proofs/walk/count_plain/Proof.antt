@@ -1,7 +1,8 @@
 -- `depth_counts::walk::count_plain` meets its contract: the dry run says how many diagnostics stand in the buffer.
 use mathlib.Core.Path.{refl}
 use native.Mathlib.Omega.{arith}
-use Rattle.depth_counts.proofs.Walking.{item-kinds, dry-asked, dry-done}
+use Rattle.definition.proofs.MarkedItems.{item-kinds}
+use Rattle.depth_counts.proofs.Walking.{dry-asked, dry-done}
 use borrow.Author.Needs.{needs}
 use Rattle.depth_counts.proofs.walk.count_plain.Statement.{statement}
 use Rattle.depth_counts.proofs.walk.count_plain.Tie as tie
