@@ -1,7 +1,7 @@
 -- The depth that the definition gives a diagnostic of an accepted tree is "the number of Ns records that hold the record it is marked at".
-use mathlib.Core.Path.{_≡_, refl, sym, ap, _∙_, subst}
+use mathlib.Core.Path.{_≡_, refl, sym, _∙_}
 use mathlib.Core.List.{List, [], _∷_, _++_}
-use mathlib.Core.Logic.{_⊎_, inl, inr, ⊎-elim}
+use mathlib.Core.Logic.{inl, inr, ⊎-elim}
 use mathlib.Core.Bool.{Bool, true, false, cond, _&&_, _||_}
 use Prim.Native.Nat.{ℕ, zero, suc, _+_, _<_, _≤_}
 use Prim.Native.String.{String}
@@ -13,14 +13,14 @@ use Rattle.definition.specs.Grammar.{mark, marks, member, Part, grammar,
 use Rattle.definition.specs.Check.{slotsOf, inside, fine, checkTree, deepest}
 use Rattle.definition.specs.Record.{headOf, kidsOf, markOf, is, kid, Diag, diag, Typing}
 use Rattle.definition.specs.Prescan.{PrescannedModuleIds, prescanModuleIds}
-use Rattle.definition.specs.Typing.{Prop, pKeyValue, pShorthand, pSpread, pOther, pOp, propKind, Param, qKeep, qAssign, qExpr, qOther, paramKind, exprToTsType}
+use Rattle.definition.specs.Typing.{pKeyValue, pShorthand, pSpread, pOther, pOp, propKind, qKeep, qAssign, qExpr, qOther, paramKind, exprToTsType}
 use Rattle.definition.specs.Classes.{patternKind}
 use Rattle.definition.specs.Classes as Classes
 use Rattle.definition.specs.Items.{transformModuleItem}
 use Rattle.definition.specs.Marked.{All, At, Asked, Everywhere, AllEverywhere}
 use Rattle.definition.specs.Formed.{Formed, FormedAll}
 use Rattle.definition.specs.Depths.{Placed, allAt, itemsPlaced, itemPlaced, exportPlaced, exportedPlaced, spacePlaced, bodyFirstPlaced, bodyPlaced, placed, heads, allHeads, MarkedAt, AllMarkedAt}
-use Rattle.definition.proofs.Tests.{never, and-true, by-eq}
+use Rattle.definition.proofs.Tests.{by-eq}
 use Rattle.definition.proofs.Kids.{member-one, inside-plain}
 use Rattle.definition.proofs.Marked.{own}
 use Rattle.definition.proofs.MarkedItems.{Typed, typed-all, item-all}

@@ -1,11 +1,11 @@
 -- The tree that is read where a record was accepted is one after the grammar.
 use mathlib.Core.Path.{_≡_}
 use mathlib.Core.List.{List}
-use Prim.Native.Nat.{ℕ, zero, suc, _≤_}
+use Prim.Native.Nat.{ℕ, zero, suc}
 use native.Mathlib.Omega.{arith}
 use Rattle.definition.specs.Tree.{count, markAt, countAt, bodyAt, headAt, readAll, endAt, treeAt}
-use Rattle.definition.specs.Grammar.{Part, after, least, root}
-use Rattle.definition.specs.Check.{slotsOf, inside, Checked.fine, checkAll, checkAt, checkTree, deepest}
+use Rattle.definition.specs.Grammar.{Part, after, root}
+use Rattle.definition.specs.Check.{inside, Checked.fine, checkAll, checkAt, checkTree, deepest}
 use Rattle.definition.specs.Formed.{Formed, FormedAll}
 use Rattle.definition.proofs.Accepted.{accepted, accepted-left, first-accepted, accepted-tree}
 use Rattle.definition.proofs.Converse.{count-readAll}

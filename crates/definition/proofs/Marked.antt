@@ -8,11 +8,11 @@ use Prim.Native.Nat.{ℕ, zero, suc}
 use lib.Dec.{eqb}
 use Rattle.definition.specs.Tree.{Head, Rec, Recs, rec, nil, cons}
 use Rattle.definition.specs.Grammar.{mark}
-use Rattle.definition.specs.Record.{headOf, markOf, is, dummySp, absent, kid, given, Diag, diag, Out, pure, ifM}
+use Rattle.definition.specs.Record.{headOf, markOf, is, dummySp, absent, kid, given, Diag, diag, Out, ifM}
 use Rattle.definition.specs.Helpers.{objectFreezeCallArg}
 use Rattle.definition.specs.ChildNames.{kvValue, peExpression}
 use Rattle.definition.specs.Prescan.{PrescannedModuleIds}
-use Rattle.definition.specs.Marked.{All, At, Asked, Everywhere, AllEverywhere}
+use Rattle.definition.specs.Marked.{All, At, Everywhere, AllEverywhere}
 use Rattle.definition.specs.Typing.{
   element,
   orAny,

@@ -1,7 +1,7 @@
 -- The diagnostics of the transform are marked at records of the tree: what holds of the five at every record of an item holds of all of its
 -- diagnostics; and each of them is one of the five.
 use mathlib.Core.Path.{_≡_, refl}
-use mathlib.Core.List.{List, [], _∷_, _++_}
+use mathlib.Core.List.{List, [], _∷_}
 use mathlib.Core.Bool.{Bool, true, false, _||_}
 use mathlib.Core.Option.{Option, none, some}
 use Prim.Native.Nat.{ℕ, zero, suc}

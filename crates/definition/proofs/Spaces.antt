@@ -7,8 +7,8 @@ use native.Mathlib.Omega.{arith}
 use lib.Dec.{eqb}
 use lib.ListN.{getD}
 use borrow.Author.Tests.{eqb-true, eqb-false, ne-eqb}
-use Rattle.definition.specs.Tree.{Head, Rec, Recs, rec, nil, cons}
-use Rattle.definition.specs.Grammar.{mark, marks, member, Part, one, many, property, Row, grammar, known, slots, place, allowed, after, isProperty, undestructured, root}
+use Rattle.definition.specs.Tree.{Rec, Recs, rec, nil, cons}
+use Rattle.definition.specs.Grammar.{mark, marks, member, Part, one, many, property, Row, grammar, known, slots, place, allowed, after, isProperty, undestructured}
 use Rattle.definition.specs.Check.{slotsOf, inside}
 use Rattle.definition.specs.Record.{markOf, kidsOf, kid}
 use Rattle.definition.specs.Formed.{Formed, FormedAll}
@@ -83,7 +83,7 @@ abbrev pub bodies : List ℕ
 bodies = mark "Mo" ∷ mark "Nb" ∷ mark "Nd" ∷ []
 
 -- an Ns, and the records that can hold one, whatever stands between
-abbrev pub holders : List ℕ
+abbrev holders : List ℕ
 holders = mark "Ns" ∷ mark "Ed" ∷ bodies
 
 abbrev closed : List Row → Bool
