@@ -96,8 +96,6 @@ use Rattle.definition.specs.Items.{
   nsParts,
   nsBodyFirst,
   transformTsNsBody,
-  nestedSecond,
-  nestedFirst,
 }
 use Rattle.definition.specs.Transform.{transformBy, transform, done, refused, textsFit, written, callBy, call}
 use Rattle.definition.specs.Counting.{records, allRecords, below, Within}
@@ -360,12 +358,12 @@ module _ (ty : Typing) (modest : Modest ty) where
     itemBy-within iDefaultExpr h ks top ns export n p q = default-expr-within h ks n
     itemBy-within iDecl h ks top ns export n p q = within-wider _ (stmt-within h ks top ns n p (declKind (h .mark))) (omega arith)
 
-    bodyBy-within : (k : Body) (h : Head) (ks : Recs) (items : ℕ → Out Recs) (nested : ℕ → Out Rec) (n m : ℕ) → Within n m (items n) → Within n m (nested n) →
-        Within n m (bodyBy list ctx ty k h ks items nested n)
+    bodyBy-within : (k : Body) (h : Head) (ks : Recs) (items parts : ℕ → Out Recs) (n m : ℕ) → Within n m (items n) → Within n m (parts n) →
+        Within n m (bodyBy list ctx ty k h ks items parts n)
     unfolding bodyBy
-    bodyBy-within bBlock h ks items nested n m p q = within-value _ p
-    bodyBy-within bNested h ks items nested n m p q = q
-    bodyBy-within bOther h ks items nested n m p q = within-pure _ n m
+    bodyBy-within bBlock h ks items parts n m p q = within-value _ p
+    bodyBy-within bNested h ks items parts n m p q = within-value _ q
+    bodyBy-within bOther h ks items parts n m p q = within-pure _ n m
 
     mutual
       unfolding transformModuleItems records
@@ -393,15 +391,7 @@ module _ (ty : Typing) (modest : Modest ty) where
       body-first-within (cons b ops) n = within-value _ (within-first b ops (within-own b (body-within b n)))
 
       body-within : (b : Rec) (n : ℕ) → Within n (below b) (transformTsNsBody list ctx ty b n)
-      body-within (rec h ks) n = bodyBy-within (bodyKind (h .mark)) h ks _ _ n (allRecords ks) (items-within ks false n) (nested-second-within ks n)
-
-      nested-second-within : (ks : Recs) (n : ℕ) → Within n (allRecords ks) (nestedSecond list ctx ty ks n)
-      nested-second-within nil n = within-pure _ n 0
-      nested-second-within (cons name rs) n = within-others name rs (nested-first-within rs n)
-
-      nested-first-within : (ks : Recs) (n : ℕ) → Within n (allRecords ks) (nestedFirst list ctx ty ks n)
-      nested-first-within nil n = within-pure _ n 0
-      nested-first-within (cons b ops) n = within-first b ops (within-own b (body-within b n))
+      body-within (rec h ks) n = bodyBy-within (bodyKind (h .mark)) h ks _ _ n (allRecords ks) (items-within ks false n) (parts-within ks n)
 
 -- ---- the whole module
 

@@ -15,7 +15,7 @@ use Rattle.definition.specs.Record.{kidsOf, markOf, is, kid, Diag, diagn
 use Rattle.definition.specs.Marked.{Kinds}
 use Rattle.definition.specs.Prescan.{prescanModuleIds}
 use Rattle.definition.specs.Typing.{exprToTsType}
-use Rattle.definition.specs.Items.{itemKind, declKind, bodyKind, declToTypeDecl, transformModuleStmt, exportDecl, itemBy, bodyBy, transformModuleItems, transformModuleItem, exported, exportedDecl, nsParts, nsBodyFirst, transformTsNsBody, nestedSecond, nestedFirst}
+use Rattle.definition.specs.Items.{itemKind, declKind, bodyKind, declToTypeDecl, transformModuleStmt, exportDecl, itemBy, bodyBy, transformModuleItems, transformModuleItem, exported, exportedDecl, nsParts, nsBodyFirst, transformTsNsBody}
 use Rattle.definition.specs.Transform.{transform, transformBy}
 use Rattle.definition.specs.Depths.{Placed, allAt, whatOf, itemsPlaced, itemPlaced, exportPlaced, exportedPlaced, spacePlaced, bodyFirstPlaced, bodyPlaced, placed, columns, countOf, rowOf, rowsOf, tableOf, sum, total}
 use Rattle.definition.proofs.Tests.{never, and-true, by-eq}
@@ -48,18 +48,18 @@ module _ (list : List ℕ) (ctx : ℕ) (ty : Typing) where
   unfolding exportDecl declKind declToTypeDecl
   export-space h dh ks ops top ns n e = rw e refl
 
-  block-body : (h : Head) (ks : Recs) (items : ℕ → Out Recs) (nested : ℕ → Out Rec) (n : ℕ) → h .mark ≡ mark "Nb" → items n .1 ≡ bodyBy list ctx ty (bodyKind (h .mark)) h ks items nested n .1
+  block-body : (h : Head) (ks : Recs) (items parts : ℕ → Out Recs) (n : ℕ) → h .mark ≡ mark "Nb" → items n .1 ≡ bodyBy list ctx ty (bodyKind (h .mark)) h ks items parts n .1
   unfolding bodyBy bodyKind
-  block-body h ks items nested n e = rw e refl
+  block-body h ks items parts n e = rw e refl
 
-  nested-body : (h : Head) (ks : Recs) (items : ℕ → Out Recs) (nested : ℕ → Out Rec) (n : ℕ) → h .mark ≡ mark "Nd" → nested n .1 ≡ bodyBy list ctx ty (bodyKind (h .mark)) h ks items nested n .1
+  nested-body : (h : Head) (ks : Recs) (items parts : ℕ → Out Recs) (n : ℕ) → h .mark ≡ mark "Nd" → parts n .1 ≡ bodyBy list ctx ty (bodyKind (h .mark)) h ks items parts n .1
   unfolding bodyBy bodyKind
-  nested-body h ks items nested n e = rw e refl
+  nested-body h ks items parts n e = rw e refl
 
-  other-body : (h : Head) (ks : Recs) (items : ℕ → Out Recs) (nested : ℕ → Out Rec) (n : ℕ) → eqb (h .mark) (mark "Nb") ≡ false → eqb (h .mark) (mark "Nd") ≡ false →
-      [] ≡ bodyBy list ctx ty (bodyKind (h .mark)) h ks items nested n .1
+  other-body : (h : Head) (ks : Recs) (items parts : ℕ → Out Recs) (n : ℕ) → eqb (h .mark) (mark "Nb") ≡ false → eqb (h .mark) (mark "Nd") ≡ false →
+      [] ≡ bodyBy list ctx ty (bodyKind (h .mark)) h ks items parts n .1
   unfolding bodyBy bodyKind
-  other-body h ks items nested n e f = rw (e, f) refl
+  other-body h ks items parts n e f = rw (e, f) refl
 
   mutual
     unfolding itemsPlaced transformModuleItems whatOf
@@ -100,23 +100,15 @@ module _ (list : List ℕ) (ctx : ℕ) (ty : Typing) where
     body-first-what (cons b ops) d n = body-what b d n
 
     body-what : (b : Rec) (d n : ℕ) → whatOf (bodyPlaced list ctx ty b d n) ≡ transformTsNsBody list ctx ty b n .1
-    body-what (rec h ks) d n = go (eqb (h .mark) (mark "Nb")) (eqb (h .mark) (mark "Nd")) refl refl (items-what ks false d n) (nested-what ks d n)
+    body-what (rec h ks) d n = go (eqb (h .mark) (mark "Nb")) (eqb (h .mark) (mark "Nd")) refl refl (items-what ks false d n) (space-what ks d n)
       where
         go : (a b : Bool) → eqb (h .mark) (mark "Nb") ≡ a → eqb (h .mark) (mark "Nd") ≡ b
             → whatOf (itemsPlaced list ctx ty ks false d n) ≡ transformModuleItems list ctx ty ks false n .1
-            → whatOf (spacePlaced list ctx ty ks d n) ≡ nestedSecond list ctx ty ks n .1
+            → whatOf (spacePlaced list ctx ty ks d n) ≡ nsParts list ctx ty ks n .1
             → whatOf (cond a (itemsPlaced list ctx ty ks false d n) (cond b (spacePlaced list ctx ty ks d n) [])) ≡ transformTsNsBody list ctx ty (rec h ks) n .1
         go true b p q x y = x ∙ block-body h ks _ _ n (eqb-true _ _ p)
         go false true p q x y = y ∙ nested-body h ks _ _ n (eqb-true _ _ q)
         go false false p q x y = other-body h ks _ _ n p q
-
-    nested-what : (ks : Recs) (d n : ℕ) → whatOf (spacePlaced list ctx ty ks d n) ≡ nestedSecond list ctx ty ks n .1
-    nested-what nil d n = refl
-    nested-what (cons name rs) d n = nested-first-what rs d n
-
-    nested-first-what : (ks : Recs) (d n : ℕ) → whatOf (bodyFirstPlaced list ctx ty ks d n) ≡ nestedFirst list ctx ty ks n .1
-    nested-first-what nil d n = refl
-    nested-first-what (cons b ops) d n = body-what b d n
 
 -- "leaving the depths away gives exactly the transform's diagnostics, in order"
 pub without-depths : (list : List ℕ) (ctx : ℕ) (r : Rec) → whatOf (placed list ctx r) ≡ transform list ctx r .1
@@ -137,12 +129,6 @@ module _ (list : List ℕ) (ctx : ℕ) (ty : Typing) where
   space-kid-counter nil n = refl
   space-kid-counter (cons name nil) n = refl
   space-kid-counter (cons name (cons b ops)) n = refl
-
-  nested-kid-counter : (ks : Recs) (n : ℕ) → nestedSecond list ctx ty ks n .2 ≡ transformTsNsBody list ctx ty (kid 1 ks) n .2
-  unfolding transformModuleItems bodyBy bodyKind
-  nested-kid-counter nil n = refl
-  nested-kid-counter (cons name nil) n = refl
-  nested-kid-counter (cons name (cons b ops)) n = refl
 
   -- those of an Ns are those of its body, one deeper
   pub item-space : (r : Rec) → markOf r ≡ mark "Ns" → (top : Bool) (d n : ℕ) → itemPlaced list ctx ty r top d n ≡ bodyPlaced list ctx ty (kid 1 (kidsOf r)) (suc d) n
@@ -195,7 +181,7 @@ module _ (list : List ℕ) (ctx : ℕ) (ty : Typing) where
 
   pub in-nested-counter : (b : Rec) → markOf b ≡ mark "Nd" → (n : ℕ) → transformTsNsBody list ctx ty b n .2 ≡ transformTsNsBody list ctx ty (kid 1 (kidsOf b)) n .2
   unfolding transformModuleItems bodyBy bodyKind
-  in-nested-counter (rec h ks) e n = rw e (nested-kid-counter ks n)
+  in-nested-counter (rec h ks) e n = rw e (space-kid-counter ks n)
 
   pub in-none : (b : Rec) → (markOf b ≡ mark "Nb" → ⊥) → (markOf b ≡ mark "Nd" → ⊥) → (d n : ℕ) → bodyPlaced list ctx ty b d n ≡ []
   unfolding itemsPlaced

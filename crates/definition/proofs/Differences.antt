@@ -7,7 +7,7 @@ use mathlib.Core.Option.{some}
 use Rattle.definition.specs.Tree.{Rec, Recs, nil, le4}
 use Rattle.definition.specs.Grammar.{marks, member}
 use Rattle.definition.specs.Record.{text, sameText, absent, one}
-use Rattle.definition.specs.Handbook.{propertyKey, onlyOps, plainTemplate, negatedNumber, negatedInteger, negatedLiteral, negatedKeyword, literalKind, typeBy, literalExpr, constType, variableType, isArray, annotatedKind, annotationBy, annotation, enumKind, constantBy, constantEnum, entityName, undotted, withoutDots}
+use Rattle.definition.specs.Handbook.{propertyKey, onlyOps, plainTemplate, negatedNumber, negatedInteger, negatedLiteral, negatedKeyword, literalKind, typeBy, literalExpr, constType, variableType, isArray, annotatedKind, annotationBy, annotation, enumKind, constantBy, constantEnum, entityName}
 use Rattle.definition.proofs.SmallTrees.{
   leaf,
   node,
@@ -43,7 +43,7 @@ use Rattle.definition.proofs.SmallTrees.{
 unfoldable handbook : Unit {0}
 unfolding
     marks member sameText propertyKey onlyOps plainTemplate negatedNumber negatedInteger negatedLiteral negatedKeyword literalKind typeBy literalExpr
-    variableType isArray annotatedKind annotationBy annotation enumKind constantBy constantEnum entityName undotted
+    variableType isArray annotatedKind annotationBy annotation enumKind constantBy constantEnum entityName
 handbook = tt
 
 -- ---- the types of initial values
@@ -284,16 +284,6 @@ unfolding becomes
 member-without-value = refl
 
 -- ---- namespaces
-
--- `namespace A.B {}` loses the name B
-abbrev dotted : Rec
-dotted = node "Ns" (two (op "A") (node "Nd" (two (op "B") (node "Nb" nil))))
-
-dotted-namespace : (becomes (module-of dotted) ≡ (module-of (flags 1 (node "Ns" (two (op "A") (node "Nb" nil)))), []))
-    × (becomes (module-of (withoutDots dotted))
-    ≡ (module-of (flags 1 (node "Ns" (two (op "A") (node "Nb" (one (node "Ed" (one (node "Ns" (two (op "B") (node "Nb" nil)))))))))), []))
-unfolding becomes handbook
-dotted-namespace = (refl, refl)
 
 -- `namespace A { const a: any; }` keeps what it does not export
 abbrev block : ℕ → Rec

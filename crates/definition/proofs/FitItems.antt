@@ -17,7 +17,7 @@ use Rattle.definition.specs.Names.{genUniqueName}
 use Rattle.definition.specs.Typing.{orAny}
 use Rattle.definition.specs.Classes.{typeOr, handleFunction, class}
 use Rattle.definition.specs.Enums.{validEnumInitExpr, enumInit, enumMember}
-use Rattle.definition.specs.Items.{Item, iKept, iDropped, iExport, iDefault, iDefaultExpr, iDecl, itemKind, Decl, dClass, dFn, dVar, dEnum, dModule, dUsing, dType, declKind, Default, xClass, xFn, xOther, defaultKind, Body, bBlock, bNested, bOther, bodyKind, declaratorType, declaratorPattern, declarator, bodyPart, withoutBody, constOf, defaultTyped, declared, exportOf, stmtOf, declToTypeDecl, transformModuleStmt, exportDecl, exportDefaultDecl, exportDefaultExpr, itemBy, bodyBy, transformModuleItems, transformModuleItem, exported, exportedDecl, nsParts, nsBodyFirst, transformTsNsBody, nestedSecond, nestedFirst}
+use Rattle.definition.specs.Items.{Item, iKept, iDropped, iExport, iDefault, iDefaultExpr, iDecl, itemKind, Decl, dClass, dFn, dVar, dEnum, dModule, dUsing, dType, declKind, Default, xClass, xFn, xOther, defaultKind, Body, bBlock, bNested, bOther, bodyKind, declaratorType, declaratorPattern, declarator, bodyPart, withoutBody, constOf, defaultTyped, declared, exportOf, stmtOf, declToTypeDecl, transformModuleStmt, exportDecl, exportDefaultDecl, exportDefaultExpr, itemBy, bodyBy, transformModuleItems, transformModuleItem, exported, exportedDecl, nsParts, nsBodyFirst, transformTsNsBody}
 use Rattle.definition.specs.Transform.{transformBy}
 use Rattle.definition.proofs.Texts.{bytes-none}
 use Rattle.definition.proofs.Fit.{weight, names, allNames, kid-names, Keys, AllKeys, kid-keys, Room, Sound, Fit, FitAll, Few, Given, Makes, one-made, none-made, at-most, fresh-sound, recount, reflag, flag1-fits, absent-fits, any-fits, over-two, ident-fits, kid-fits, setKid-fits, join-fits, gone-fits, rehead, all-few, pure-makes, more, onValue-makes, ifM-makes, orAny-makes, Step, each-makes, atKid-makes, wrap-makes, second-makes}
@@ -257,13 +257,13 @@ module _ (x : ℕ) (ty : Typing) (fit : TypesFit x ty) (nothing : (a b : Bool) (
 
     -- ---- the body of a namespace
 
-    body-makesBy : (k : Body) (h : Head) (ks : Recs) (items : ℕ → Out Recs) (nested : ℕ → Out Rec) (n : ℕ) → Fit x (rec h ks) → allRecords ks < 65536 →
-        Makes (Few x (allRecords ks)) n (allNames ks) (items n) → Makes (Fit x) n (allNames ks) (nested n) →
-        Makes (Fit x) n (allNames ks) (bodyBy list ctx ty k h ks items nested n)
+    body-makesBy : (k : Body) (h : Head) (ks : Recs) (items parts : ℕ → Out Recs) (n : ℕ) → Fit x (rec h ks) → allRecords ks < 65536 →
+        Makes (Few x (allRecords ks)) n (allNames ks) (items n) → Makes (Few x (count ks)) n (allNames ks) (parts n) →
+        Makes (Fit x) n (allNames ks) (bodyBy list ctx ty k h ks items parts n)
     unfolding bodyBy
-    body-makesBy bBlock h ks items nested n g s m o = wrap-makes x h (allRecords ks) n _ (items n) (recount x h (count ks) (allRecords ks) (g .0) s) m
-    body-makesBy bNested h ks items nested n g s m o = o
-    body-makesBy bOther h ks items nested n g s m o = pure-makes g
+    body-makesBy bBlock h ks items parts n g s m o = wrap-makes x h (allRecords ks) n _ (items n) (recount x h (count ks) (allRecords ks) (g .0) s) m
+    body-makesBy bNested h ks items parts n g s m o = wrap-makes x h (count ks) n _ (parts n) (g .0) o
+    body-makesBy bOther h ks items parts n g s m o = pure-makes g
 
     -- ---- all of it
 
@@ -312,18 +312,8 @@ module _ (x : ℕ) (ty : Typing) (fit : TypesFit x ty) (nothing : (a b : Bool) (
       body-makes (rec h ks) n g q s l =
           more
           (body-makesBy (bodyKind (h .mark)) h ks _ _ n g (omega arith) (items-make ks false n (g .1) (q .1) (omega arith) (omega arith))
-          (nestedSecond-makes ks n (g .1) (q .1) (omega arith) (omega arith)))
+          (parts-make ks n (g .1) (q .1) (omega arith) (omega arith)))
           (omega arith)
-
-      nestedSecond-makes : (rs : Recs) (n : ℕ) → FitAll x rs → AllKeys x rs → allRecords rs < 65536 → Room n (allNames rs) →
-          Makes (Fit x) n (allNames rs) (nestedSecond list ctx ty rs n)
-      nestedSecond-makes nil n g q s l = pure-makes (absent-fits x)
-      nestedSecond-makes (cons name rs) n g q s l = more (nestedFirst-makes rs n (g .1) (q .1) (omega arith) (omega arith)) (omega arith)
-
-      nestedFirst-makes : (rs : Recs) (n : ℕ) → FitAll x rs → AllKeys x rs → allRecords rs < 65536 → Room n (allNames rs) →
-          Makes (Fit x) n (allNames rs) (nestedFirst list ctx ty rs n)
-      nestedFirst-makes nil n g q s l = pure-makes (absent-fits x)
-      nestedFirst-makes (cons b ops) n g q s l = more (body-makes b n (g .0) (q .0) (omega arith) (omega arith)) (omega arith)
 
     -- a module of at most 524,288 bytes
     pub transformBy-fits : (r : Rec) → Fit x r → Keys x r → length (encode r) ≤ longestTree → Fit x (transformBy list ctx ty r .0)

@@ -1,18 +1,14 @@
--- Where the initial values of enum members and the names of namespaces are those of the handbook.
+-- Where the initial values of enum members are those of the handbook.
 use mathlib.Core.Path.{_≡_, refl, ap₂}
-use mathlib.Core.List.{List}
 use mathlib.Core.Bool.{Bool, true, false, _&&_, _||_}
 use Prim.Native.Nat.{ℕ}
 use native.Mathlib.Omega.{arith}
 use lib.Dec.{eqb}
 use borrow.Author.Tests.{eqb-true}
-use Rattle.definition.specs.Tree.{Head, Rec, Recs, rec, nil, cons}
+use Rattle.definition.specs.Tree.{Rec, Recs, rec, nil, cons}
 use Rattle.definition.specs.Grammar.{mark, marks, member}
-use Rattle.definition.specs.Record.{one, Typing, onValue}
 use Rattle.definition.specs.Enums.{initKind, validBy, validEnumInitExpr, validFirst, validBoth, validAll}
-use Rattle.definition.specs.Items.{iDecl, itemKind, dModule, declKind, bBlock, bNested, bodyKind, declared, declToTypeDecl, transformModuleStmt, exportDecl, itemBy, bodyBy, transformModuleItems, transformModuleItem}
 use Rattle.definition.proofs.Tests.{and-true}
-use Rattle.definition.proofs.SilenceModule.{item-ed}
 use Rattle.definition.specs.Handbook.{
   enumKind,
   constantBy,
@@ -26,8 +22,6 @@ use Rattle.definition.specs.Handbook.{
   ordinary,
   ordinaryFirst,
   ordinaryBoth,
-  undotted,
-  withoutDots,
 }
 
 never : {A : Type 0} → _≡_ {A = Bool} false true → A
@@ -40,27 +34,6 @@ by-mark {G} m x f g = go (eqb m x) refl
     go : (b : Bool) → eqb m x ≡ b → G
     go true e = f (eqb-true m x e)
     go false e = g e
-
--- ---- kinds
-
-item-ns : (m : ℕ) → m ≡ mark "Ns" → itemKind m ≡ iDecl
-unfolding itemKind
-item-ns m e = rw e
-
-decl-ns : (m : ℕ) → m ≡ mark "Ns" → declKind m ≡ dModule
-unfolding declKind
-decl-ns m e = rw e
-
-body-nb : (m : ℕ) → m ≡ mark "Nb" → bodyKind m ≡ bBlock
-unfolding bodyKind
-body-nb m e = rw e
-
-body-nd : (m : ℕ) → m ≡ mark "Nd" → bodyKind m ≡ bNested
-unfolding bodyKind
-body-nd m e = rw e
-
-no-dot : (m : ℕ) → m ≡ mark "Nb" → eqb m (mark "Nd") ≡ false
-no-dot m e = rw e
 
 -- ---- enum members
 
@@ -120,32 +93,3 @@ mutual
   both-agree : (ks : Recs) → ordinaryBoth ks ≡ true → validBoth ks ≡ constantBoth every ks
   both-agree nil o = refl
   both-agree (cons e es) o = ap₂ _&&_ (enum-agrees e (and-true (ordinary e) (ordinaryFirst es) o .0)) (first-agrees es (and-true (ordinary e) (ordinaryFirst es) o .1))
-
--- ---- namespaces
-
-module _ (list : List ℕ) (ctx : ℕ) (ty : Typing) where
-  -- a namespace over a block keeps its name, and its items are transformed
-  pub namespace-agrees : (h bh : Head) (name : Rec) (ks ops : Recs) (top : Bool) (n : ℕ) → h .mark ≡ mark "Ns" → bh .mark ≡ mark "Nb" →
-      transformModuleItem list ctx ty (rec h (cons name (cons (rec bh ks) ops))) top n
-      ≡ onValue (λ (items : Recs). one (rec (declared top h) (cons name (cons (rec bh items) ops)))) (transformModuleItems list ctx ty ks false n)
-  unfolding transformModuleItem itemBy transformModuleStmt declToTypeDecl bodyBy
-  namespace-agrees h bh name ks ops top n m b = rw (item-ns (h .mark) m, decl-ns (h .mark) m, body-nb (bh .mark) b)
-
-  pub exported-namespace-agrees : (eh h bh : Head) (name : Rec) (ks ops more : Recs) (top : Bool) (n : ℕ) → eh .mark ≡ mark "Ed" → h .mark ≡ mark "Ns" → bh .mark ≡ mark "Nb" →
-      transformModuleItem list ctx ty (rec eh (cons (rec h (cons name (cons (rec bh ks) ops))) more)) top n
-      ≡ onValue (λ (items : Recs). one (rec eh (cons (rec (declared top h) (cons name (cons (rec bh items) ops))) more))) (transformModuleItems list ctx ty ks false n)
-  unfolding transformModuleItem itemBy exportDecl declToTypeDecl bodyBy
-  exported-namespace-agrees eh h bh name ks ops more top n e m b = rw (item-ed (eh .mark) e, decl-ns (h .mark) m, body-nb (bh .mark) b)
-
-  -- it is what it is without dots
-  pub undotted-block : (h bh : Head) (name : Rec) (ks ops : Recs) → bh .mark ≡ mark "Nb" →
-      withoutDots (rec h (cons name (cons (rec bh ks) ops))) ≡ rec h (cons name (cons (rec bh ks) ops))
-  unfolding undotted
-  undotted-block h bh name ks ops b = rw (no-dot (bh .mark) b)
-
-  -- a dotted one loses the names behind its first
-  pub namespace-loses : (h nh : Head) (name inner b : Rec) (more ops : Recs) (top : Bool) (n : ℕ) → h .mark ≡ mark "Ns" → nh .mark ≡ mark "Nd" →
-      transformModuleItem list ctx ty (rec h (cons name (cons (rec nh (cons inner (cons b more))) ops))) top n
-      ≡ transformModuleItem list ctx ty (rec h (cons name (cons b ops))) top n
-  unfolding transformModuleItem itemBy transformModuleStmt declToTypeDecl bodyBy
-  namespace-loses h nh name inner b more ops top n m d = rw (item-ns (h .mark) m, decl-ns (h .mark) m, body-nd (nh .mark) d)

@@ -22,6 +22,7 @@ pub mod Handbook
 pub mod HandbookDeclarations
 pub mod HandbookOverloads
 pub mod HandbookEnums
+pub mod HandbookNamespaces
 pub mod SmallTrees
 pub mod Differences
 pub mod ObjectSpread

@@ -95,8 +95,6 @@ use Rattle.definition.specs.Items.{
   nsParts,
   nsBodyFirst,
   transformTsNsBody,
-  nestedSecond,
-  nestedFirst,
 }
 use Rattle.definition.proofs.Marked.{all-append, all-if, all-orAny, own, at-kid, exprToTsType-all}
 
@@ -347,12 +345,12 @@ module _ (P : Diag → Type 0) where
       itemBy-all iDefaultExpr h ks top ns export n a w p q = default-expr-all h ks n w
       itemBy-all iDecl h ks top ns export n a w p q = stmt-all h ks top ns n a w p (declKind (h .mark))
 
-      bodyBy-all : (k : Body) (h : Head) (ks : Recs) (items : ℕ → Out Recs) (nested : ℕ → Out Rec) (n : ℕ) → All P (items n .1) → All P (nested n .1) →
-          All P (bodyBy list ctx ty k h ks items nested n .1)
+      bodyBy-all : (k : Body) (h : Head) (ks : Recs) (items parts : ℕ → Out Recs) (n : ℕ) → All P (items n .1) → All P (parts n .1) →
+          All P (bodyBy list ctx ty k h ks items parts n .1)
       unfolding bodyBy
-      bodyBy-all bBlock h ks items nested n p q = p
-      bodyBy-all bNested h ks items nested n p q = q
-      bodyBy-all bOther h ks items nested n p q = tt
+      bodyBy-all bBlock h ks items parts n p q = p
+      bodyBy-all bNested h ks items parts n p q = q
+      bodyBy-all bOther h ks items parts n p q = tt
 
       mutual
         unfolding transformModuleItems Everywhere
@@ -381,15 +379,7 @@ module _ (P : Diag → Type 0) where
         body-first-all (cons b ops) n w = body-all b n (w .0)
 
         body-all : (b : Rec) (n : ℕ) → Everywhere P b → All P (transformTsNsBody list ctx ty b n .1)
-        body-all (rec h ks) n w = bodyBy-all (bodyKind (h .mark)) h ks _ _ n (items-all ks false n (w .2)) (nested-second-all ks n (w .2))
-
-        nested-second-all : (ks : Recs) (n : ℕ) → AllEverywhere P ks → All P (nestedSecond list ctx ty ks n .1)
-        nested-second-all nil n w = tt
-        nested-second-all (cons name rs) n w = nested-first-all rs n (w .1)
-
-        nested-first-all : (ks : Recs) (n : ℕ) → AllEverywhere P ks → All P (nestedFirst list ctx ty ks n .1)
-        nested-first-all nil n w = tt
-        nested-first-all (cons b ops) n w = body-all b n (w .0)
+        body-all (rec h ks) n w = bodyBy-all (bodyKind (h .mark)) h ks _ _ n (items-all ks false n (w .2)) (parts-all ks n (w .2))
 
 -- ---- the whole module
 

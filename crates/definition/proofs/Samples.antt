@@ -189,6 +189,19 @@ namespaces-out =
     (flags 1 (node "Ns" (two (leaf "Op" (text "N")) (node "Nb" (cons (var 2 (name "a" (keyword "any")) absent) (made-default "_dts_2" nil))))))
     (made-default "_dts_3" nil)))
 
+-- `namespace A.B.C { declare const a: any; }`: "Nd keeps its name and its body is transformed within it" (document 02, §2)
+abbrev dotted : ℕ → ℕ → Rec
+dotted f g =
+    module-of (one (flags f (node "Ns" (two (leaf "Op" (text "A")) (node "Nd" (two (leaf "Op" (text "B")) (node "Nd" (two
+    (leaf "Op" (text "C")) (node "Nb" (one (var g (name "a" (keyword "any")) absent)))))))))))
+
+-- the same with an export in the namespace, and a head and an Op of its own for the first Nd; the name that is made inside counts outside
+abbrev dotted-default : ℕ → Recs → Recs → Rec
+dotted-default f inner behind =
+    module-of (cons
+    (flags f (node "Ns" (two (leaf "Op" (text "A")) (at 10 60 (flags 255 (node "Nd" (three (leaf "Op" (text "B")) (node "Nb" inner) (leaf "Op" (text "x")))))))))
+    behind)
+
 -- `class A { a = [1] as const; }`: "Cp without type but with value: typed (off, off)", and `as const` turns both on
 abbrev number-one : Rec
 number-one = leaf "Nu" (0 ∷ 0 ∷ 0 ∷ 0 ∷ 0 ∷ 0 ∷ 240 ∷ 63 ∷ [])
@@ -227,6 +240,8 @@ samples =
     makes array-spread array-spread-out [] ∷
     makes inner-spread (module-of (two (inner-array 1) (var 3 (name "b" (keyword "any")) absent))) (diag "d4" 43 47 ∷ diag "d2" 0 0 ∷ []) ∷
     makes namespaces namespaces-out [] ∷
+    makes (dotted 0 3) (dotted 1 2) [] ∷
+    makes (dotted-default 0 (one default-one) (one default-one)) (dotted-default 1 (made-default "_dts_1" nil) (made-default "_dts_2" nil)) [] ∷
     accepted const-property const-property-out 224 0 [] ∷
     []
 

@@ -69,8 +69,6 @@ use Rattle.definition.specs.Items.{
   nsParts,
   nsBodyFirst,
   transformTsNsBody,
-  nestedSecond,
-  nestedFirst,
 }
 use Rattle.definition.specs.Transform.{transformBy}
 use Rattle.definition.specs.Demand3.{ExportsIds, AllExportIds, SpacesExportIds, AllSpacesExportIds}
@@ -106,7 +104,7 @@ flag1-twice : (top : Bool) (f : ℕ) → flag1 top (flag1 top f) ≡ flag1 top f
 flag1-twice true f = omega arith
 flag1-twice false f = omega arith
 
-declared-twice : (top : Bool) (h : Head) → declared top (declared top h) ≡ declared top h
+pub declared-twice : (top : Bool) (h : Head) → declared top (declared top h) ≡ declared top h
 declared-twice top h = ap (withFlags h) (flag1-twice top (h .flags))
 
 -- the overload list asks for the range only
@@ -391,18 +389,21 @@ module _ (ty₁ ty₂ : Typing) (there : Typed ty₁) where
     unfolding transformTsNsBody bodyBy
     other-fix h ks n′ e = rw e
 
-    absent-fix : (n′ : ℕ) → BodyFix absent n′
-    unfolding transformTsNsBody bodyBy bodyKind
-    absent-fix n′ = refl
+    abbrev PartsFix : Recs → ℕ → Type 0
+    PartsFix ks n′ = nsParts list ctx ty₂ ks n′ .0 ≡ ks
+
+    nested-fix : (h : Head) (ks : Recs) (n′ : ℕ) → bodyKind (h .mark) ≡ bNested → PartsFix ks n′ → BodyFix (rec h ks) n′
+    unfolding transformTsNsBody bodyBy
+    nested-fix h ks n′ e p = rw e (ap (rec h) p)
 
     body-fixBy : (k : Body) (h : Head) (ks : Recs) (n n′ : ℕ) → bodyKind (h .mark) ≡ k →
         (bodyKind (h .mark) ≡ bBlock → AllExportIds (transformModuleItems list ctx ty₁ ks false n .0) → ItemsFix false (transformModuleItems list ctx ty₁ ks false n .0) n′) →
-        (ExportsIds (nestedSecond list ctx ty₁ ks n .0) → BodyFix (nestedSecond list ctx ty₁ ks n .0) n′) →
-        let made : Rec = bodyBy list ctx ty₁ k h ks (λ n. transformModuleItems list ctx ty₁ ks false n) (λ n. nestedSecond list ctx ty₁ ks n) n .0 in
+        (AllExportIds (nsParts list ctx ty₁ ks n .0) → PartsFix (nsParts list ctx ty₁ ks n .0) n′) →
+        let made : Rec = bodyBy list ctx ty₁ k h ks (λ n. transformModuleItems list ctx ty₁ ks false n) (λ n. nsParts list ctx ty₁ ks n) n .0 in
         ExportsIds made → BodyFix made n′
     unfolding bodyBy
     body-fixBy bBlock h ks n n′ e p q xs = block-fix h (transformModuleItems list ctx ty₁ ks false n .0) n′ e (p e (xs .1))
-    body-fixBy bNested h ks n n′ e p q xs = q xs
+    body-fixBy bNested h ks n n′ e p q xs = nested-fix h (nsParts list ctx ty₁ ks n .0) n′ e (q (xs .1))
     body-fixBy bOther h ks n n′ e p q xs = other-fix h ks n′ e
 
     -- ---- all of it
@@ -435,8 +436,7 @@ module _ (ty₁ ty₂ : Typing) (there : Typed ty₁) where
       exportedDecl-fix (rec dh ks) h ops top n n′ sp e xs =
           export-fix (declKind (dh .mark)) h dh ks ops top n n′ e refl (λ x. parts-fix ks n n′ (sp .1) x) xs
 
-      parts-fix : (rs : Recs) (n n′ : ℕ) → AllSpacesExportIds rs → AllExportIds (nsParts list ctx ty₁ rs n .0) →
-          nsParts list ctx ty₂ (nsParts list ctx ty₁ rs n .0) n′ .0 ≡ nsParts list ctx ty₁ rs n .0
+      parts-fix : (rs : Recs) (n n′ : ℕ) → AllSpacesExportIds rs → AllExportIds (nsParts list ctx ty₁ rs n .0) → PartsFix (nsParts list ctx ty₁ rs n .0) n′
       parts-fix nil n n′ sp xs = refl
       parts-fix (cons name rs) n n′ sp xs = ap (cons name) (bodyFirst-fix rs n n′ (sp .1) (xs .1))
 
@@ -448,15 +448,7 @@ module _ (ty₁ ty₂ : Typing) (there : Typed ty₁) where
       body-fix : (r : Rec) (n n′ : ℕ) → SpacesExportIds r → ExportsIds (transformTsNsBody list ctx ty₁ r n .0) → BodyFix (transformTsNsBody list ctx ty₁ r n .0) n′
       body-fix (rec h ks) n n′ sp xs =
           body-fixBy (bodyKind (h .mark)) h ks n n′ refl
-          (λ e x. items-fix ks false n n′ (sp .1) (λ t. sp .0 (nb-mark (h .mark) e)) x) (λ x. nestedSecond-fix ks n n′ (sp .1) x) xs
-
-      nestedSecond-fix : (rs : Recs) (n n′ : ℕ) → AllSpacesExportIds rs → ExportsIds (nestedSecond list ctx ty₁ rs n .0) → BodyFix (nestedSecond list ctx ty₁ rs n .0) n′
-      nestedSecond-fix nil n n′ sp xs = absent-fix n′
-      nestedSecond-fix (cons name rs) n n′ sp xs = nestedFirst-fix rs n n′ (sp .1) xs
-
-      nestedFirst-fix : (rs : Recs) (n n′ : ℕ) → AllSpacesExportIds rs → ExportsIds (nestedFirst list ctx ty₁ rs n .0) → BodyFix (nestedFirst list ctx ty₁ rs n .0) n′
-      nestedFirst-fix nil n n′ sp xs = absent-fix n′
-      nestedFirst-fix (cons b ops) n n′ sp xs = body-fix b n n′ (sp .0) xs
+          (λ e x. items-fix ks false n n′ (sp .1) (λ t. sp .0 (nb-mark (h .mark) e)) x) (λ x. parts-fix ks n n′ (sp .1) x) xs
 
     -- demand 3 on trees, for any two typings
     pub twice : (r : Rec) → SpacesExportIds r → ExportsIds (transformBy list ctx ty₁ r .0) →

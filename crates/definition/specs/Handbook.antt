@@ -12,7 +12,7 @@ use lib.Dec.{eqb}
 use lib.ListN.{drop}
 use Rattle.definition.specs.Tree.{Head, Rec, Recs, rec, nil, cons, le4}
 use Rattle.definition.specs.Grammar.{mark}
-use Rattle.definition.specs.Record.{text, sameText, headOf, kidsOf, markOf, textOf, is, among, isNo, absent, fresh, ranged, withText, has1, kid, one, given, present, listed}
+use Rattle.definition.specs.Record.{text, sameText, headOf, kidsOf, markOf, textOf, is, among, isNo, absent, fresh, ranged, withText, flag1, has1, kid, one, given, present, listed}
 
 -- ---- types, as records
 
@@ -338,19 +338,45 @@ unfoldable mutual
 
 -- ---- "Namespaces"
 
--- "You can also create nested namespaces in one declaration": `namespace A.B { .. }` is `namespace A { export namespace B { .. } }`
-unfoldable mutual
-  pub undotted : Rec → Rec
-  undotted (rec h ks) = cond (eqb (h .mark) (mark "Nd")) (rec (ranged "Nb" h []) (one (rec (ranged "Ed" h []) (one (rec (ranged "Ns" h []) (undottedSecond ks)))))) (rec h ks)
+-- "You can also create nested namespaces in one declaration": `namespace A.B { .. }` is `namespace A { export namespace B { .. } }`. In place of an Nd
+-- at h: a block with an exported namespace, which has the head of the Nd but for the mark and declare (inside a namespace there is none)
+abbrev pub spaceHead : Head → Head
+spaceHead h = record { mark = mark "Ns"; flags = flag1 false (h .flags); start = h .start; end = h .end; text = h .text }
 
-  pub undottedSecond : Recs → Recs
-  undottedSecond nil = nil
-  undottedSecond (cons name rs) = cons name (undottedFirst rs)
+abbrev pub spaceWithin : Head → Recs → Rec
+spaceWithin h ks = rec (ranged "Nb" h []) (one (rec (ranged "Ed" h []) (one (rec (spaceHead h) ks))))
+
+unfoldable mutual
+  -- the items of a Mo or an Nb, and one of them
+  pub undottedItems : Recs → Recs
+  undottedItems nil = nil
+  undottedItems (cons r rs) = cons (undottedItem r) (undottedItems rs)
+
+  pub undottedItem : Rec → Rec
+  undottedItem (rec h ks) =
+      cond (eqb (h .mark) (mark "Ns")) (rec h (undottedParts ks)) (cond (eqb (h .mark) (mark "Ed")) (rec h (undottedExported ks)) (rec h ks))
+
+  -- the children of an Ed: a declaration, then Ops
+  pub undottedExported : Recs → Recs
+  undottedExported nil = nil
+  undottedExported (cons d ops) = cons (undottedDecl d) ops
+
+  pub undottedDecl : Rec → Rec
+  undottedDecl (rec h ks) = cond (eqb (h .mark) (mark "Ns")) (rec h (undottedParts ks)) (rec h ks)
+
+  -- the children of an Ns or an Nd: its name, its body, Ops
+  pub undottedParts : Recs → Recs
+  undottedParts nil = nil
+  undottedParts (cons name rs) = cons name (undottedFirst rs)
 
   pub undottedFirst : Recs → Recs
   undottedFirst nil = nil
-  undottedFirst (cons b ops) = cons (undotted b) ops
+  undottedFirst (cons b ops) = cons (undottedBody b) ops
 
--- a namespace without dots in its name
+  pub undottedBody : Rec → Rec
+  undottedBody (rec h ks) =
+      cond (eqb (h .mark) (mark "Nb")) (rec h (undottedItems ks)) (cond (eqb (h .mark) (mark "Nd")) (spaceWithin h (undottedParts ks)) (rec h ks))
+
+-- a module without dots in the names of its namespaces
 abbrev pub withoutDots : Rec → Rec
-withoutDots r = rec (headOf r) (undottedSecond (kidsOf r))
+withoutDots r = rec (headOf r) (undottedItems (kidsOf r))

@@ -161,11 +161,12 @@ module _ (list : List ℕ) (ctx : ℕ) (ty : Typing) where
   itemBy iDefaultExpr h ks top ns export n = exportDefaultExpr h ks n
   itemBy iDecl h ks top ns export n = transformModuleStmt (declKind (h .mark)) h ks top ns n
 
-  -- the body of a namespace: `items` transforms those of an Nb, `nested` what stands below an Nd. "Nd is replaced by its innermost Nb"
-  unfoldable pub bodyBy : Body → Head → Recs → (ℕ → Out Recs) → (ℕ → Out Rec) → ℕ → Out Rec
-  bodyBy bBlock h ks items nested n = wrap h (items n)
-  bodyBy bNested h ks items nested n = nested n
-  bodyBy bOther h ks items nested n = pure (rec h ks) n
+  -- the body of a namespace: `items` transforms the children of an Nb, `parts` those of an Nd. "Nd keeps its name and its body is transformed
+  -- within it" (document 02, §2; the Rust puts its innermost Nb in its place)
+  unfoldable pub bodyBy : Body → Head → Recs → (ℕ → Out Recs) → (ℕ → Out Recs) → ℕ → Out Rec
+  bodyBy bBlock h ks items parts n = wrap h (items n)
+  bodyBy bNested h ks items parts n = wrap h (parts n)
+  bodyBy bOther h ks items parts n = pure (rec h ks) n
 
   -- `top` is is_top_level
   unfoldable mutual
@@ -188,7 +189,7 @@ module _ (list : List ℕ) (ctx : ℕ) (ty : Typing) where
     pub exportedDecl : Rec → Head → Recs → Bool → ℕ → Out Recs
     exportedDecl (rec dh ks) h ops top n = exportDecl (declKind (dh .mark)) h dh ks ops top (λ n. nsParts ks n) n
 
-    -- the children of an Ns: its name, its body, Ops
+    -- the children of an Ns or an Nd: its name, its body, Ops
     pub nsParts : Recs → ℕ → Out Recs
     nsParts nil n = pure nil n
     nsParts (cons name rs) n = onValue (cons name) (nsBodyFirst rs n)
@@ -199,13 +200,4 @@ module _ (list : List ℕ) (ctx : ℕ) (ty : Typing) where
 
     pub transformTsNsBody : Rec → ℕ → Out Rec
     transformTsNsBody (rec h ks) n =
-        bodyBy (bodyKind (h .mark)) h ks (λ n. transformModuleItems ks false n) (λ n. nestedSecond ks n) n
-
-    -- the children of an Nd: its name, its body
-    pub nestedSecond : Recs → ℕ → Out Rec
-    nestedSecond nil n = pure absent n
-    nestedSecond (cons name rs) n = nestedFirst rs n
-
-    pub nestedFirst : Recs → ℕ → Out Rec
-    nestedFirst nil n = pure absent n
-    nestedFirst (cons b ops) n = transformTsNsBody b n
+        bodyBy (bodyKind (h .mark)) h ks (λ n. transformModuleItems ks false n) (λ n. nsParts ks n) n

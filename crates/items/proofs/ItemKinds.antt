@@ -29,7 +29,7 @@ use Rattle.typing.specs.Did.{Ready}
 use Rattle.typing.specs.Below.{MakesCounted}
 use Rattle.parts.specs.Makes.{Keeps}
 use Rattle.typing.proofs.Whole.{gives-as}
-use Rattle.parts.proofs.Kids.{One, Two, kids-one, kids-two}
+use Rattle.parts.proofs.Kids.{One, kids-one}
 use Rattle.parts.proofs.Makes.{makes-keeps, gives-one}
 use Rattle.classes.specs.Typings.{ReadyAll}
 use Rattle.items.specs.Steps.{itemOf}
@@ -39,9 +39,6 @@ use Rattle.items.specs.Steps.{itemOf}
 module _ (levels : ℕ) (s : List ℕ) (at : ℕ) (a : AcceptedAt levels s at) where
   pub ed-kids : markAt s at ≡ mark "Ed" → {p0 p1 : ℕ} → p0 ≡ bodyAt s at → p1 ≡ endAt (levels - 1) s p0 → One levels s at p0 p1
   ed-kids m e f = kids-one levels s at a (has (mark "Ed") levels s at a m) e f
-
-  pub nd-kids : markAt s at ≡ mark "Nd" → {p0 p1 p2 : ℕ} → p0 ≡ bodyAt s at → p1 ≡ endAt (levels - 1) s p0 → p2 ≡ endAt (levels - 1) s p1 → Two levels s at p0 p1 p2
-  nd-kids m e f g = kids-two levels s at a (has (mark "Nd") levels s at a m) e f g
 
 -- a count fits
 pub count-small : (s : List ℕ) (at : ℕ) → ((i : ℕ) → mir.Val.Fits w8 (getD s i 0)) → {h : Fields} → h ≡ fieldsAt s at → h .count < 65536

@@ -9,10 +9,10 @@ use lib.ListN.{length, getD}
 use Rattle.definition.specs.Tree.{Head, Rec, Recs, rec, headSize, markAt, lengthAt, countAt, bodyAt, headAt, treeAt}
 use Rattle.definition.specs.Grammar.{mark, known}
 use Rattle.definition.specs.Children.{AcceptedAt}
-use Rattle.definition.specs.Record.{headOf, kidsOf, markOf, is, withFlags, Out, pure, wrap, atKid}
-use Rattle.definition.specs.Items.{Body, bBlock, bNested, bOther, bodyKind, bodyBy, nsParts, transformTsNsBody, nestedSecond}
+use Rattle.definition.specs.Record.{headOf, kidsOf, markOf, withFlags, Out, pure, wrap, atKid}
+use Rattle.definition.specs.Items.{Body, bBlock, bNested, bOther, bodyKind, bodyBy, nsParts, transformTsNsBody}
 use Rattle.definition.proofs.Children.{tree-is}
-use Rattle.definition.proofs.Kids.{mark-is, text-length}
+use Rattle.definition.proofs.Kids.{mark-is, flags-is, text-length}
 use Rattle.records.specs.declared.Head.{Head as Fields}
 use Rattle.records.specs.Fields.{fieldsAt}
 use Rattle.records.specs.Wrote.{sat}
@@ -27,7 +27,6 @@ use Rattle.parts.specs.Frame.{leftOf, nextOf, Begun, Passed, Kept}
 use Rattle.parts.specs.Makes.{frontBytes, KeepsAll, Makes, MakesAll}
 use Rattle.parts.proofs.Kept.{head-short}
 use Rattle.parts.proofs.Framing.{two-kids, makes-second}
-use Rattle.parts.proofs.Kids.{Two}
 use Rattle.parts.proofs.Makes.{makes-as, makes-front-last}
 use Rattle.classes.specs.Typings.{typingOf}
 use Rattle.items.specs.Steps.{recordsAt, withBody, itemsOf, bodyOf}
@@ -37,24 +36,24 @@ use Rattle.items.proofs.ItemKinds.{kind-block, kind-nested, kind-other}
 -- ---- the body of a namespace
 
 body-rec : (list tree : List ℕ) (scope : Scope) (r : Rec) (n : ℕ)
-    → bodyBy list (scope .unresolved) (typingOf tree scope) (bodyKind (markOf r)) (headOf r) (kidsOf r) (λ n. itemsOf list tree scope false (kidsOf r) n) (λ n. nestedSecond list (scope .unresolved) (typingOf tree scope) (kidsOf r) n) n
+    → bodyBy list (scope .unresolved) (typingOf tree scope) (bodyKind (markOf r)) (headOf r) (kidsOf r) (λ n. itemsOf list tree scope false (kidsOf r) n) (λ n. nsParts list (scope .unresolved) (typingOf tree scope) (kidsOf r) n) n
     ≡ bodyOf list tree scope r n
 unfolding transformTsNsBody
 body-rec list tree scope (rec h ks) n = refl
 
 module _ (list tree : List ℕ) (scope : Scope) (r : Rec) (n : ℕ) where
   body-by : (k : Body) → bodyKind (markOf r) ≡ k
-      → bodyBy list (scope .unresolved) (typingOf tree scope) k (headOf r) (kidsOf r) (λ n. itemsOf list tree scope false (kidsOf r) n) (λ n. nestedSecond list (scope .unresolved) (typingOf tree scope) (kidsOf r) n) n
+      → bodyBy list (scope .unresolved) (typingOf tree scope) k (headOf r) (kidsOf r) (λ n. itemsOf list tree scope false (kidsOf r) n) (λ n. nsParts list (scope .unresolved) (typingOf tree scope) (kidsOf r) n) n
       ≡ bodyOf list tree scope r n
   body-by k e =
-      ap (λ (k : Body). bodyBy list (scope .unresolved) (typingOf tree scope) k (headOf r) (kidsOf r) (λ n. itemsOf list tree scope false (kidsOf r) n) (λ n. nestedSecond list (scope .unresolved) (typingOf tree scope) (kidsOf r) n) n)
+      ap (λ (k : Body). bodyBy list (scope .unresolved) (typingOf tree scope) k (headOf r) (kidsOf r) (λ n. itemsOf list tree scope false (kidsOf r) n) (λ n. nsParts list (scope .unresolved) (typingOf tree scope) (kidsOf r) n) n)
       (sym e) ∙ body-rec list tree scope r n
 
   body-block : markOf r ≡ mark "Nb" → wrap (headOf r) (itemsOf list tree scope false (kidsOf r) n) ≡ bodyOf list tree scope r n
   unfolding bodyBy
   body-block m = body-by bBlock (kind-block (markOf r) m)
 
-  body-nested : markOf r ≡ mark "Nd" → nestedSecond list (scope .unresolved) (typingOf tree scope) (kidsOf r) n ≡ bodyOf list tree scope r n
+  body-nested : markOf r ≡ mark "Nd" → wrap (headOf r) (nsParts list (scope .unresolved) (typingOf tree scope) (kidsOf r) n) ≡ bodyOf list tree scope r n
   unfolding bodyBy
   body-nested m = body-by bNested (kind-nested (markOf r) m)
 
@@ -62,15 +61,14 @@ module _ (list tree : List ℕ) (scope : Scope) (r : Rec) (n : ℕ) where
   unfolding bodyBy
   body-other a b = ap (λ (r : Rec). pure r n) (sym (whole r)) ∙ body-by bOther (kind-other (markOf r) a b)
 
-module _ (list tree : List ℕ) (scope : Scope) (levels at : ℕ) {p0 p1 p2 : ℕ} (u : Two levels tree at p0 p1 p2) (n : ℕ) where
-  -- "Nd is replaced by its innermost Nb"
-  pub nested-is : markAt tree at ≡ mark "Nd" → bodyOf list tree scope (treeAt (levels - 1) tree p1) n ≡ bodyOf list tree scope (treeAt levels tree at) n
-  unfolding nestedSecond
-  nested-is m =
-      ap (λ (r : Rec). nestedSecond list (scope .unresolved) (typingOf tree scope) (kidsOf r) n) (sym (u .is))
-      ∙ body-nested list tree scope (treeAt levels tree at) n (mark-is levels tree at ∙ m)
+-- an Nd: the flags that were read are its own
+pub nested-is : (list tree : List ℕ) (scope : Scope) (levels at n : ℕ) {h : Fields} → h ≡ fieldsAt tree at → markAt tree at ≡ mark "Nd"
+    → withBody list tree scope (h .flags) (treeAt levels tree at) n ≡ bodyOf list tree scope (treeAt levels tree at) n
+nested-is list tree scope levels at n e m =
+    ap (λ (f : ℕ). withBody list tree scope f (treeAt levels tree at) n) (ap (λ (x : Fields). x .flags) e ∙ sym (flags-is levels tree at))
+    ∙ body-nested list tree scope (treeAt levels tree at) n (mark-is levels tree at ∙ m)
 
--- the children of an Ns
+-- the children of an Ns or an Nd
 pub body-made : (list tree : List ℕ) (scope : Scope) (flags : ℕ) {levels at : ℕ} {o o1 o2 o3 o4 g g' : List ℕ} {s s2 s' : State} {f f1 f2 : Frame} → Begun levels tree at (withFlags (headOf (treeAt levels tree at)) flags) o o1 s f
     → Kept tree o1 o2 f f1 (nextOf tree f) → Passed tree f1 s2 f2 → Makes o2 o3 g g' (f1 .s) s2 (bodyOf list tree scope (nextOf tree f1) (f1 .s .counter)) → KeepsAll o3 o4 (f2 .s) s' (leftOf tree f2)
     → Makes o o4 g g' s s' (withBody list tree scope flags (treeAt levels tree at) (s .counter))

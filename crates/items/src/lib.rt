@@ -4,7 +4,7 @@ ghost use mathlib.Core.Bool.{_&&_};
 ghost use Prim.Native.Nat.{_+_, _≤_, _<_};
 ghost use lib.Dec.{eqb};
 ghost use lib.ListN.{length};
-ghost use Rattle.definition.specs.Tree.{headSize, markAt, headAt, treeAt};
+ghost use Rattle.definition.specs.Tree.{headSize, markAt, countAt, headAt, treeAt};
 ghost use Rattle.definition.specs.Grammar.{mark};
 ghost use Rattle.definition.specs.Children.{AcceptedAt};
 ghost use Rattle.definition.specs.Record.{listed};
@@ -338,7 +338,7 @@ fn decl_to_type_decl(
     }
 }
 
-// An Ns: its body is the second child.
+// An Ns or an Nd: its body is the second child.
 fn with_body(
     tree: &[u8],
     at: usize,
@@ -351,7 +351,7 @@ fn with_body(
     diagnostics: &mut [u8],
     s: State,
 ) -> State
-    requires { ⌜ Ready levels (now tree) at (s .counter) (now index) × (markAt (now tree) at ≡ mark "Ns") ⌝ }
+    requires { ⌜ Ready levels (now tree) at (s .counter) (now index) × (2 ≤ countAt (now tree) at) ⌝ }
     ensures { λ r. ⌜
         Makes (now (out .entry)) (now (out .exit)) (now (diagnostics .entry)) (now (diagnostics .exit)) s r
         (withBody (now (list .entry)) (now (tree .entry)) scope flags (treeAt levels (now (tree .entry)) at) (s .counter))
@@ -373,7 +373,7 @@ fn with_body(
     finish(tree, passed(tree, body, next), out)
 }
 
-// `transform_ts_ns_body`: "Nd is replaced by its innermost Nb".
+// `transform_ts_ns_body`; "Nd keeps its name and its body is transformed within it" (document 02, §2), where the Rust has its innermost Nb.
 fn transform_ts_ns_body(
     tree: &[u8],
     at: usize,
@@ -394,12 +394,12 @@ fn transform_ts_ns_body(
     match mark_at(tree, at) {
         NB => ns_block(tree, at, levels, index, scope, list, out, diagnostics, s),
         ND => {
-            let name = body_at(tree, at);
-            let body = record_end(tree, name, levels - 1);
-            transform_ts_ns_body(
+            let head = read_head(tree, at);
+            with_body(
                 tree,
-                body,
-                levels - 1,
+                at,
+                levels,
+                head.flags,
                 index,
                 scope,
                 list,

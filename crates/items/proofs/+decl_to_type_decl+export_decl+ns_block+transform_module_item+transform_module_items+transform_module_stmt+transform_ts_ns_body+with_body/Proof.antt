@@ -45,5 +45,5 @@ pub +decl-to-type-decl+export-decl+ns-block+transform-module-item+transform-modu
     (λ t. transform-module-item-lts.spec (transform-module-item-m.calls t) (transform-module-item-at t) transform-module-item.Post (transform-module-item-m.mark-at-requires t) (transform-module-item-m.kept-requires t) (transform-module-item-m.export-decl-requires t) (transform-module-item-m.export-default-decl-requires t) (transform-module-item-m.export-default-expr-requires t) (transform-module-item-m.transform-module-stmt-requires t) (transform-module-item-m.same-length t) (transform-module-item-m.returns t) (transform-module-item-m.returns-2 t) (transform-module-item-m.same-length-2 t) (transform-module-item-m.same-length-3 t) (transform-module-item-m.returns-3 t) (transform-module-item-m.same-length-4 t) (transform-module-item-m.same-length-5 t) (transform-module-item-m.returns-4 t) (transform-module-item-m.same-length-6 t) (transform-module-item-m.same-length-7 t) (transform-module-item-m.returns-5 t) (transform-module-item-m.same-length-8 t) (transform-module-item-m.same-length-9 t) (transform-module-item-m.returns-6 t))
     (λ t. transform-module-items-lts.spec (transform-module-items-m.calls t) (transform-module-items-at t) transform-module-items.Post transform-module-items-m.Inv-loop transform-module-items-m.μ-loop (transform-module-items-m.loop-holds t) (transform-module-items-m.transform-module-item-requires t) (transform-module-items-m.add-count t) (transform-module-items-m.next-at-requires t) (transform-module-items-m.sub-k t) (transform-module-items-m.loop-less t) (transform-module-items-m.loop-again t) (transform-module-items-m.same-length t) (transform-module-items-m.same-length-2 t) (transform-module-items-m.returns t))
     (λ t. transform-module-stmt-lts.spec (transform-module-stmt-m.calls t) (transform-module-stmt-at t) transform-module-stmt.Post (transform-module-stmt-m.is-overloaded-requires t) (transform-module-stmt-m.returns t) (transform-module-stmt-m.mark-at-requires t) (transform-module-stmt-m.decl-to-type-decl-requires t) (transform-module-stmt-m.enum-known-next t) (transform-module-stmt-m.enum-known-failed t) (transform-module-stmt-m.skipped-requires t) (transform-module-stmt-m.kept-requires t) (transform-module-stmt-m.same-length t) (transform-module-stmt-m.same-length-2 t) (transform-module-stmt-m.returns-2 t) (transform-module-stmt-m.same-length-3 t) (transform-module-stmt-m.same-length-4 t) (transform-module-stmt-m.returns-3 t) (transform-module-stmt-m.same-length-5 t) (transform-module-stmt-m.returns-4 t))
-    (λ t. transform-ts-ns-body-lts.spec (transform-ts-ns-body-m.calls t) (transform-ts-ns-body-at t) transform-ts-ns-body.Post (transform-ts-ns-body-m.mark-at-requires t) (transform-ts-ns-body-m.ns-block-requires t) (transform-ts-ns-body-m.body-at-requires t) (transform-ts-ns-body-m.sub-record-end t) (transform-ts-ns-body-m.record-end-requires t) (transform-ts-ns-body-m.sub-transform-ts-ns-body t) (transform-ts-ns-body-m.transform-ts-ns-body-requires t) (transform-ts-ns-body-m.keep-requires t) (transform-ts-ns-body-m.same-length t) (transform-ts-ns-body-m.same-length-2 t) (transform-ts-ns-body-m.returns t) (transform-ts-ns-body-m.same-length-3 t) (transform-ts-ns-body-m.same-length-4 t) (transform-ts-ns-body-m.returns-2 t) (transform-ts-ns-body-m.same-length-5 t) (transform-ts-ns-body-m.returns-3 t))
+    (λ t. transform-ts-ns-body-lts.spec (transform-ts-ns-body-m.calls t) (transform-ts-ns-body-at t) transform-ts-ns-body.Post (transform-ts-ns-body-m.mark-at-requires t) (transform-ts-ns-body-m.ns-block-requires t) (transform-ts-ns-body-m.read-head-requires t) (transform-ts-ns-body-m.with-body-requires t) (transform-ts-ns-body-m.keep-requires t) (transform-ts-ns-body-m.same-length t) (transform-ts-ns-body-m.same-length-2 t) (transform-ts-ns-body-m.returns t) (transform-ts-ns-body-m.same-length-3 t) (transform-ts-ns-body-m.same-length-4 t) (transform-ts-ns-body-m.returns-2 t) (transform-ts-ns-body-m.same-length-5 t) (transform-ts-ns-body-m.returns-3 t))
     λ t. with-body-lts.spec (with-body-m.calls t) (with-body-at t) with-body.Post (with-body-m.begin-with-requires t) (with-body-m.keep-next-requires t) (with-body-m.transform-ts-ns-body-requires t) (with-body-m.passed-requires t) (with-body-m.finish-requires t) (with-body-m.same-length t) (with-body-m.same-length-2 t) (with-body-m.returns t)

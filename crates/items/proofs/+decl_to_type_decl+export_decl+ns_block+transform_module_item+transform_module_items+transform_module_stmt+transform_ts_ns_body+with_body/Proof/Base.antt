@@ -41,7 +41,7 @@ abbrev pub μ-transform-ts-ns-body : Measures 5 transform-ts-ns-body-kinds.ps �
 μ-transform-ts-ns-body κs a = 6 * (a .1 .1 .0) + 1
 
 abbrev pub μ-with-body : Measures 5 with-body-kinds.ps ℕ
-μ-with-body κs a = 6 * (a .1 .1 .0) + 1
+μ-with-body κs a = 6 * (a .1 .1 .0) + 0
 
 abbrev pub decl-to-type-decl-at : ℕ → In 5 decl-to-type-decl-kinds.ps
 decl-to-type-decl-at t = and 5 decl-to-type-decl-kinds.ps (is 5 decl-to-type-decl-kinds.ps μ-decl-to-type-decl t) decl-to-type-decl.Pre

@@ -5,7 +5,9 @@ use mathlib.Core.Path.{_∙_}
 use mathlib.Core.Logic.{inl}
 use native.Mathlib.Omega.{arith}
 use Rattle.definition.specs.Tree.{treeAt}
+use Rattle.definition.specs.Grammar.{mark}
 use Rattle.definition.proofs.Children.{itself}
+use Rattle.definition.proofs.Kids.{has}
 use Rattle.items.proofs.Inits.{told, told-not}
 use Rattle.items.proofs.ItemKinds.{mark-of}
 use Rattle.items.proofs.Statements.{flags-made, did-made, did-kept, did-marked, members-silent, decl-class, decl-fn, decl-var, decl-enum, decl-module, decl-using, decl-type}
@@ -48,7 +50,7 @@ pub with-members-requires : (t : ℕ) → decl-to-type-decl-lts.Need-with-member
 with-members-requires t c κs = c .before .before .before .before .before .before .before .before .before .before .pre .1 .accepted
 
 pub with-body-requires : (t : ℕ) → decl-to-type-decl-lts.Need-with-body-requires (calls t) (decl-to-type-decl-at t) decl-to-type-decl.Post
-with-body-requires t c κs = (omega (arith, c .before .before .before .before .before .before .before .before .before .before .before .pre .0), (c .before .before .before .before .before .before .before .before .before .before .before .pre .1, told (c .before .before .before .mark-at .ensures .0) (c .before .before .match .keys5)))
+with-body-requires t c κs = (omega (arith, c .before .before .before .before .before .before .before .before .before .before .before .pre .0), (c .before .before .before .before .before .before .before .before .before .before .before .pre .1, has (mark "Ns") _ _ _ (c .before .before .before .before .before .before .before .before .before .before .before .pre .1 .accepted) (told (c .before .before .before .mark-at .ensures .0) (c .before .before .match .keys5))))
 
 pub mark-diagnostic-requires : (t : ℕ) → decl-to-type-decl-lts.Need-mark-diagnostic-requires (calls t) (decl-to-type-decl-at t) decl-to-type-decl.Post
 mark-diagnostic-requires t c κs = itself _ _ _ (c .before .before .before .before .before .before .before .before .before .before .pre .1 .accepted) .room

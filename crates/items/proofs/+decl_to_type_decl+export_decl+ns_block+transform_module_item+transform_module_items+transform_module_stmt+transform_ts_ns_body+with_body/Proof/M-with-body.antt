@@ -1,9 +1,7 @@
 -- `with_body`, a member of the cycle, meets its contract.
 use Prim.Native.Nat.{ℕ}
 use native.Mathlib.Omega.{arith}
-use Rattle.definition.specs.Grammar.{mark}
 use Rattle.definition.proofs.Children.{some-left}
-use Rattle.definition.proofs.Kids.{has}
 use Rattle.parts.proofs.Framing.{ready-second}
 use Rattle.items.proofs.Namespaces.{body-made}
 use Rattle.items.proofs.with_body.Reads as with-body
@@ -22,13 +20,13 @@ pub begin-with-requires : (t : ℕ) → with-body-lts.Need-begin-with-requires (
 begin-with-requires t c κs = c .before .before .before .before .before .before .pre .1 .0 .accepted
 
 pub keep-next-requires : (t : ℕ) → with-body-lts.Need-keep-next-requires (calls t) (with-body-at t) with-body.Post
-keep-next-requires t c κs = record { left = c .before .before .before .begin-with .ensures .left; more = omega (arith, has (mark "Ns") _ _ _ (c .before .before .before .before .before .before .before .before .before .before .pre .1 .0 .accepted) (c .before .before .before .before .before .before .before .before .before .before .pre .1 .1)) }
+keep-next-requires t c κs = record { left = c .before .before .before .begin-with .ensures .left; more = omega (arith, c .before .before .before .before .before .before .before .before .before .before .pre .1 .1) }
 
 pub transform-ts-ns-body-requires : (t : ℕ) → with-body-lts.Need-transform-ts-ns-body-requires (calls t) (with-body-at t) with-body.Post
-transform-ts-ns-body-requires t c κs = (omega (arith, some-left _ _ _ (c .before .before .before .before .before .before .before .before .before .before .before .before .before .before .before .pre .1 .0 .accepted), c .before .before .before .before .before .before .before .before .before .before .before .before .before .before .before .pre .0, c .before .before .before .before .before .before .before .before .begin-with .ensures .deep, c .before .before .before .before .keep-next .ensures .passed .deep), ready-second (c .before .before .before .before .before .before .before .before .begin-with .ensures) (c .before .before .before .before .before .before .before .before .before .before .before .before .before .before .before .pre .1 .0) (c .before .before .before .before .keep-next .ensures) (omega (arith, has (mark "Ns") _ _ _ (c .before .before .before .before .before .before .before .before .before .before .before .before .before .before .before .pre .1 .0 .accepted) (c .before .before .before .before .before .before .before .before .before .before .before .before .before .before .before .pre .1 .1))))
+transform-ts-ns-body-requires t c κs = (omega (arith, some-left _ _ _ (c .before .before .before .before .before .before .before .before .before .before .before .before .before .before .before .pre .1 .0 .accepted), c .before .before .before .before .before .before .before .before .before .before .before .before .before .before .before .pre .0, c .before .before .before .before .before .before .before .before .begin-with .ensures .deep, c .before .before .before .before .keep-next .ensures .passed .deep), ready-second (c .before .before .before .before .before .before .before .before .begin-with .ensures) (c .before .before .before .before .before .before .before .before .before .before .before .before .before .before .before .pre .1 .0) (c .before .before .before .before .keep-next .ensures) (omega (arith, c .before .before .before .before .before .before .before .before .before .before .before .before .before .before .before .pre .1 .1)))
 
 pub passed-requires : (t : ℕ) → with-body-lts.Need-passed-requires (calls t) (with-body-at t) with-body.Post
-passed-requires t c κs = record { left = c .before .before .before .before .before .before .before .before .before .keep-next .ensures .passed .left; more = omega (arith, has (mark "Ns") _ _ _ (c .before .before .before .before .before .before .before .before .before .before .before .before .before .before .before .before .before .before .before .before .pre .1 .0 .accepted) (c .before .before .before .before .before .before .before .before .before .before .before .before .before .before .before .before .before .before .before .before .pre .1 .1)) }
+passed-requires t c κs = record { left = c .before .before .before .before .before .before .before .before .before .keep-next .ensures .passed .left; more = omega (arith, c .before .before .before .before .before .before .before .before .before .before .before .before .before .before .before .before .before .before .before .before .pre .1 .1) }
 
 pub finish-requires : (t : ℕ) → with-body-lts.Need-finish-requires (calls t) (with-body-at t) with-body.Post
 finish-requires t c κs = c .before .passed .ensures .left
