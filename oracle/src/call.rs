@@ -1,4 +1,5 @@
-//! The exported call: document 01's ten refusals around the unchanged Rust.
+//! The exported call: document 01's ten refusals around the unchanged Rust,
+//! which gets trees without their chains of `Nd` (document 02's §2).
 
 use deno_ast::ModuleSpecifier;
 use deno_ast::SourceRange;
@@ -8,6 +9,7 @@ use deno_ast::swc::ast::Program;
 use deno_ast::swc::common::SyntaxContext;
 
 use crate::decode;
+use crate::dotted;
 use crate::encode;
 use crate::fast_check::range_finder::ModulePublicRanges;
 use crate::fast_check::transform_dts::FastCheckDtsDiagnostic;
@@ -52,8 +54,21 @@ impl Diagnostic {
   }
 }
 
-/// The unchanged Rust on an accepted tree.
+/// The transform of an accepted tree: the unchanged Rust on the tree without
+/// its chains of `Nd`, and these put back around the bodies in its answer.
 pub fn transform(
+  tree: &Rec,
+  list: &[u8],
+  unresolved: u32,
+) -> (Rec, Vec<Diagnostic>) {
+  let (tree, chains) = dotted::cut(tree);
+  let (mut output, diagnostics) = unchanged(&tree, list, unresolved);
+  chains.put_back(&mut output);
+  (output, diagnostics)
+}
+
+/// The unchanged Rust on an accepted tree.
+pub fn unchanged(
   tree: &Rec,
   list: &[u8],
   unresolved: u32,

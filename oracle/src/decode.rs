@@ -3,6 +3,10 @@
 //! Where document 01 has one mark for several of swc's nodes (`Oe`, `Ot`, `Im`,
 //! `St`, `Dm`, `Pq`, an `Op` for a property), the record's range and flags
 //! choose the node, so that the cases reach all of them.
+//!
+//! An `Nd` is decoded though `call::transform` cuts them out before: the tests
+//! ask the Rust about trees with `Nd` too, and so do the programs' cases, whose
+//! trees are read whole.
 
 use deno_ast::swc::ast::*;
 use deno_ast::swc::atoms::Atom;

@@ -5,6 +5,7 @@ pub mod answers;
 pub mod call;
 pub mod decode;
 pub mod depths;
+pub mod dotted;
 pub mod encode;
 pub mod fast_check;
 pub mod generate;

@@ -278,7 +278,7 @@ fn readings_14_to_19() {
   );
   assert_eq!(
     gives("Mo(Ns+4(Op\"n\" Nd+5(Op\"m\" Nb+6@1-2(Op\"z\") Op) Op\"w\"))"),
-    "Mo(Ns+5(Op\"n\" Nb+6@1-2(Op\"z\") Op\"w\"))"
+    "Mo(Ns+5(Op\"n\" Nd+5(Op\"m\" Nb+6@1-2(Op\"z\") Op) Op\"w\"))"
   );
   let class = |key: &str| format!("Mo(Xd(Cx(No Cl(No Cp+4({key} No No)))))");
   assert_eq!(
