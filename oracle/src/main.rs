@@ -11,8 +11,10 @@ use oracle::leaves;
 use oracle::lines;
 use oracle::measure::Depths;
 use oracle::measure::count;
+use oracle::measure::dotted;
 use oracle::measure::numbered;
 use oracle::measure::numbered_depth;
+use oracle::measure::numbered_dotted;
 use oracle::measure::twice;
 use oracle::notation;
 use oracle::record::Rec;
@@ -31,7 +33,11 @@ oracle gen N SEED    N random cases and those at the limits, and their counts
 oracle depth-gen N SEED [--ordinary]
     N random cases with namespaces in namespaces, and how many diagnostics of
     each kind stand at which depth; or the same of the cases of `gen`
-oracle twice N SEED  demand 3 over N random cases, each run twice
+oracle dotted-gen N SEED
+    N random cases with dotted names and the fixed ones, and how many hold how
+    long chains
+oracle twice N SEED [--dotted]
+    demand 3 over N random cases, each run twice; or over those of `dotted-gen`
 oracle cases N SEED [--max BYTES] [--limits]
     N random cases with their answers, a line each (see lines.rs); trees and
     outputs of at most so many bytes; with --limits those at the limits first
@@ -46,7 +52,9 @@ oracle answers FOLDER N SEED M
     cases/shown.txt, the small and some of the deep ones at the limits, and N
     random ones with trees of at most 400 bytes; then those of `depths`, with
     the table of each: the fixed ones that are small, and M random ones with
-    namespaces in namespaces; written to stdin and stdout in its folder
+    namespaces in namespaces; then those with dotted names, every other one
+    with the table: the small and some of the deep fixed ones, and M random
+    ones; written to stdin and stdout in its folder
 TREE is in notation, as 'Mo(Xe(Ar))'; without it bytes come from standard input.";
 
 fn main() -> ExitCode {
@@ -76,14 +84,15 @@ fn command(args: &[String]) -> Result<(), String> {
       }
     }
     Some("depth-gen") => depth_gen(rest),
-    Some("twice") => {
-      let twice = twice(number(rest.first())?, number(rest.get(1))?);
-      twice.print();
-      match twice.failed.first() {
-        Some(case) => Err(lines::write(case, &lines::outcome(case))),
-        None => Ok(()),
+    Some("dotted-gen") => {
+      let dotted = dotted(number(rest.first())?, number(rest.get(1))?);
+      dotted.print();
+      match dotted.changed {
+        0 => Ok(()),
+        _ => Err("the last count has to be 0".to_string()),
       }
     }
+    Some("twice") => demand_3(rest),
     Some("cases") => cases(rest),
     Some("replay") => replay(rest),
     Some("tell") => tell(rest),
@@ -128,6 +137,22 @@ fn depth_gen(args: &[String]) -> Result<(), String> {
   }
 }
 
+fn demand_3(args: &[String]) -> Result<(), String> {
+  let wanted: u64 = number(args.first())?;
+  let seed = number(args.get(1))?;
+  let numbered = match args.get(2).map(String::as_str) {
+    None => numbered,
+    Some("--dotted") => numbered_dotted,
+    _ => return Err(USAGE.to_string()),
+  };
+  let twice = twice((0..wanted).map(|place| numbered(seed, place, true)));
+  twice.print();
+  match twice.failed.first() {
+    Some(case) => Err(lines::write(case, &lines::outcome(case))),
+    None => Ok(()),
+  }
+}
+
 /// A case whose tree is small, or is refused for its length alone.
 fn is_small(case: &Case) -> bool {
   let tree = case.tree.len();
@@ -135,7 +160,7 @@ fn is_small(case: &Case) -> bool {
     && (case.list.len() <= 400 || case.list.len() > 40_960)
 }
 
-/// Some of the trees with 63 to 66 levels.
+/// Some of the deep trees.
 fn is_deep(place: usize, case: &Case) -> bool {
   place % 7 == 0 && case.tree.len() <= 4096
 }
@@ -143,7 +168,7 @@ fn is_deep(place: usize, case: &Case) -> bool {
 fn answers(args: &[String]) -> Result<(), String> {
   let wanted: usize = number(args.get(1))?;
   let seed = number(args.get(2))?;
-  let deep: usize = number(args.get(3))?;
+  let more: usize = number(args.get(3))?;
   let shown = include_str!("../cases/shown.txt");
   let shown = shown.lines().filter_map(|line| Some(lines::read(line)?.0));
   let random = (0..).map(|place| numbered(seed, place, false));
@@ -153,10 +178,16 @@ fn answers(args: &[String]) -> Result<(), String> {
   let transform = shown
     .chain(limits.map(|(_, case)| case))
     .chain(random.filter(is_small).take(wanted));
-  let mut cases: Vec<Vec<u8>> =
-    transform.map(|case| oracle::answers::write(&case)).collect();
-  let depths = depth_cases(deep, seed);
+  let mut cases: Vec<Vec<u8>> = transform
+    .map(|case| oracle::answers::write(&case))
+    .collect();
+  let depths = depth_cases(more, seed);
   cases.extend(depths.map(|case| oracle::answers::write_depths(&case)));
+  let dotted = dotted_cases(more, seed).enumerate();
+  cases.extend(dotted.map(|(place, case)| match place % 2 {
+    0 => oracle::answers::write(&case),
+    _ => oracle::answers::write_depths(&case),
+  }));
   let count = cases.len();
   program(args, &cases.concat(), &format!("{count} cases, 0 differ\n"))
 }
@@ -164,17 +195,35 @@ fn answers(args: &[String]) -> Result<(), String> {
 /// The fixed cases of `depths`, and so many random ones.
 fn depth_cases(wanted: usize, seed: u64) -> impl Iterator<Item = Case> {
   let fixed = oracle::generate::depth_limits();
-  let fixed = fixed.into_iter().filter(|case| {
-    (case.tree.len() <= 4096 || case.tree.len() > 524_288)
-      && oracle::answers::has_room(case)
-  });
+  let fixed = fixed
+    .into_iter()
+    .filter(|case| case.tree.len() <= 4096 || case.tree.len() > 524_288);
   let random = (0..).map(move |place| numbered_depth(seed, place, false));
-  let random = random.filter(|case| {
-    case.tree.len() <= 1800
-      && case.list.len() <= 400
-      && oracle::answers::has_room(case)
-  });
-  fixed.chain(random.take(wanted))
+  let random =
+    random.filter(|case| case.tree.len() <= 1800 && case.list.len() <= 400);
+  with_room(fixed, random, wanted)
+}
+
+/// The fixed cases with dotted names, and so many random ones.
+fn dotted_cases(wanted: usize, seed: u64) -> impl Iterator<Item = Case> {
+  let fixed = oracle::generate::dotted_limits().into_iter().enumerate();
+  let fixed = fixed
+    .filter(|(place, case)| case.tree.len() <= 250 || is_deep(*place, case));
+  let random = (0..).map(move |place| numbered_dotted(seed, place, false));
+  let random =
+    random.filter(|case| case.tree.len() <= 250 && case.list.len() <= 200);
+  with_room(fixed.map(|(_, case)| case), random, wanted)
+}
+
+/// The fixed cases and so many of the random ones, of those that the program
+/// has room for.
+fn with_room(
+  fixed: impl Iterator<Item = Case>,
+  random: impl Iterator<Item = Case>,
+  wanted: usize,
+) -> impl Iterator<Item = Case> {
+  let fixed = fixed.filter(oracle::answers::has_room);
+  fixed.chain(random.filter(oracle::answers::has_room).take(wanted))
 }
 
 fn standard_input() -> Result<Vec<u8>, String> {

@@ -11,6 +11,8 @@ use crate::generate::Case;
 use crate::generate::Rng;
 use crate::generate::case;
 use crate::generate::depth_case;
+use crate::generate::dotted_case;
+use crate::generate::dotted_limits;
 use crate::generate::limits;
 use crate::grammar::Grammar;
 use crate::grammar::check;
@@ -32,6 +34,13 @@ pub fn numbered_depth(seed: u64, number: u64, ample: bool) -> Case {
   let mut rng = Rng::new(seed.wrapping_mul(1_000_000_007).wrapping_add(number));
   let size = *rng.one_of(&SIZES);
   depth_case(&mut rng, size, ample)
+}
+
+/// The same, of the run with dotted names.
+pub fn numbered_dotted(seed: u64, number: u64, ample: bool) -> Case {
+  let mut rng = Rng::new(seed.wrapping_mul(1_000_000_007).wrapping_add(number));
+  let size = *rng.one_of(&SIZES);
+  dotted_case(&mut rng, size, ample)
 }
 
 #[derive(Default)]
@@ -203,6 +212,103 @@ impl Depths {
   }
 }
 
+/// Chains of `Nd`, and what becomes of them.
+#[derive(Default)]
+pub struct Dotted {
+  pub cases: u64,
+  pub done: u64,
+  /// By the refusal's number.
+  pub refused: BTreeMap<u8, u64>,
+  /// Of calls that were done: trees that hold an `Nd`, those that hold one
+  /// within the body of another, and the records.
+  pub with_one: u64,
+  pub in_another: u64,
+  pub records: u64,
+  /// Trees of calls that were done by their longest chain.
+  pub longest: BTreeMap<usize, u64>,
+  /// Calls after which the output's `Nd` records have other heads, names or
+  /// `Op`s than the tree's.
+  pub changed: u64,
+}
+
+impl Dotted {
+  pub fn add(&mut self, case: &Case) {
+    self.cases += 1;
+    let outcome = outcome(case);
+    if let Answer::Refused(no) = outcome.answer {
+      *self.refused.entry(no.number).or_default() += 1;
+      return;
+    }
+    self.done += 1;
+    let read = |bytes: &[u8]| Rec::read(bytes, 0).expect("a tree").0;
+    let (tree, output) = (read(&case.tree), read(&outcome.output));
+    let links = links(&tree);
+    self.changed += (links != self::links(&output)) as u64;
+    if links.is_empty() {
+      return;
+    }
+    self.with_one += 1;
+    self.records += links.len() as u64;
+    let (mut longest, mut in_another) = (0, false);
+    tree.each(&mut |r| {
+      let (mut length, mut block) = (0, r);
+      while block.is("Ns") || block.is("Nd") {
+        length += block.is("Nd") as usize;
+        block = &block.kids[1];
+      }
+      longest = longest.max(length);
+      in_another |= r.is("Nd") && !self::links(block).is_empty();
+    });
+    *self.longest.entry(longest).or_default() += 1;
+    self.in_another += in_another as u64;
+  }
+
+  pub fn print(&self) {
+    println!("cases {}", self.cases);
+    println!("done {}", self.done);
+    for (number, count) in &self.refused {
+      println!("refused {number}: {count}");
+    }
+    println!("done, with an Nd: {}", self.with_one);
+    println!(
+      "  of these, with one in another's body: {}",
+      self.in_another
+    );
+    println!("  Nd records: {}", self.records);
+    print!("  by their longest chain:");
+    for (length, count) in &self.longest {
+      print!(" {length}:{count}");
+    }
+    println!();
+    println!("with another head, name or Op of an Nd: {}", self.changed);
+  }
+}
+
+/// The `Nd` records of a tree in preorder, each without its body.
+pub fn links(tree: &Rec) -> Vec<Rec> {
+  let mut links = vec![];
+  tree.each(&mut |r| {
+    if r.is("Nd") {
+      let mut link = r.clone();
+      link.kids.remove(1);
+      links.push(link);
+    }
+  });
+  links
+}
+
+/// Random cases with dotted names and the fixed ones.
+pub fn dotted(cases: u64, seed: u64) -> Dotted {
+  let mut dotted = Dotted::default();
+  for case in dotted_limits() {
+    dotted.add(&case);
+  }
+  for number in 0..cases {
+    dotted.add(&numbered_dotted(seed, number, false));
+  }
+  dotted
+}
+
 /// Demand 3 over random cases, each run twice. The conditions, in document
 /// 01's words: the first call succeeds, its output is accepted, every
 /// expression exported as default in the output is an identifier, and so was
@@ -218,6 +324,8 @@ pub struct Twice {
   pub met: u64,
   /// Met the conditions, and the first call changed the tree.
   pub changed: u64,
+  /// Met the conditions, and the tree holds an `Nd`.
+  pub dotted: u64,
   /// Met the conditions, and the diagnostics of the calls differ.
   pub diagnostics_differ: u64,
   pub failed: Vec<Case>,
@@ -225,12 +333,11 @@ pub struct Twice {
 
 const ROOM: usize = 1 << 21;
 
-pub fn twice(cases: u64, seed: u64) -> Twice {
+pub fn twice(cases: impl Iterator<Item = Case>) -> Twice {
   let mut count = Twice::default();
   let mut buffers = [vec![0; ROOM], vec![0; ROOM]];
   let mut room = [vec![0; ROOM], vec![0; ROOM]];
-  for number in 0..cases {
-    let case = numbered(seed, number, true);
+  for case in cases {
     count.add(case, &mut buffers, &mut room);
   }
   count
@@ -274,6 +381,7 @@ impl Twice {
     self.met += 1;
     let again = call(written, &case.list, case.unresolved, second, second_room);
     self.changed += (written != case.tree) as u64;
+    self.dotted += !links(&input).is_empty() as u64;
     match again {
       Answer::Done(again, count) if second[..again] == *written => {
         let same = count == diagnostics
@@ -297,6 +405,7 @@ impl Twice {
     );
     println!("met the conditions of demand 3: {}", self.met);
     println!("  of these, changed by the first call: {}", self.changed);
+    println!("  of these, with a dotted name: {}", self.dotted);
     println!("  of these, other diagnostics: {}", self.diagnostics_differ);
     println!("  of these, other bytes: {}", self.failed.len());
   }

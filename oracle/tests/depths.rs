@@ -13,6 +13,7 @@ use oracle::generate::Case;
 use oracle::generate::KINDS;
 use oracle::generate::Way;
 use oracle::generate::depth_limits;
+use oracle::generate::dotted_limits;
 use oracle::generate::entry;
 use oracle::generate::in_namespaces;
 use oracle::grammar::Refused;
@@ -22,6 +23,7 @@ use oracle::lines;
 use oracle::measure::Depths;
 use oracle::measure::numbered;
 use oracle::measure::numbered_depth;
+use oracle::measure::numbered_dotted;
 use oracle::notation::parse;
 use oracle::record::Rec;
 use oracle::record::rec;
@@ -274,6 +276,16 @@ fn cases_with_namespaces() {
       .iter()
       .all(|kind| depths.with_one[cell(*kind, 30)] == 0)
   );
+}
+
+#[test]
+fn cases_with_dotted_names() {
+  for number in 0..20_000 {
+    agrees(&numbered_dotted(27, number, false));
+  }
+  for case in dotted_limits() {
+    agrees(&case);
+  }
 }
 
 #[test]

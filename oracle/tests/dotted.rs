@@ -4,11 +4,20 @@
 use oracle::call::Answer;
 use oracle::call::Diagnostic;
 use oracle::call::call;
+use oracle::call::transform;
 use oracle::call::unchanged;
 use oracle::depths;
 use oracle::dotted::cut;
+use oracle::generate::Case;
+use oracle::generate::dotted_limits;
 use oracle::generate::entry;
 use oracle::grammar::Refused;
+use oracle::grammar::check;
+use oracle::measure::Dotted;
+use oracle::measure::links;
+use oracle::measure::numbered;
+use oracle::measure::numbered_dotted;
+use oracle::measure::twice;
 use oracle::notation::parse;
 use oracle::notation::show;
 use oracle::record::Rec;
@@ -263,4 +272,111 @@ fn the_rust_alone() {
   let d = |digit: u8, start: u32, end: u32| Diagnostic { digit, start, end };
   assert_eq!(diagnostics, [d(5, 3, 4), d(1, 1, 2)]);
   assert_eq!(unchanged(&cut(&tree).0, &[], 1), (output, diagnostics));
+}
+
+/// The tree with the innermost `Nb` in place of each chain.
+fn erased(r: &Rec) -> Rec {
+  match r.is("Nd") {
+    true => erased(&r.kids[1]),
+    false => with_parts(r, erased),
+  }
+}
+
+/// The tree with one namespace within another for each dot, as the handbook
+/// reads it. Within a namespace declare goes.
+fn nested(r: &Rec) -> Rec {
+  let mut nested = with_parts(r, nested);
+  if !r.is("Nd") {
+    return nested;
+  }
+  nested.mark = *b"Ns";
+  nested.flags &= !1;
+  rec("Nb", vec![rec("Ed", vec![nested])])
+}
+
+fn with_parts(r: &Rec, each: fn(&Rec) -> Rec) -> Rec {
+  Rec {
+    text: r.text.clone(),
+    kids: r.kids.iter().map(each).collect(),
+    ..*r
+  }
+}
+
+/// What holds of each accepted tree; whether it holds an `Nd`, and whether the
+/// list changes its answer.
+fn holds(case: &Case) -> Option<(bool, bool)> {
+  check(&case.tree, &case.list).ok()?;
+  let (tree, _) = Rec::read(&case.tree, 0)?;
+  let rust = |tree: &Rec| unchanged(tree, &case.list, case.unresolved);
+  let (output, diagnostics) = transform(&tree, &case.list, case.unresolved);
+  // Every head, name and `Op` is as it was.
+  assert!(links(&output) == links(&tree));
+  // Without the chains it is the Rust's answer to the tree without them, which
+  // is its answer to the tree itself.
+  let without = (erased(&output), diagnostics.clone());
+  assert!(cut(&tree).0 == erased(&tree));
+  assert!(without == rust(&erased(&tree)));
+  assert!(without == rust(&tree));
+  // With one namespace within another for each dot it is the Rust's answer to
+  // the tree with those.
+  assert!((nested(&output), diagnostics) == rust(&nested(&tree)));
+  let listed = transform(&tree, &[], case.unresolved).0 != output;
+  Some((links(&tree) != [], listed))
+}
+
+#[test]
+fn random_cases() {
+  let (mut dotted, mut listed) = (0, 0);
+  for number in 0..20_000 {
+    if let Some((true, hit)) = holds(&numbered_dotted(31, number, true)) {
+      dotted += 1;
+      listed += hit as u32;
+    }
+  }
+  assert!(dotted > 12_000 && listed > 2_000, "{dotted} {listed}");
+}
+
+#[test]
+fn fixed_cases() {
+  let cases = dotted_limits();
+  let dotted = cases
+    .iter()
+    .filter(|case| holds(case) == Some((true, false)));
+  assert!(dotted.count() > 150);
+}
+
+/// Ordinary cases: a tree without an `Nd` is the Rust's alone.
+#[test]
+fn ordinary_cases() {
+  let mut counts = [0; 2];
+  for number in 0..20_000 {
+    if let Some((dotted, _)) = holds(&numbered(32, number, true)) {
+      counts[dotted as usize] += 1;
+    }
+  }
+  assert!(counts.iter().all(|count| *count > 1_000), "{counts:?}");
+}
+
+#[test]
+fn a_second_pass_changes_nothing() {
+  let random = (0..20_000).map(|number| numbered_dotted(33, number, true));
+  let twice = twice(random.chain(dotted_limits()));
+  assert!(twice.failed.is_empty());
+  assert!(twice.met > 9_000 && twice.dotted > 9_000, "{}", twice.met);
+}
+
+/// What the cases hold.
+#[test]
+fn chains_of_every_length() {
+  let mut dotted = Dotted::default();
+  for number in 0..20_000 {
+    dotted.add(&numbered_dotted(34, number, false));
+  }
+  assert_eq!(dotted.changed, 0);
+  assert!((1..=61).all(|length| dotted.longest.contains_key(&length)));
+  assert_eq!(dotted.longest.keys().max(), Some(&61));
+  assert!(dotted.in_another > 3_000);
+  for number in 2..=10 {
+    assert!(dotted.refused.get(&number).is_some_and(|n| *n > 100));
+  }
 }

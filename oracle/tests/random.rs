@@ -62,7 +62,7 @@ fn lines_read_back() {
 
 #[test]
 fn demand_3() {
-  let twice = twice(5_000, 14);
+  let twice = twice((0..5_000).map(|number| numbered(14, number, true)));
   assert!(twice.failed.is_empty());
   assert!(twice.met > 3_000);
 }

@@ -1,11 +1,12 @@
 //! Random cases: grammatical trees in which every mark and every rule of the
 //! transform comes up often, overload lists that hit and miss, damaged copies,
 //! trees and lists at their limits, and buffers that are just long enough, one
-//! byte short, or ample; and cases with namespaces in namespaces, for the depth
-//! of diagnostics. The same seed gives the same cases.
+//! byte short, or ample; cases with namespaces in namespaces, for the depth of
+//! diagnostics; and cases with dotted names. The same seed gives the same cases.
 
 mod damage;
 mod depth_limits;
+mod dotted_limits;
 mod limits;
 mod tree;
 
@@ -13,8 +14,10 @@ pub use depth_limits::KINDS;
 pub use depth_limits::Way;
 pub use depth_limits::depth_limits;
 pub use depth_limits::in_namespaces;
+pub use dotted_limits::dotted_limits;
 pub use limits::limits;
 pub use limits::long_key;
+pub use tree::dotted;
 pub use tree::nested;
 pub use tree::tree;
 
@@ -135,6 +138,13 @@ pub fn case(rng: &mut Rng, size: usize, ample: bool) -> Case {
 pub fn depth_case(rng: &mut Rng, size: usize, ample: bool) -> Case {
   let size = 2 + rng.below(size);
   let (tree, unresolved) = nested(rng, size);
+  around(rng, tree, unresolved, ample)
+}
+
+/// The same, with namespaces that mostly have dotted names.
+pub fn dotted_case(rng: &mut Rng, size: usize, ample: bool) -> Case {
+  let size = 2 + rng.below(size);
+  let (tree, unresolved) = dotted(rng, size);
   around(rng, tree, unresolved, ample)
 }
 

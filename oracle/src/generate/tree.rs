@@ -1,8 +1,10 @@
 //! Grammatical trees in which every mark and every rule of the transform
 //! comes up often.
 
+mod dotted;
 mod namespaces;
 
+pub use dotted::dotted;
 pub use namespaces::nested;
 
 use super::Rng;

@@ -99,7 +99,7 @@ impl Tree<'_> {
 
   /// A record on a level, with `Op`s after its parts only if they end at the
   /// last level or before.
-  fn ending(
+  pub(super) fn ending(
     &mut self,
     level: usize,
     mark: &str,
@@ -125,12 +125,22 @@ impl Tree<'_> {
   /// An item that ends at the last level or before; mostly with a diagnostic,
   /// where there is one so short.
   fn fitting_item(&mut self, level: usize) -> Rec {
-    let most = MAX_DEPTH + 1 - level;
+    self.fitting(level, |make, level| match make.rng.percent(75) {
+      true => make.diagnosed(),
+      false => make.item(level - 1),
+    })
+  }
+
+  /// One of the items that are made for a level, if one ends at the last level
+  /// or before, else one without parts.
+  pub(super) fn fitting(
+    &mut self,
+    level: usize,
+    each: fn(&mut Self, usize) -> Rec,
+  ) -> Rec {
+    let most = (MAX_DEPTH + 1).saturating_sub(level);
     for _ in 0..20 {
-      let item = match self.rng.percent(75) {
-        true => self.diagnosed(),
-        false => self.item(level - 1),
-      };
+      let item = each(self, level);
       if item.depth() <= most {
         return item;
       }
@@ -141,7 +151,7 @@ impl Tree<'_> {
   }
 
   /// An item with a diagnostic, mostly.
-  fn diagnosed(&mut self) -> Rec {
+  pub(super) fn diagnosed(&mut self) -> Rec {
     match self.rng.below(18) {
       0 | 1 => {
         let using = self.done("Us", 0, vec![]);
@@ -230,7 +240,7 @@ impl Tree<'_> {
   }
 
   /// A function with a parameter that has no type.
-  fn one_parameter(&mut self) -> Rec {
+  pub(super) fn one_parameter(&mut self) -> Rec {
     let mut pattern = self.binding(0, false);
     if self.rng.percent(50) {
       let parts = vec![pattern, self.untyped()];
