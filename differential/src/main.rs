@@ -2,6 +2,8 @@
 //! exact, short and long buffers; each buffer holds noise first and is compared whole, and so is a second pass over what was written. Every fourth
 //! of them is a case for `dts_depths` too.
 //! `differential depths N SEED`: `dts_depths` beside the Rust, on N cases with namespaces in namespaces and those at the limits.
+//! `differential dotted N SEED`: both calls beside the oracle on N cases with dotted names and the fixed ones, as `cases`. A tree that holds `Nd` gets
+//! the Rust's answer to the tree without its chains, with these put back.
 //! `differential speed`: their times, as ratios in one run.
 mod depths;
 mod speed;
@@ -15,11 +17,13 @@ use oracle::call::call;
 use oracle::generate::Case;
 use oracle::generate::Rng;
 use oracle::generate::depth_limits;
+use oracle::generate::dotted_limits;
 use oracle::generate::limits;
 use oracle::grammar::Refused;
 use oracle::lines;
 use oracle::measure::numbered;
 use oracle::measure::numbered_depth;
+use oracle::measure::numbered_dotted;
 use vatnext_dts::raw;
 
 /// The proved call.
@@ -63,15 +67,16 @@ impl Tally {
         self
     }
 
-    fn print(&self) {
-        println!("cases                    {}", self.cases);
-        println!("done                     {}", self.done);
+    fn print(&self, what: &str) {
+        println!("dts_transform, {what}");
+        println!("  cases                    {}", self.cases);
+        println!("  done                     {}", self.done);
         for (number, count) in self.refused.iter().enumerate().skip(1) {
-            println!("refused {number:<2}               {count}");
+            println!("  refused {number:<2}               {count}");
         }
-        println!("second passes            {}", self.second);
-        println!("  with the same bytes    {}", self.same);
-        println!("different from the Rust  {}", self.differ);
+        println!("  second passes            {}", self.second);
+        println!("    with the same bytes    {}", self.same);
+        println!("  different from the Rust  {}", self.differ);
     }
 
     /// Both calls on one case; what the first wrote, if it was done and equal.
@@ -149,7 +154,11 @@ fn share<T: Default + Send>(wanted: u64, seed: u64, add: impl Fn(&mut T, u64, &m
     })
 }
 
-fn cases(wanted: u64, seed: u64) -> (Tally, depths::Tally) {
+/// Random cases: seed, place, and whether the buffers are ample.
+type Numbered = fn(u64, u64, bool) -> Case;
+
+/// Both calls on the fixed cases and so many random ones; every so many of these are one for `dts_depths` too.
+fn cases(fixed: Vec<Case>, numbered: Numbered, every: u64, wanted: u64, seed: u64) -> (Tally, depths::Tally) {
     let mut tallies = (Tally::default(), depths::Tally::default());
     let add = |(tally, depths): &mut (Tally, depths::Tally), case: &Case, also: bool, rng: &mut Rng| {
         tally.add(case, rng);
@@ -158,11 +167,11 @@ fn cases(wanted: u64, seed: u64) -> (Tally, depths::Tally) {
         }
     };
     let mut rng = Rng::new(seed);
-    for case in limits() {
+    for case in fixed {
         add(&mut tallies, &case, true, &mut rng);
     }
     let random = |tallies: &mut _, place: u64, rng: &mut Rng| {
-        add(tallies, &numbered(seed, place, false), place % ALSO_DEPTHS == 0, rng);
+        add(tallies, &numbered(seed, place, false), place % every == 0, rng);
     };
     share(wanted, seed, random).into_iter().fold(tallies, |sum, more| (sum.0.join(more.0), sum.1.join(more.1)))
 }
@@ -181,10 +190,13 @@ fn main() -> ExitCode {
     let words: Vec<String> = std::env::args().skip(1).collect();
     let number = |at: usize| words.get(at).and_then(|word| word.parse::<u64>().ok());
     match (words.first().map(String::as_str), number(1), number(2)) {
-        (Some("cases"), Some(wanted), Some(seed)) => {
-            let (tally, depths) = cases(wanted, seed);
-            tally.print();
-            depths.print("ordinary cases");
+        (Some(word @ ("cases" | "dotted")), Some(wanted), Some(seed)) => {
+            let (what, (tally, depths)) = match word {
+                "cases" => ("ordinary cases", cases(limits(), numbered, ALSO_DEPTHS, wanted, seed)),
+                _ => ("dotted names", cases(dotted_limits(), numbered_dotted, 1, wanted, seed)),
+            };
+            tally.print(what);
+            depths.print(what);
             if tally.differ > 0 || tally.done == 0 || !depths.agrees() {
                 return ExitCode::FAILURE;
             }
@@ -198,7 +210,7 @@ fn main() -> ExitCode {
         }
         (Some("speed"), None, None) => speed::print(),
         _ => {
-            eprintln!("differential cases N SEED\ndifferential depths N SEED\ndifferential speed");
+            eprintln!("differential cases N SEED\ndifferential depths N SEED\ndifferential dotted N SEED\ndifferential speed");
             return ExitCode::FAILURE;
         }
     }
