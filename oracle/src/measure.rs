@@ -242,13 +242,13 @@ impl Dotted {
     self.done += 1;
     let read = |bytes: &[u8]| Rec::read(bytes, 0).expect("a tree").0;
     let (tree, output) = (read(&case.tree), read(&outcome.output));
-    let links = links(&tree);
-    self.changed += (links != self::links(&output)) as u64;
-    if links.is_empty() {
+    let records = links(&tree);
+    self.changed += (records != links(&output)) as u64;
+    if records.is_empty() {
       return;
     }
     self.with_one += 1;
-    self.records += links.len() as u64;
+    self.records += records.len() as u64;
     let (mut longest, mut in_another) = (0, false);
     tree.each(&mut |r| {
       let (mut length, mut block) = (0, r);
@@ -257,7 +257,7 @@ impl Dotted {
         block = &block.kids[1];
       }
       longest = longest.max(length);
-      in_another |= r.is("Nd") && !self::links(block).is_empty();
+      in_another |= r.is("Nd") && !links(block).is_empty();
     });
     *self.longest.entry(longest).or_default() += 1;
     self.in_another += in_another as u64;
