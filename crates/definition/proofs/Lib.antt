@@ -18,6 +18,7 @@ pub mod Silence
 pub mod Properties
 pub mod SilenceModule
 pub mod SilenceCall
+pub mod Dotted
 pub mod Handbook
 pub mod HandbookDeclarations
 pub mod HandbookOverloads

@@ -1,7 +1,7 @@
 -- What the TypeScript handbook says of declarations, as definitions on trees: types of literals, const assertions, written types, overloads, enum
 -- members, namespaces. Written from the handbook and not from the Rust. With the definitions of the transform they share Tree, Grammar and Record:
 -- the parts of a record, how one is made afresh, and whether its range is in the overload list (`listed`); nothing of Helpers, Prescan, Names,
--- Typing, Classes, Enums and Items. Each is for a fragment of the language and gives none, or false, outside it.
+-- Typing, Classes, Enums and Items. What stands in place of each Nd is put there by `replaced` (Dotted). Each is for a fragment of the language and gives none, or false, outside it.
 use Prim.Native.Nat.{ℕ, _+_, _%_}
 use Prim.Native.String.{String}
 use mathlib.Core.Path.{_≡_}
@@ -12,6 +12,7 @@ use lib.Dec.{eqb}
 use lib.ListN.{drop}
 use Rattle.definition.specs.Tree.{Head, Rec, Recs, rec, nil, cons, le4}
 use Rattle.definition.specs.Grammar.{mark}
+use Rattle.definition.specs.Dotted.{replaced}
 use Rattle.definition.specs.Record.{text, sameText, headOf, kidsOf, markOf, textOf, is, among, isNo, absent, fresh, ranged, withText, flag1, has1, kid, one, given, present, listed}
 
 -- ---- types, as records
@@ -346,37 +347,6 @@ spaceHead h = record { mark = mark "Ns"; flags = flag1 false (h .flags); start =
 abbrev pub spaceWithin : Head → Recs → Rec
 spaceWithin h ks = rec (ranged "Nb" h []) (one (rec (ranged "Ed" h []) (one (rec (spaceHead h) ks))))
 
-unfoldable mutual
-  -- the items of a Mo or an Nb, and one of them
-  pub undottedItems : Recs → Recs
-  undottedItems nil = nil
-  undottedItems (cons r rs) = cons (undottedItem r) (undottedItems rs)
-
-  pub undottedItem : Rec → Rec
-  undottedItem (rec h ks) =
-      cond (eqb (h .mark) (mark "Ns")) (rec h (undottedParts ks)) (cond (eqb (h .mark) (mark "Ed")) (rec h (undottedExported ks)) (rec h ks))
-
-  -- the children of an Ed: a declaration, then Ops
-  pub undottedExported : Recs → Recs
-  undottedExported nil = nil
-  undottedExported (cons d ops) = cons (undottedDecl d) ops
-
-  pub undottedDecl : Rec → Rec
-  undottedDecl (rec h ks) = cond (eqb (h .mark) (mark "Ns")) (rec h (undottedParts ks)) (rec h ks)
-
-  -- the children of an Ns or an Nd: its name, its body, Ops
-  pub undottedParts : Recs → Recs
-  undottedParts nil = nil
-  undottedParts (cons name rs) = cons name (undottedFirst rs)
-
-  pub undottedFirst : Recs → Recs
-  undottedFirst nil = nil
-  undottedFirst (cons b ops) = cons (undottedBody b) ops
-
-  pub undottedBody : Rec → Rec
-  undottedBody (rec h ks) =
-      cond (eqb (h .mark) (mark "Nb")) (rec h (undottedItems ks)) (cond (eqb (h .mark) (mark "Nd")) (spaceWithin h (undottedParts ks)) (rec h ks))
-
 -- a module without dots in the names of its namespaces
 abbrev pub withoutDots : Rec → Rec
-withoutDots r = rec (headOf r) (undottedItems (kidsOf r))
+withoutDots r = replaced spaceWithin r

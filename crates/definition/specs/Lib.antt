@@ -20,4 +20,5 @@ pub mod Demand3
 pub mod Widths
 pub mod Silence
 pub mod Typed
+pub mod Dotted
 pub mod Handbook
