@@ -1,7 +1,7 @@
 //! The exported calls, as `rt staticlib dts` writes them, and records to try.
 mod shapes;
 
-pub use shapes::{constant, leaf, name, record, shapes, unlisted};
+pub use shapes::{constant, dotted, leaf, name, record, shapes, unlisted};
 
 use vatnext_dts::raw;
 

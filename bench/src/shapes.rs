@@ -37,6 +37,12 @@ pub fn constant(symbol: &str, ty: Vec<u8>, init: Vec<u8>) -> Vec<u8> {
     constants(&[declarator(symbol, ty, init)])
 }
 
+/// Items in a namespace with so many dots in its name.
+pub fn dotted(dots: usize, items: Vec<Vec<u8>>) -> Vec<u8> {
+    let body = (0..dots).fold(record("Nb", &[], &items), |body, _| record("Nd", &[], &[leaf("Op"), body]));
+    record("Ns", &[], &[leaf("Op"), body])
+}
+
 fn function(symbol: &str) -> Vec<u8> {
     record("Fd", &[], &[name(symbol), record("Fu", &[], &[leaf("No"), leaf("No"), leaf("No")])])
 }

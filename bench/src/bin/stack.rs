@@ -1,5 +1,5 @@
 //! How much stack the exported calls take on trees of 64 levels: each is tried in a thread whose stack gets smaller, in a process of its own.
-use bench::{depths, leaf, name, record, transform};
+use bench::{depths, dotted, leaf, name, record, transform};
 use std::process::{Command, ExitCode, Stdio};
 
 /// The levels that a tree may have.
@@ -31,6 +31,7 @@ fn deep() -> Vec<(&'static str, Vec<u8>)> {
         ("arrows with defaults", default(nest((DEEPEST - 4) / 2, &function, leaf("Oe")))),
         ("frozen objects", default(nest(DEEPEST - 4, &frozen, leaf("Ob")))),
         ("namespaces", nest((DEEPEST - 2) / 2, &namespace, leaf("Im"))),
+        ("a namespace with a dotted name", dotted(DEEPEST - 4, vec![leaf("Im")])),
         ("namespaces around an array", nest((DEEPEST - 4) / 2, &namespace, default(array(leaf("Oe"))))),
     ];
     let module = |item: Vec<u8>| {

@@ -1,5 +1,5 @@
 //! The exported call on wide expressions and on modules that put many questions about names, timed: how many times the time twice as much takes.
-use bench::{constant, leaf, name, record, shapes, transform};
+use bench::{constant, dotted, leaf, name, record, shapes, transform};
 use std::time::{Duration, Instant};
 
 /// An expression around so many of the same element.
@@ -11,7 +11,7 @@ fn default_export(expression: Vec<u8>) -> Vec<u8> {
     record("Xe", &[], &[expression])
 }
 
-/// Expressions without names, each in a module of one item.
+/// Expressions without names, and items in a namespace with the longest name, each in a module of one item.
 fn kinds(n: usize) -> Vec<(&'static str, Vec<u8>)> {
     let number = record("Nu", &[0; 8], &[]);
     let property = |value: Vec<u8>| record("Kv", &[], &[record("Ki", b"key", &[]), value]);
@@ -30,8 +30,11 @@ fn kinds(n: usize) -> Vec<(&'static str, Vec<u8>)> {
         ("an arrow with defaults", wide("Aw", &[leaf("No"), leaf("No")], default, n / 2)),
         ("a frozen object", wide("Ca", &[freeze], object, 1)),
     ];
-    let alone = |expression: Vec<u8>| record("Mo", &[], &[default_export(expression)]);
-    expressions.into_iter().map(|(kind, expression)| (kind, alone(expression))).collect()
+    let alone = |item: Vec<u8>| record("Mo", &[], &[item]);
+    let mut kinds: Vec<_> = expressions.into_iter().map(|(kind, expression)| (kind, alone(default_export(expression)))).collect();
+    // Mo, Ns, Nb and the items are four levels.
+    kinds.push(("items in a namespace with 60 dots in its name", alone(dotted(60, vec![leaf("Im"); n]))));
+    kinds
 }
 
 /// Expressions of resolved names, each of which is a question put to the module: by `list` and `Class`, which it declares, and by a name that it
