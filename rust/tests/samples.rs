@@ -51,6 +51,21 @@ fn a_name_that_no_scope_declares() {
     assert_eq!(made.diagnostics().collect::<Vec<_>>(), [Diagnostic { code, start: 6, end: 7 }]);
 }
 
+/// `namespace A.B.C { declare const a: any; }`, with flags, a range and an Op for the B.
+#[test]
+fn a_dotted_namespace() {
+    let dotted = |outside, inside| {
+        let part = |name: &str| leaf("Op").text(name);
+        let block = node("Nb", [variable("a", keyword("any"), leaf("No")).flags(inside)]);
+        let inner = node("Nd", [part("C"), block]);
+        let middle = node("Nd", [part("B"), inner, part("x")]).flags(255).at(10, 60);
+        node("Mo", [node("Ns", [part("A"), middle]).flags(outside)])
+    };
+    let made = declarations(&dotted(0, 3).bytes());
+    assert_eq!(Node::read(made.root()), dotted(1, 2));
+    assert_eq!(made.diagnostics().len(), 0);
+}
+
 #[test]
 fn an_object_with_a_spread() {
     let property = node("Kv", [leaf("Ki").text("confirmed").at(10, 19), leaf("Nu").text([0; 8])]);
