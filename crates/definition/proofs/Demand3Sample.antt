@@ -1,4 +1,4 @@
--- The conditions of demand 3 can be met: they are by `namespace N { export default a; } export default [];`.
+-- The conditions of demand 3 can be met: they are by `namespace N.M { export default a; } export default [];`.
 use mathlib.Core.Path.{_≡_, refl}
 use mathlib.Core.List.{[], _++_}
 use mathlib.Core.Bool.{Bool, true, false, cond, _&&_}
@@ -69,8 +69,9 @@ sample =
     rec (fresh "Mo" 0 [])
     (cons
     (rec (fresh "Ns" 0 [])
-    (cons (rec (fresh "Op" 0 (text "N")) nil)
-    (one (rec (fresh "Nb" 0 []) (one (rec (fresh "Xe" 0 []) (one (rec (fresh "Id" 0 (le4 1 ++ text "a")) nil))))))))
+    (cons (rec (fresh "Op" 0 (text "N")) nil) (one (rec (fresh "Nd" 0 [])
+    (cons (rec (fresh "Op" 0 (text "M")) nil)
+    (one (rec (fresh "Nb" 0 []) (one (rec (fresh "Xe" 0 []) (one (rec (fresh "Id" 0 (le4 1 ++ text "a")) nil)))))))))))
     (one (rec (fresh "Xe" 0 []) (one (rec (fresh "Ar" 0 []) nil)))))
 
 -- two calls with 300 bytes for the output and none for diagnostics
