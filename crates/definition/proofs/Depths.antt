@@ -15,11 +15,12 @@ use Rattle.definition.specs.Record.{kidsOf, markOf, is, kid, Diag, diagn
 use Rattle.definition.specs.Marked.{Kinds}
 use Rattle.definition.specs.Prescan.{prescanModuleIds}
 use Rattle.definition.specs.Typing.{exprToTsType}
-use Rattle.definition.specs.Items.{itemKind, declKind, bodyKind, declToTypeDecl, transformModuleStmt, exportDecl, itemBy, bodyBy, transformModuleItems, transformModuleItem, exported, exportedDecl, nsParts, nsBodyFirst, transformTsNsBody}
+use Rattle.definition.specs.Items.{bodyKind, bodyBy, transformModuleItems, transformModuleItem, exported, exportedDecl, nsParts, nsBodyFirst, transformTsNsBody}
 use Rattle.definition.specs.Transform.{transform, transformBy}
 use Rattle.definition.specs.Depths.{Placed, allAt, whatOf, itemsPlaced, itemPlaced, exportPlaced, exportedPlaced, spacePlaced, bodyFirstPlaced, bodyPlaced, placed, columns, countOf, rowOf, rowsOf, tableOf, sum, total}
 use Rattle.definition.proofs.Tests.{never, and-true, by-eq}
 use Rattle.definition.proofs.Converse.{read-accepted}
+use Rattle.definition.proofs.ItemKinds.{space-becomes, export-becomes, exported-becomes, block-becomes, nested-becomes, other-becomes}
 use Rattle.definition.proofs.MarkedItems.{transform-kinds}
 
 -- ---- without the depths
@@ -35,31 +36,9 @@ what-append [] ys = refl
 what-append (x ∷ xs) ys = ap (λ (zs : List Diag). x .what ∷ zs) (what-append xs ys)
 
 module _ (list : List ℕ) (ctx : ℕ) (ty : Typing) where
-  -- an Ns gives what its body gives; an Ed what its declaration does, if that is an Ns
-  space-item : (h : Head) (ks : Recs) (top : Bool) (ns export : ℕ → Out Recs) (n : ℕ) → h .mark ≡ mark "Ns" → ns n .1 ≡ itemBy list ctx ty (itemKind (h .mark)) h ks top ns export n .1
-  unfolding itemBy itemKind declKind transformModuleStmt declToTypeDecl
-  space-item h ks top ns export n e = rw e refl
-
-  export-item : (h : Head) (ks : Recs) (top : Bool) (ns export : ℕ → Out Recs) (n : ℕ) → h .mark ≡ mark "Ed" → export n .1 ≡ itemBy list ctx ty (itemKind (h .mark)) h ks top ns export n .1
-  unfolding itemBy itemKind
-  export-item h ks top ns export n e = rw e refl
-
-  export-space : (h dh : Head) (ks ops : Recs) (top : Bool) (ns : ℕ → Out Recs) (n : ℕ) → dh .mark ≡ mark "Ns" → ns n .1 ≡ exportDecl list ctx ty (declKind (dh .mark)) h dh ks ops top ns n .1
-  unfolding exportDecl declKind declToTypeDecl
-  export-space h dh ks ops top ns n e = rw e refl
-
-  block-body : (h : Head) (ks : Recs) (items parts : ℕ → Out Recs) (n : ℕ) → h .mark ≡ mark "Nb" → items n .1 ≡ bodyBy list ctx ty (bodyKind (h .mark)) h ks items parts n .1
-  unfolding bodyBy bodyKind
-  block-body h ks items parts n e = rw e refl
-
-  nested-body : (h : Head) (ks : Recs) (items parts : ℕ → Out Recs) (n : ℕ) → h .mark ≡ mark "Nd" → parts n .1 ≡ bodyBy list ctx ty (bodyKind (h .mark)) h ks items parts n .1
-  unfolding bodyBy bodyKind
-  nested-body h ks items parts n e = rw e refl
-
-  other-body : (h : Head) (ks : Recs) (items parts : ℕ → Out Recs) (n : ℕ) → eqb (h .mark) (mark "Nb") ≡ false → eqb (h .mark) (mark "Nd") ≡ false →
-      [] ≡ bodyBy list ctx ty (bodyKind (h .mark)) h ks items parts n .1
-  unfolding bodyBy bodyKind
-  other-body h ks items parts n e f = rw (e, f) refl
+  -- the diagnostics of a step
+  abbrev said : {A : Type 0} {x y : Out A} → x ≡ y → y .1 ≡ x .1
+  said e = sym (ap (λ (o : Out _). o .1) e)
 
   mutual
     unfolding itemsPlaced transformModuleItems whatOf
@@ -80,8 +59,8 @@ module _ (list : List ℕ) (ctx : ℕ) (ty : Typing) where
             → (is "Ns" (kid 0 ks) ≡ true → whatOf (exportPlaced list ctx ty ks (suc d) n) ≡ exported list ctx ty ks h top n .1)
             → whatOf (cond a (spacePlaced list ctx ty ks (suc d) n) (cond b (exportPlaced list ctx ty ks (suc d) n) (allAt d (transformModuleItem list ctx ty (rec h ks) top n .1))))
             ≡ transformModuleItem list ctx ty (rec h ks) top n .1
-        go true b p q s x = s ∙ space-item h ks top _ _ n (eqb-true _ _ p)
-        go false true p q s x = let z = and-true _ _ q in x (z .1) ∙ export-item h ks top _ _ n (eqb-true _ _ (z .0))
+        go true b p q s x = s ∙ said (space-becomes list ctx ty (rec h ks) top n (eqb-true _ _ p))
+        go false true p q s x = let z = and-true _ _ q in x (z .1) ∙ said (export-becomes list ctx ty (rec h ks) top n (eqb-true _ _ (z .0)))
         go false false p q s x = what-all d (transformModuleItem list ctx ty (rec h ks) top n .1)
 
     export-what : (ks : Recs) (h : Head) (top : Bool) (d n : ℕ) → is "Ns" (kid 0 ks) ≡ true → whatOf (exportPlaced list ctx ty ks d n) ≡ exported list ctx ty ks h top n .1
@@ -89,7 +68,7 @@ module _ (list : List ℕ) (ctx : ℕ) (ty : Typing) where
     export-what (cons r ops) h top d n e = exported-what r h ops top d n e
 
     exported-what : (r : Rec) (h : Head) (ops : Recs) (top : Bool) (d n : ℕ) → is "Ns" r ≡ true → whatOf (exportedPlaced list ctx ty r d n) ≡ exportedDecl list ctx ty r h ops top n .1
-    exported-what (rec dh ks) h ops top d n e = space-what ks d n ∙ export-space h dh ks ops top _ n (eqb-true _ _ e)
+    exported-what (rec dh ks) h ops top d n e = space-what ks d n ∙ said (exported-becomes list ctx ty (rec dh ks) h ops top n (eqb-true _ _ e))
 
     space-what : (ks : Recs) (d n : ℕ) → whatOf (spacePlaced list ctx ty ks d n) ≡ nsParts list ctx ty ks n .1
     space-what nil d n = refl
@@ -106,9 +85,9 @@ module _ (list : List ℕ) (ctx : ℕ) (ty : Typing) where
             → whatOf (itemsPlaced list ctx ty ks false d n) ≡ transformModuleItems list ctx ty ks false n .1
             → whatOf (spacePlaced list ctx ty ks d n) ≡ nsParts list ctx ty ks n .1
             → whatOf (cond a (itemsPlaced list ctx ty ks false d n) (cond b (spacePlaced list ctx ty ks d n) [])) ≡ transformTsNsBody list ctx ty (rec h ks) n .1
-        go true b p q x y = x ∙ block-body h ks _ _ n (eqb-true _ _ p)
-        go false true p q x y = y ∙ nested-body h ks _ _ n (eqb-true _ _ q)
-        go false false p q x y = other-body h ks _ _ n p q
+        go true b p q x y = x ∙ said (block-becomes list ctx ty (rec h ks) n (eqb-true _ _ p))
+        go false true p q x y = y ∙ said (nested-becomes list ctx ty (rec h ks) n (eqb-true _ _ q))
+        go false false p q x y = said (other-becomes list ctx ty (rec h ks) n p q)
 
 -- "leaving the depths away gives exactly the transform's diagnostics, in order"
 pub without-depths : (list : List ℕ) (ctx : ℕ) (r : Rec) → whatOf (placed list ctx r) ≡ transform list ctx r .1
@@ -136,8 +115,7 @@ module _ (list : List ℕ) (ctx : ℕ) (ty : Typing) where
   item-space (rec h ks) e top d n = rw (eq-eqb _ _ e) (space-kid ks (suc d) n)
 
   pub item-space-counter : (r : Rec) → markOf r ≡ mark "Ns" → (top : Bool) (n : ℕ) → transformModuleItem list ctx ty r top n .2 ≡ transformTsNsBody list ctx ty (kid 1 (kidsOf r)) n .2
-  unfolding transformModuleItems itemBy itemKind declKind transformModuleStmt declToTypeDecl
-  item-space-counter (rec h ks) e top n = rw e (space-kid-counter ks n)
+  item-space-counter r e top n = ap (λ (o : Out Recs). o .2) (space-becomes list ctx ty r top n e) ∙ space-kid-counter (kidsOf r) n
 
   -- those of an Ed that holds an Ns are that one's
   pub item-export : (r : Rec) → markOf r ≡ mark "Ed" → markOf (kid 0 (kidsOf r)) ≡ mark "Ns" → (top : Bool) (d n : ℕ)
@@ -149,9 +127,10 @@ module _ (list : List ℕ) (ctx : ℕ) (ty : Typing) where
 
   pub item-export-counter : (r : Rec) → markOf r ≡ mark "Ed" → markOf (kid 0 (kidsOf r)) ≡ mark "Ns" → (top : Bool) (n : ℕ)
       → transformModuleItem list ctx ty r top n .2 ≡ transformTsNsBody list ctx ty (kid 1 (kidsOf (kid 0 (kidsOf r)))) n .2
-  unfolding transformModuleItems itemBy itemKind declKind exportDecl declToTypeDecl
+  unfolding transformModuleItems
   item-export-counter (rec h nil) e f top n = absurd (let z : mark "No" ≡ mark "Ns" = f in omega arith)
-  item-export-counter (rec h (cons (rec dh ks) ops)) e f top n = rw (e, f) (space-kid-counter ks n)
+  item-export-counter (rec h (cons d ops)) e f top n =
+      ap (λ (o : Out Recs). o .2) (export-becomes list ctx ty (rec h (cons d ops)) top n e ∙ exported-becomes list ctx ty d h ops top n f) ∙ space-kid-counter (kidsOf d) n
 
   -- those of another item stand at its depth
   pub item-other : (r : Rec) → (markOf r ≡ mark "Ns" → ⊥) → (markOf r ≡ mark "Ed" → markOf (kid 0 (kidsOf r)) ≡ mark "Ns" → ⊥) → (top : Bool) (d n : ℕ)
@@ -172,24 +151,21 @@ module _ (list : List ℕ) (ctx : ℕ) (ty : Typing) where
   in-block (rec h ks) e d n = rw (eq-eqb _ _ e) refl
 
   pub in-block-counter : (b : Rec) → markOf b ≡ mark "Nb" → (n : ℕ) → transformTsNsBody list ctx ty b n .2 ≡ transformModuleItems list ctx ty (kidsOf b) false n .2
-  unfolding transformModuleItems bodyBy bodyKind
-  in-block-counter (rec h ks) e n = rw e refl
+  in-block-counter b e n = ap (λ (o : Out Rec). o .2) (block-becomes list ctx ty b n e)
 
   pub in-nested : (b : Rec) → markOf b ≡ mark "Nd" → (d n : ℕ) → bodyPlaced list ctx ty b d n ≡ bodyPlaced list ctx ty (kid 1 (kidsOf b)) d n
   unfolding itemsPlaced
   in-nested (rec h ks) e d n = rw (ne-eqb (h .mark) (mark "Nb") (λ q. absurd (let z : mark "Nd" ≡ mark "Nb" = sym e ∙ q in omega arith)), eq-eqb _ _ e) (space-kid ks d n)
 
   pub in-nested-counter : (b : Rec) → markOf b ≡ mark "Nd" → (n : ℕ) → transformTsNsBody list ctx ty b n .2 ≡ transformTsNsBody list ctx ty (kid 1 (kidsOf b)) n .2
-  unfolding transformModuleItems bodyBy bodyKind
-  in-nested-counter (rec h ks) e n = rw e (space-kid-counter ks n)
+  in-nested-counter b e n = ap (λ (o : Out Rec). o .2) (nested-becomes list ctx ty b n e) ∙ space-kid-counter (kidsOf b) n
 
   pub in-none : (b : Rec) → (markOf b ≡ mark "Nb" → ⊥) → (markOf b ≡ mark "Nd" → ⊥) → (d n : ℕ) → bodyPlaced list ctx ty b d n ≡ []
   unfolding itemsPlaced
   in-none (rec h ks) e f d n = rw (ne-eqb _ _ e, ne-eqb _ _ f) refl
 
   pub in-none-counter : (b : Rec) → (markOf b ≡ mark "Nb" → ⊥) → (markOf b ≡ mark "Nd" → ⊥) → (n : ℕ) → transformTsNsBody list ctx ty b n .2 ≡ n
-  unfolding transformModuleItems bodyBy bodyKind
-  in-none-counter (rec h ks) e f n = rw (ne-eqb _ _ e, ne-eqb _ _ f) refl
+  in-none-counter b e f n = ap (λ (o : Out Rec). o .2) (other-becomes list ctx ty b n (ne-eqb _ _ e) (ne-eqb _ _ f))
 
 -- ---- how deep
 

@@ -3,10 +3,9 @@
 -- known of the others too.
 use mathlib.Core.Path.{_≡_, refl, ap, ap₂, sym, _∙_, fun-ext}
 use mathlib.Core.List.{List, _++_}
-use mathlib.Core.Bool.{Bool, true, false, cond, _||_}
+use mathlib.Core.Bool.{Bool, true, false, _||_}
 use mathlib.Core.Option.{Option, none, some}
 use Prim.Native.Nat.{ℕ, suc}
-use native.Mathlib.Omega.{arith}
 use lib.Dec.{eqb}
 use borrow.Author.Tests.{eqb-true, eq-eqb}
 use Rattle.definition.specs.Tree.{Head, Rec, Recs, rec, nil, cons}
@@ -37,8 +36,6 @@ use Rattle.definition.specs.Items.{
   xClass,
   xFn,
   xOther,
-  bBlock,
-  bNested,
   bodyKind,
   constOf,
   defaultTyped,
@@ -71,25 +68,10 @@ use Rattle.definition.specs.Dotted.{
   innermost,
   withoutChains,
 }
-use Rattle.definition.proofs.SilenceModule.{item-ed}
+use Rattle.definition.proofs.Tests.{never}
+use Rattle.definition.proofs.ItemKinds.{ed-mark, space-becomes, export-becomes, exported-becomes, block-becomes, nested-becomes, other-becomes}
 
 -- ---- kinds
-
-pub item-ns : (m : ℕ) → m ≡ mark "Ns" → itemKind m ≡ iDecl
-unfolding itemKind
-item-ns m e = rw e
-
-pub decl-ns : (m : ℕ) → m ≡ mark "Ns" → declKind m ≡ dModule
-unfolding declKind
-decl-ns m e = rw e
-
-pub body-nb : (m : ℕ) → m ≡ mark "Nb" → bodyKind m ≡ bBlock
-unfolding bodyKind
-body-nb m e = rw e
-
-pub body-nd : (m : ℕ) → m ≡ mark "Nd" → bodyKind m ≡ bNested
-unfolding bodyKind
-body-nd m e = rw e
 
 -- an export is no namespace, and an Nd no block
 no-space : (m : ℕ) → m ≡ mark "Ed" → eqb m (mark "Ns") ≡ false
@@ -97,47 +79,6 @@ no-space m e = rw e
 
 no-block : (m : ℕ) → m ≡ mark "Nd" → eqb m (mark "Nb") ≡ false
 no-block m e = rw e
-
--- no other mark is that of an export
-no-export : (m : ℕ) → eqb m (mark "Ed") ≡ false → itemKind m ≡ iExport → ⊥
-unfolding itemKind
-no-export m e q = chain (eqb m (mark "Im") || eqb m (mark "Op")) (eqb m (mark "St")) (eqb m (mark "Xd")) (eqb m (mark "Xe")) (rw e at q)
-  where
-    chain : (a b d x : Bool) → cond a iKept (cond b iDropped (cond d iDefault (cond x iDefaultExpr iDecl))) ≡ iExport → ⊥
-    chain true b d x q = let z : _≡_ {A = ℕ} 0 1 = cc in omega arith
-    chain false true d x q = let z : _≡_ {A = ℕ} 0 1 = cc in omega arith
-    chain false false true x q = let z : _≡_ {A = ℕ} 0 1 = cc in omega arith
-    chain false false false true q = let z : _≡_ {A = ℕ} 0 1 = cc in omega arith
-    chain false false false false q = let z : _≡_ {A = ℕ} 0 1 = cc in omega arith
-
--- ---- what the transform makes, by the mark
-
-module _ (list : List ℕ) (ctx : ℕ) (ty : Typing) (h : Head) (ks : Recs) where
-  item-space : (top : Bool) (n : ℕ) → h .mark ≡ mark "Ns" →
-      transformModuleItem list ctx ty (rec h ks) top n ≡ onValue (λ (ks : Recs). one (rec (declared top h) ks)) (nsParts list ctx ty ks n)
-  unfolding transformModuleItem itemBy transformModuleStmt declToTypeDecl
-  item-space top n e = rw (item-ns (h .mark) e, decl-ns (h .mark) e) refl
-
-  item-export : (top : Bool) (n : ℕ) → h .mark ≡ mark "Ed" → transformModuleItem list ctx ty (rec h ks) top n ≡ exported list ctx ty ks h top n
-  unfolding transformModuleItem itemBy
-  item-export top n e = rw (item-ed (h .mark) e) refl
-
-  body-block : (n : ℕ) → h .mark ≡ mark "Nb" → transformTsNsBody list ctx ty (rec h ks) n ≡ wrap h (transformModuleItems list ctx ty ks false n)
-  unfolding transformTsNsBody bodyBy
-  body-block n e = rw (body-nb (h .mark) e) refl
-
-  body-nested : (n : ℕ) → h .mark ≡ mark "Nd" → transformTsNsBody list ctx ty (rec h ks) n ≡ wrap h (nsParts list ctx ty ks n)
-  unfolding transformTsNsBody bodyBy
-  body-nested n e = rw (body-nd (h .mark) e) refl
-
-  body-other : (n : ℕ) → eqb (h .mark) (mark "Nb") ≡ false → eqb (h .mark) (mark "Nd") ≡ false → transformTsNsBody list ctx ty (rec h ks) n ≡ pure (rec h ks) n
-  unfolding transformTsNsBody bodyBy bodyKind
-  body-other n a b = rw (a, b) refl
-
-export-space : (list : List ℕ) (ctx : ℕ) (ty : Typing) (h dh : Head) (ks ops : Recs) (top : Bool) (n : ℕ) → dh .mark ≡ mark "Ns" →
-    exportedDecl list ctx ty (rec dh ks) h ops top n ≡ onValue (λ (ks : Recs). one (rec h (cons (rec (declared top dh) ks) ops))) (nsParts list ctx ty ks n)
-unfolding exportedDecl exportDecl declToTypeDecl
-export-space list ctx ty h dh ks ops top n s = rw (decl-ns (dh .mark) s) refl
 
 -- two steps, one after the other
 abbrev both : Out Recs → Out Recs → Out Recs
@@ -246,7 +187,7 @@ module _ (f : Head → Recs → Rec) where
       unfolding itemBy replacedItems
       made-plain iKept e export = one-plain ks
       made-plain iDropped e export = refl
-      made-plain iExport e export = absurd (no-export (h .mark) b e)
+      made-plain iExport e export = absurd (never (sym b ∙ eq-eqb _ _ (ed-mark (h .mark) e)))
       made-plain iDefault e export = default-plain _
       made-plain iDefaultExpr e export = expr-plain
       made-plain iDecl e export = stmt-plain _
@@ -279,16 +220,16 @@ module _ (f : Head → Recs → Rec) where
     unfolding replacedItems
     space-replaced h ks top n e p =
         ap (λ (r : Rec). transformModuleItem list ctx ty r top n) (replaced-space h ks e)
-        ∙ (item-space list ctx ty h (replacedParts f ks) top n e
+        ∙ (space-becomes list ctx ty (rec h (replacedParts f ks)) top n e
         ∙ (ap (onValue (λ (ks : Recs). one (rec (declared top h) ks))) p
         ∙ (ap (λ (r : Rec). onValue (λ (ks : Recs). one r) (nsParts list ctx ty ks n)) (sym (replaced-space (declared top h) (nsParts list ctx ty ks n .0) e))
-        ∙ ap (onValue (replacedItems f)) (sym (item-space list ctx ty h ks top n e)))))
+        ∙ ap (onValue (replacedItems f)) (sym (space-becomes list ctx ty (rec h ks) top n e)))))
 
     export-replaced : (h : Head) (ks : Recs) (top : Bool) (n : ℕ) → h .mark ≡ mark "Ed" → exported list ctx ty (replacedExported f ks) h top n ≡ onValue (replacedItems f) (exported list ctx ty ks h top n) →
         transformModuleItem list ctx ty (replacedItem f (rec h ks)) top n ≡ onValue (replacedItems f) (transformModuleItem list ctx ty (rec h ks) top n)
     export-replaced h ks top n e p =
         ap (λ (r : Rec). transformModuleItem list ctx ty r top n) (replaced-export h ks e)
-        ∙ (item-export list ctx ty h (replacedExported f ks) top n e ∙ (p ∙ ap (onValue (replacedItems f)) (sym (item-export list ctx ty h ks top n e))))
+        ∙ (export-becomes list ctx ty (rec h (replacedExported f ks)) top n e ∙ (p ∙ ap (onValue (replacedItems f)) (sym (export-becomes list ctx ty (rec h ks) top n e))))
 
     other-replaced : (h : Head) (ks : Recs) (top : Bool) (n : ℕ) → eqb (h .mark) (mark "Ns") ≡ false → eqb (h .mark) (mark "Ed") ≡ false →
         transformModuleItem list ctx ty (replacedItem f (rec h ks)) top n ≡ onValue (replacedItems f) (transformModuleItem list ctx ty (rec h ks) top n)
@@ -303,11 +244,11 @@ module _ (f : Head → Recs → Rec) where
     unfolding replacedItems
     held-replaced h dh ks ops top n e s p =
         ap (λ (d : Rec). exportedDecl list ctx ty d h ops top n) (decl-space dh ks s)
-        ∙ (export-space list ctx ty h dh (replacedParts f ks) ops top n s
+        ∙ (exported-becomes list ctx ty (rec dh (replacedParts f ks)) h ops top n s
         ∙ (ap (onValue (λ (ks : Recs). one (rec h (cons (rec (declared top dh) ks) ops)))) p
         ∙ (ap (λ (d : Rec). onValue (λ (ks : Recs). one (rec h (cons d ops))) (nsParts list ctx ty ks n)) (sym (decl-space (declared top dh) (nsParts list ctx ty ks n .0) s))
         ∙ (ap (λ (r : Rec). onValue (λ (ks : Recs). one r) (nsParts list ctx ty ks n)) (sym (replaced-export h (cons (rec (declared top dh) (nsParts list ctx ty ks n .0)) ops) e))
-        ∙ ap (onValue (replacedItems f)) (sym (export-space list ctx ty h dh ks ops top n s))))))
+        ∙ ap (onValue (replacedItems f)) (sym (exported-becomes list ctx ty (rec dh ks) h ops top n s))))))
 
     other-held-replaced : (h dh : Head) (ks ops : Recs) (top : Bool) (n : ℕ) → h .mark ≡ mark "Ed" → eqb (dh .mark) (mark "Ns") ≡ false →
         exportedDecl list ctx ty (replacedDecl f (rec dh ks)) h ops top n ≡ onValue (replacedItems f) (exportedDecl list ctx ty (rec dh ks) h ops top n)
@@ -320,10 +261,10 @@ module _ (f : Head → Recs → Rec) where
         transformTsNsBody list ctx ty (replacedBody f (rec h ks)) n ≡ onValue (replacedBody f) (transformTsNsBody list ctx ty (rec h ks) n)
     block-replaced h ks n e p =
         ap (λ (b : Rec). transformTsNsBody list ctx ty b n) (replaced-block h ks e)
-        ∙ (body-block list ctx ty h (replacedItems f ks) n e
+        ∙ (block-becomes list ctx ty (rec h (replacedItems f ks)) n e
         ∙ (ap (wrap h) p
         ∙ (ap (λ (b : Rec). onValue (λ (ks : Recs). b) (transformModuleItems list ctx ty ks false n)) (sym (replaced-block h (transformModuleItems list ctx ty ks false n .0) e))
-        ∙ ap (onValue (replacedBody f)) (sym (body-block list ctx ty h ks n e)))))
+        ∙ ap (onValue (replacedBody f)) (sym (block-becomes list ctx ty (rec h ks) n e)))))
 
     nested-replaced : (h : Head) (ks : Recs) (n : ℕ) → h .mark ≡ mark "Nd" → nsParts list ctx ty (replacedParts f ks) n ≡ onValue (replacedParts f) (nsParts list ctx ty ks n) →
         transformTsNsBody list ctx ty (replacedBody f (rec h ks)) n ≡ onValue (replacedBody f) (transformTsNsBody list ctx ty (rec h ks) n)
@@ -332,13 +273,13 @@ module _ (f : Head → Recs → Rec) where
         ∙ (steps list ctx ty h (replacedParts f ks) n
         ∙ (ap (onValue (f h)) p
         ∙ (ap (λ (b : Rec). onValue (λ (ks : Recs). b) (nsParts list ctx ty ks n)) (sym (replaced-nested h (nsParts list ctx ty ks n .0) e))
-        ∙ ap (onValue (replacedBody f)) (sym (body-nested list ctx ty h ks n e)))))
+        ∙ ap (onValue (replacedBody f)) (sym (nested-becomes list ctx ty (rec h ks) n e)))))
 
     other-body-replaced : (h : Head) (ks : Recs) (n : ℕ) → eqb (h .mark) (mark "Nb") ≡ false → eqb (h .mark) (mark "Nd") ≡ false →
         transformTsNsBody list ctx ty (replacedBody f (rec h ks)) n ≡ onValue (replacedBody f) (transformTsNsBody list ctx ty (rec h ks) n)
     other-body-replaced h ks n a b =
         ap (λ (b : Rec). transformTsNsBody list ctx ty b n) (body-plain h ks a b)
-        ∙ (body-other list ctx ty h ks n a b ∙ (ap (λ (b : Rec). pure b n) (sym (body-plain h ks a b)) ∙ ap (onValue (replacedBody f)) (sym (body-other list ctx ty h ks n a b))))
+        ∙ (other-becomes list ctx ty (rec h ks) n a b ∙ (ap (λ (b : Rec). pure b n) (sym (body-plain h ks a b)) ∙ ap (onValue (replacedBody f)) (sym (other-becomes list ctx ty (rec h ks) n a b))))
 
     mutual
       unfolding replacedItems transformModuleItems

@@ -23,7 +23,7 @@ use Rattle.definition.proofs.Texts.{bytes-none}
 use Rattle.definition.proofs.Fit.{weight, names, allNames, kid-names, Keys, AllKeys, kid-keys, Room, Sound, Fit, FitAll, Few, Given, Makes, one-made, none-made, at-most, fresh-sound, recount, reflag, flag1-fits, absent-fits, any-fits, over-two, ident-fits, kid-fits, setKid-fits, join-fits, gone-fits, rehead, all-few, pure-makes, more, onValue-makes, ifM-makes, orAny-makes, Step, each-makes, atKid-makes, wrap-makes, second-makes}
 use Rattle.definition.proofs.FitClasses.{TypesFit, typeOr-makes, eachIn-makes, function-makes, class-makes}
 use Rattle.definition.proofs.Counting.{records-bytes}
-use Rattle.definition.proofs.Twice.{xe-mark}
+use Rattle.definition.proofs.ItemKinds.{xe-mark}
 
 -- ---- never more names than records
 

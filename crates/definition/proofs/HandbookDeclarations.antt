@@ -1,4 +1,4 @@
--- Where declarations are those of the handbook: written types, overloads, enum members, namespaces.
+-- Where declarations are those of the handbook: types that are written stay as they are written.
 use mathlib.Core.Path.{_≡_, refl, sym, ap, _∙_, subst}
 use mathlib.Core.List.{List, []}
 use mathlib.Core.Bool.{Bool, true, false, _||_}
@@ -14,9 +14,10 @@ use Rattle.definition.specs.Record.{kidsOf, markOf, among, isNo, flagged
 use Rattle.definition.specs.Prescan.{PrescannedModuleIds}
 use Rattle.definition.specs.Typing.{xAs, xFn, xArrow, exprKind, exprBy, exprToTsType, arrowParams, fnParams, fnType, paramKind, paramBy, patToTsFnParam}
 use Rattle.definition.specs.Classes.{pIdent, pBox, patternKind, handleFuncParamIdent, handleFuncParamAssign, handlePatternBy, handlePattern, handleFuncParam, functionPart, handleFunction, propType, classProp}
-use Rattle.definition.specs.Items.{iDefault, iDecl, itemKind, dType, declKind, xFn as xFunction, xOther, defaultKind, declaratorPattern, declarator, withoutBody, declToTypeDecl, transformModuleStmt, exportDecl, exportDefaultDecl, itemBy, transformModuleItem}
+use Rattle.definition.specs.Items.{iDecl, itemKind, dType, declKind, xFn as xFunction, xOther, defaultKind, declaratorPattern, declarator, withoutBody, declToTypeDecl, transformModuleStmt, exportDecl, exportDefaultDecl, itemBy, transformModuleItem}
 use Rattle.definition.proofs.Handbook.{no-some}
-use Rattle.definition.proofs.SilenceModule.{either, item-ed}
+use Rattle.definition.proofs.ItemKinds.{kind-export, kind-default}
+use Rattle.definition.proofs.SilenceModule.{either}
 use Rattle.definition.specs.Handbook.{Annotated, aFirst, aSecond, aPattern, annotatedKind, annotationBy, annotation, annotationFirst}
 
 -- ---- written types stay as written
@@ -117,10 +118,6 @@ type-item m e = ⊎-elim (λ q. rw q) (λ q. rw q) (either m (mark "In") (mark "
 type-decl : (m : ℕ) → among "In Ty" m ≡ true → declKind m ≡ dType
 unfolding marks declKind
 type-decl m e = ⊎-elim (λ q. rw q) (λ q. rw q) (either m (mark "In") (mark "Ty") e)
-
-pub item-xd : (m : ℕ) → m ≡ mark "Xd" → itemKind m ≡ iDefault
-unfolding itemKind
-item-xd m e = rw e
 
 pub default-fx : (m : ℕ) → m ≡ mark "Fx" → defaultKind m ≡ xFunction
 unfolding defaultKind
@@ -291,7 +288,7 @@ module _ (ty : Typing) where
       ≡ one (rec h (cons (rec xh (cons name (cons g more))) ops)))
       × (annotation g ≡ some t)
   unfolding transformModuleItem itemBy exportDefaultDecl second
-  default-return-written list ctx h xh name f more ops t top n m x l k e = (withoutBody f n .0, rw (item-xd (h .mark) m, default-fx (xh .mark) x, l), default-return-kept f t n k e)
+  default-return-written list ctx h xh name f more ops t top n m x l k e = (withoutBody f n .0, rw (kind-default (h .mark) m, default-fx (xh .mark) x, l), default-return-kept f t n k e)
 
   -- interfaces and type aliases pass, alone, exported, and as default
   pub types-pass : (list : List ℕ) (ctx : ℕ) (r : Rec) (top : Bool) (n : ℕ) → among "In Ty" (markOf r) ≡ true → transformModuleItem list ctx ty r top n ≡ (one r, [], n)
@@ -301,12 +298,12 @@ module _ (ty : Typing) where
   pub exported-types-pass : (list : List ℕ) (ctx : ℕ) (h : Head) (d : Rec) (ops : Recs) (top : Bool) (n : ℕ) → h .mark ≡ mark "Ed" → among "In Ty" (markOf d) ≡ true →
       transformModuleItem list ctx ty (rec h (cons d ops)) top n ≡ (one (rec h (cons d ops)), [], n)
   unfolding transformModuleItem itemBy exportDecl declToTypeDecl
-  exported-types-pass list ctx h (rec dh ks) ops top n m e = rw (item-ed (h .mark) m, type-decl (dh .mark) e)
+  exported-types-pass list ctx h (rec dh ks) ops top n m e = rw (kind-export (h .mark) m, type-decl (dh .mark) e)
 
   pub default-interface-passes : (list : List ℕ) (ctx : ℕ) (r : Rec) (top : Bool) (n : ℕ) → markOf r ≡ mark "Xd" → markOf (kid 0 (kidsOf r)) ≡ mark "In" →
       transformModuleItem list ctx ty r top n ≡ (one r, [], n)
   unfolding transformModuleItem itemBy exportDefaultDecl
-  default-interface-passes list ctx (rec h ks) top n m e = rw (item-xd (h .mark) m, default-in (markOf (kid 0 ks)) e)
+  default-interface-passes list ctx (rec h ks) top n m e = rw (kind-default (h .mark) m, default-in (markOf (kid 0 ks)) e)
 
 module _ (ids : PrescannedModuleIds) (ctx : ℕ) where
   -- "as": what is asserted is the type

@@ -11,9 +11,9 @@ use Rattle.definition.specs.Items.{itemKind, declKind, bodyKind, declare
 use Rattle.definition.specs.Transform.{transform}
 use Rattle.definition.specs.Dotted.{replacedItems}
 use Rattle.definition.specs.Handbook.{spaceWithin, withoutDots}
-use Rattle.definition.proofs.SilenceModule.{item-ed}
+use Rattle.definition.proofs.ItemKinds.{kind-export, kind-module, kind-block, kind-nested, module-item}
 use Rattle.definition.proofs.Twice.{declared-twice}
-use Rattle.definition.proofs.Dotted.{item-ns, decl-ns, body-nb, body-nd, replaced-agree}
+use Rattle.definition.proofs.Dotted.{replaced-agree}
 use Rattle.definition.proofs.SmallTrees.{node, two, op, module-of}
 
 -- ---- one namespace
@@ -24,20 +24,20 @@ module _ (list : List ℕ) (ctx : ℕ) (ty : Typing) where
       transformModuleItem list ctx ty (rec h (cons name (cons (rec bh ks) ops))) top n
       ≡ onValue (λ (items : Recs). one (rec (declared top h) (cons name (cons (rec bh items) ops)))) (transformModuleItems list ctx ty ks false n)
   unfolding transformModuleItem itemBy transformModuleStmt declToTypeDecl bodyBy
-  namespace-agrees h bh name ks ops top n m b = rw (item-ns (h .mark) m, decl-ns (h .mark) m, body-nb (bh .mark) b)
+  namespace-agrees h bh name ks ops top n m b = rw (module-item (h .mark) m, kind-module (h .mark) m, kind-block (bh .mark) b)
 
   pub exported-namespace-agrees : (eh h bh : Head) (name : Rec) (ks ops more : Recs) (top : Bool) (n : ℕ) → eh .mark ≡ mark "Ed" → h .mark ≡ mark "Ns" → bh .mark ≡ mark "Nb" →
       transformModuleItem list ctx ty (rec eh (cons (rec h (cons name (cons (rec bh ks) ops))) more)) top n
       ≡ onValue (λ (items : Recs). one (rec eh (cons (rec (declared top h) (cons name (cons (rec bh items) ops))) more))) (transformModuleItems list ctx ty ks false n)
   unfolding transformModuleItem itemBy exportDecl declToTypeDecl bodyBy
-  exported-namespace-agrees eh h bh name ks ops more top n e m b = rw (item-ed (eh .mark) e, decl-ns (h .mark) m, body-nb (bh .mark) b)
+  exported-namespace-agrees eh h bh name ks ops more top n e m b = rw (kind-export (eh .mark) e, kind-module (h .mark) m, kind-block (bh .mark) b)
 
   -- `Ns(a, Nd(b, body))`: both names stay, and the body is transformed
   pub dotted-agrees : (h nh : Head) (a b body : Rec) (more ops : Recs) (top : Bool) (n : ℕ) → h .mark ≡ mark "Ns" → nh .mark ≡ mark "Nd" →
       transformModuleItem list ctx ty (rec h (cons a (cons (rec nh (cons b (cons body more))) ops))) top n
       ≡ onValue (λ (made : Rec). one (rec (declared top h) (cons a (cons (rec nh (cons b (cons made more))) ops)))) (transformTsNsBody list ctx ty body n)
   unfolding transformModuleItem itemBy transformModuleStmt declToTypeDecl bodyBy
-  dotted-agrees h nh a b body more ops top n m d = rw (item-ns (h .mark) m, decl-ns (h .mark) m, body-nd (nh .mark) d)
+  dotted-agrees h nh a b body more ops top n m d = rw (module-item (h .mark) m, kind-module (h .mark) m, kind-nested (nh .mark) d)
 
   -- `Ns(a, Nb(Ed(Ns(b, body))))`: the same, name for name, "but for the Ed, its range and flag 1"
   pub nested-agrees : (h bh eh sh : Head) (a b body : Rec) (more ops : Recs) (top : Bool) (n : ℕ) → h .mark ≡ mark "Ns" → bh .mark ≡ mark "Nb" → eh .mark ≡ mark "Ed" → sh .mark ≡ mark "Ns" →
@@ -45,7 +45,7 @@ module _ (list : List ℕ) (ctx : ℕ) (ty : Typing) where
       ≡ onValue (λ (made : Rec). one (rec (declared top h) (cons a (cons (rec bh (one (rec eh (one (rec (declared false sh) (cons b (cons made more))))))) ops)))) (transformTsNsBody list ctx ty body n)
   unfolding transformModuleItem itemBy transformModuleStmt exportDecl declToTypeDecl bodyBy
   nested-agrees h bh eh sh a b body more ops top n m p e s =
-      rw (item-ns (h .mark) m, decl-ns (h .mark) m, body-nb (bh .mark) p, item-ed (eh .mark) e, decl-ns (sh .mark) s)
+      rw (module-item (h .mark) m, kind-module (h .mark) m, kind-block (bh .mark) p, kind-export (eh .mark) e, kind-module (sh .mark) s)
       (ap (λ (ds : List Diag). (one (rec (declared top h) (cons a (cons (rec bh (one (rec eh (one (rec (declared false sh) (cons b (cons (transformTsNsBody list ctx ty body n .0) more))))))) ops))), ds, transformTsNsBody list ctx ty body n .2))
       (append-nil (transformTsNsBody list ctx ty body n .1)))
 

@@ -14,10 +14,6 @@ use Rattle.definition.specs.Record.{headOf, kidsOf, markOf, is, among, i
 use Rattle.definition.specs.Classes.{handleFunction, constructorPart, constructor, method, propType, propFlags, classProp, memberKind, memberBy, member}
 use Rattle.definition.specs.Names.{validPropName}
 use Rattle.definition.specs.Items.{
-  iDecl,
-  itemKind,
-  dFn,
-  declKind,
   declToTypeDecl,
   transformModuleStmt,
   exportDecl,
@@ -27,8 +23,9 @@ use Rattle.definition.specs.Items.{
   transformModuleItem,
 }
 use Rattle.definition.proofs.Tests.{and-true}
-use Rattle.definition.proofs.HandbookDeclarations.{item-xd, default-fx}
-use Rattle.definition.proofs.SilenceModule.{member-co, member-me, item-ed}
+use Rattle.definition.proofs.HandbookDeclarations.{default-fx}
+use Rattle.definition.proofs.ItemKinds.{kind-export, kind-default, kind-fn, fn-item}
+use Rattle.definition.proofs.SilenceModule.{member-co, member-me}
 use Rattle.definition.specs.Handbook.{functionIn, bodyOf, sameName, implements, implementsMethod, implementsConstructor, implementsMember, visible, Names}
 
 -- ---- tests
@@ -40,16 +37,6 @@ or-true false b f g e = g e
 not-true : (a : Bool) → not a ≡ true → a ≡ false
 not-true true e = absurd (let z : _≡_ {A = ℕ} 0 1 = cc in omega arith)
 not-true false e = refl
-
--- ---- kinds
-
-item-fd : (m : ℕ) → m ≡ mark "Fd" → itemKind m ≡ iDecl
-unfolding itemKind
-item-fd m e = rw e
-
-decl-fd : (m : ℕ) → m ≡ mark "Fd" → declKind m ≡ dFn
-unfolding declKind
-decl-fd m e = rw e
 
 -- ---- items
 
@@ -105,15 +92,15 @@ module _ (list : List ℕ) (ctx : ℕ) (ty : Typing) where
   -- of an item that declares a function nothing is left if its range is listed, and one item if it is not
   listed-hidden : {r : Rec} → Declares r → (top : Bool) (n : ℕ) → listed list (headOf r) ≡ true → transformModuleItem list ctx ty r top n ≡ (nil, [], n)
   unfolding transformModuleItem itemBy transformModuleStmt exportDecl exportDefaultDecl
-  listed-hidden (bare {h} m) top n l = rw (item-fd (h .mark) m, decl-fd (h .mark) m, l)
-  listed-hidden (exported {h} {dh} m d) top n l = rw (item-ed (h .mark) m, decl-fd (dh .mark) d, l)
-  listed-hidden (default {h} {ks} m d) top n l = rw (item-xd (h .mark) m, default-fx (markOf (kid 0 ks)) d, l)
+  listed-hidden (bare {h} m) top n l = rw (fn-item (h .mark) m, kind-fn (h .mark) m, l)
+  listed-hidden (exported {h} {dh} m d) top n l = rw (kind-export (h .mark) m, kind-fn (dh .mark) d, l)
+  listed-hidden (default {h} {ks} m d) top n l = rw (kind-default (h .mark) m, default-fx (markOf (kid 0 ks)) d, l)
 
   unlisted-declared : {r : Rec} → Declares r → (top : Bool) (n : ℕ) → listed list (headOf r) ≡ false → count (transformModuleItem list ctx ty r top n .0) ≡ 1
   unfolding transformModuleItem itemBy transformModuleStmt exportDecl exportDefaultDecl declToTypeDecl
-  unlisted-declared (bare {h} m) top n l = rw (item-fd (h .mark) m, decl-fd (h .mark) m, l)
-  unlisted-declared (exported {h} {dh} m d) top n l = rw (item-ed (h .mark) m, decl-fd (dh .mark) d, l)
-  unlisted-declared (default {h} {ks} m d) top n l = rw (item-xd (h .mark) m, default-fx (markOf (kid 0 ks)) d, l)
+  unlisted-declared (bare {h} m) top n l = rw (fn-item (h .mark) m, kind-fn (h .mark) m, l)
+  unlisted-declared (exported {h} {dh} m d) top n l = rw (kind-export (h .mark) m, kind-fn (dh .mark) d, l)
+  unlisted-declared (default {h} {ks} m d) top n l = rw (kind-default (h .mark) m, default-fx (markOf (kid 0 ks)) d, l)
 
   pub function-hidden : (r : Rec) (top : Bool) (n : ℕ) → isNo (functionIn r) ≡ false → listed list (headOf r) ≡ true → transformModuleItem list ctx ty r top n ≡ (nil, [], n)
   function-hidden r top n f l = listed-hidden (declares r f) top n l

@@ -6,6 +6,7 @@ pub mod Converse
 pub mod Children
 pub mod Kids
 pub mod Walk
+pub mod ItemKinds
 pub mod Counting
 pub mod CountingItems
 pub mod Marked

@@ -35,7 +35,6 @@ use Rattle.definition.specs.Classes.{
   class,
 }
 use Rattle.definition.specs.Items.{
-  iExport,
   iDecl,
   itemKind,
   Decl,
@@ -45,7 +44,6 @@ use Rattle.definition.specs.Items.{
   dModule,
   declKind,
   defaultKind,
-  bodyKind,
   declaratorPattern,
   declarator,
   exportOf,
@@ -56,7 +54,6 @@ use Rattle.definition.specs.Items.{
   exportDefaultDecl,
   exportDefaultExpr,
   itemBy,
-  bodyBy,
   transformModuleItems,
   transformModuleItem,
   exported,
@@ -66,6 +63,7 @@ use Rattle.definition.specs.Items.{
 use Rattle.definition.specs.Transform.{transformBy, transform}
 use Rattle.definition.specs.Silence.{OneOf, here, there, Piece, Given, Told, now, Meets}
 use Rattle.definition.specs.Typed.{InPattern, InParam, InFunction, InMember, InClass, InDecl, InBody, InItem}
+use Rattle.definition.proofs.ItemKinds.{kind-export, block-becomes, nested-becomes}
 use Rattle.definition.proofs.Silence.{piece-whole, piece-left, piece-right, piece-of, orAny-piece, told-more, no-silence}
 
 -- one of two marks
@@ -97,10 +95,6 @@ member-me m e = rw e
 member-cp : (m : ℕ) → m ≡ mark "Cp" → memberKind m ≡ mProp
 unfolding memberKind
 member-cp m e = rw e
-
-pub item-ed : (m : ℕ) → m ≡ mark "Ed" → itemKind m ≡ iExport
-unfolding itemKind
-item-ed m e = rw e
 
 module _ (ty : Typing) where
   -- the diagnostics of some typing of e are among ds
@@ -259,14 +253,10 @@ module _ (ty : Typing) where
     namespace-says h name b ops top n e =
         ap (λ (m : ℕ). declToTypeDecl list ctx ty (declKind m) h (cons name (cons b ops)) top (λ n. nsParts list ctx ty (cons name (cons b ops)) n) n .1) e
 
-    block-says : (h : Head) (ks : Recs) (n : ℕ) → h .mark ≡ mark "Nb" → transformTsNsBody list ctx ty (rec h ks) n .1 ≡ transformModuleItems list ctx ty ks false n .1
-    unfolding transformTsNsBody bodyBy bodyKind
-    block-says h ks n e = rw e
-
     nested-says : (h : Head) (name b : Rec) (ops : Recs) (n : ℕ) → h .mark ≡ mark "Nd" →
         transformTsNsBody list ctx ty (rec h (cons name (cons b ops))) n .1 ≡ transformTsNsBody list ctx ty b n .1
-    unfolding transformTsNsBody bodyBy bodyKind
-    nested-says h name b ops n e = rw e
+    unfolding nsParts
+    nested-says h name b ops n e = ap (λ (o : Out Rec). o .1) (nested-becomes list ctx ty (rec h (cons name (cons b ops))) n e)
 
     items-piece : {i : Rec} {ks : Recs} → OneOf i ks → (top : Bool) (n : ℕ) →
         (m : ℕ) × Piece (transformModuleItem list ctx ty i top m .1) (transformModuleItems list ctx ty ks top n .1)
@@ -290,7 +280,7 @@ module _ (ty : Typing) where
     exported-piece : (h : Head) (d : Rec) (ops : Recs) (top : Bool) (n : ℕ) → h .mark ≡ mark "Ed" → Marked (markOf d) → (markOf d ≡ mark "Fd" → listed list h ≡ false) →
         Piece (declares d top n .1) (transformModuleItem list ctx ty (rec h (cons d ops)) top n .1)
     unfolding transformModuleItem itemBy
-    exported-piece h (rec dh ks) ops top n e m f = rw (item-ed (h .mark) e) (export-says dh ks top (λ n. nsParts list ctx ty ks n) n h ops (m .decl) (λ k. f (m .function k)))
+    exported-piece h (rec dh ks) ops top n e m f = rw (kind-export (h .mark) e) (export-says dh ks top (λ n. nsParts list ctx ty ks n) n h ops (m .decl) (λ k. f (m .function k)))
 
     default-class-says : (h xh : Head) (i cl : Rec) (ops more : Recs) (top : Bool) (n : ℕ) → h .mark ≡ mark "Xd" → xh .mark ≡ mark "Cx" →
         transformModuleItem list ctx ty (rec h (cons (rec xh (cons i (cons cl more))) ops)) top n .1 ≡ class list ctx ty cl n .1
@@ -314,7 +304,7 @@ module _ (ty : Typing) where
       in-body : {e b : Rec} {r : Bool} → InBody list ctx e r b → (n : ℕ) → Heard e r (transformTsNsBody list ctx ty b n .1)
       in-body (InBody.block {h} {ks} i k m w) n =
           let p = items-piece m false n in
-          rw (block-says h ks n k) (heard-more (in-item w false (p .0)) (p .1))
+          rw (block-becomes list ctx ty (rec h ks) n k) (heard-more (in-item w false (p .0)) (p .1))
       in-body (InBody.nested {h} {name} {b} {ops} k w) n = rw (nested-says h name b ops n k) (in-body w n)
 
       in-item : {e i : Rec} {r : Bool} → InItem list ctx e r i → (top : Bool) (n : ℕ) → Heard e r (transformModuleItem list ctx ty i top n .1)

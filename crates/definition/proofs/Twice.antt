@@ -1,7 +1,7 @@
 -- A second pass changes nothing: enums, variables, declarations, items, namespaces, modules. `twice` is demand 3 on trees.
 use mathlib.Core.Path.{_≡_, refl, ap, ap₂, sym, _∙_}
 use mathlib.Core.List.{List, [], _∷_}
-use mathlib.Core.Bool.{Bool, true, false, true≢false, cond, _||_, _&&_}
+use mathlib.Core.Bool.{Bool, true, false, true≢false, _||_, _&&_}
 use mathlib.Core.Option.{Option, none, some}
 use Prim.Native.Nat.{ℕ, zero, suc, _+_, _/_}
 use native.Mathlib.Omega.{arith}
@@ -72,31 +72,9 @@ use Rattle.definition.specs.Items.{
 }
 use Rattle.definition.specs.Transform.{transformBy}
 use Rattle.definition.specs.Demand3.{ExportsIds, AllExportIds, SpacesExportIds, AllSpacesExportIds}
+use Rattle.definition.proofs.ItemKinds.{xe-mark, nb-mark}
 use Rattle.definition.proofs.Stable.{Stable, Typed, orAny-there, each-stable, atKid-stable, second-stable, join-assoc, gone-gone, typeOr-stable, function-stable}
 use Rattle.definition.proofs.StableMembers.{class-stable}
-
--- ---- marks
-
-xe-chain : (a b c d e : Bool) → cond a iKept (cond b iDropped (cond c iExport (cond d iDefault (cond e iDefaultExpr iDecl)))) ≡ iDefaultExpr → e ≡ true
-xe-chain true b c d e q = cc
-xe-chain false true c d e q = cc
-xe-chain false false true d e q = cc
-xe-chain false false false true e q = cc
-xe-chain false false false false true q = refl
-xe-chain false false false false false q = cc
-
-pub xe-mark : (m : ℕ) → itemKind m ≡ iDefaultExpr → m ≡ mark "Xe"
-unfolding itemKind
-xe-mark m q = eqb-true m (mark "Xe") (xe-chain (eqb m (mark "Im") || eqb m (mark "Op")) (eqb m (mark "St")) (eqb m (mark "Ed")) (eqb m (mark "Xd")) (eqb m (mark "Xe")) q)
-
-nb-chain : (a b : Bool) → cond a bBlock (cond b bNested bOther) ≡ bBlock → a ≡ true
-nb-chain true b q = refl
-nb-chain false true q = cc
-nb-chain false false q = cc
-
-nb-mark : (m : ℕ) → bodyKind m ≡ bBlock → m ≡ mark "Nb"
-unfolding bodyKind
-nb-mark m q = eqb-true m (mark "Nb") (nb-chain (eqb m (mark "Nb")) (eqb m (mark "Nd")) q)
 
 -- ---- heads
 

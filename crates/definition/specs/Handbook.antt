@@ -1,7 +1,8 @@
 -- What the TypeScript handbook says of declarations, as definitions on trees: types of literals, const assertions, written types, overloads, enum
 -- members, namespaces. Written from the handbook and not from the Rust. With the definitions of the transform they share Tree, Grammar and Record:
 -- the parts of a record, how one is made afresh, and whether its range is in the overload list (`listed`); nothing of Helpers, Prescan, Names,
--- Typing, Classes, Enums and Items. What stands in place of each Nd is put there by `replaced` (Dotted). Each is for a fragment of the language and gives none, or false, outside it.
+-- Typing, Classes, Enums and Items. What stands in place of each Nd is put there by `replaced` (Dotted). Each is for a fragment of the language and
+-- gives none, or false, outside it.
 use Prim.Native.Nat.{ℕ, _+_, _%_}
 use Prim.Native.String.{String}
 use mathlib.Core.Path.{_≡_}

@@ -1,8 +1,8 @@
--- The scope of an item, the children of declarations, and which kind of item a mark is.
+-- The children of an Ed, what a test tells of a mark, whether a declaration is a function, and an item that is kept.
 use mathlib.Core.Path.{_≡_, refl, sym, ap, _∙_, subst}
 use mathlib.Core.List.{List}
 use mathlib.Core.Bool.{Bool, true, false, cond, _&&_}
-use mathlib.Core.Logic.{_⊎_, inl, inr, ⊎-elim}
+use mathlib.Core.Logic.{_⊎_}
 use Prim.Native.Nat.{ℕ, _-_, _≤_, _<_}
 use mir.Syntax.{w8}
 use mir.Val
@@ -11,10 +11,9 @@ use lib.ListN.{getD}
 use borrow.Author.Tests.{eq-eqb, ne-eqb, eqb-true}
 use Rattle.definition.specs.Tree.{Rec, Recs, count, markAt, bodyAt, headAt, endAt, treeAt}
 use Rattle.definition.specs.Grammar.{mark, known}
-use Rattle.definition.specs.Check.{deepest}
 use Rattle.definition.specs.Children.{AcceptedAt}
-use Rattle.definition.specs.Record.{markOf, is, one, listed, Out, pure}
-use Rattle.definition.specs.Items.{iKept, iDropped, iExport, iDefault, iDefaultExpr, iDecl, itemKind, Decl, dClass, dFn, dVar, dEnum, dModule, dUsing, dType, declKind, bBlock, bNested, bOther, bodyKind}
+use Rattle.definition.specs.Record.{markOf, one, listed, Out, pure}
+use Rattle.definition.specs.Items.{Decl, dClass, dFn, dVar, dEnum, dModule, dUsing, dType, declKind}
 use Rattle.definition.proofs.Children.{others}
 use Rattle.definition.proofs.Kids.{mark-is, has}
 use Rattle.definition.proofs.Places.{count-small as head-count-small}
@@ -22,17 +21,13 @@ use Rattle.records.specs.declared.Head.{Head as Fields}
 use Rattle.records.specs.Fields.{fieldsAt}
 use Rattle.records.specs.Wrote.{highest}
 use Rattle.records.proofs.Whole.{slice-bytes}
-use Rattle.prescan.specs.declared.Scope.{Scope}
 use Rattle.typing.specs.declared.State.{State}
 use Rattle.typing.specs.declared.Counted.{Counted}
-use Rattle.typing.specs.Did.{Ready}
 use Rattle.typing.specs.Below.{MakesCounted}
 use Rattle.parts.specs.Makes.{Keeps}
 use Rattle.typing.proofs.Whole.{gives-as}
 use Rattle.parts.proofs.Kids.{One, kids-one}
 use Rattle.parts.proofs.Makes.{makes-keeps, gives-one}
-use Rattle.classes.specs.Typings.{ReadyAll}
-use Rattle.items.specs.Steps.{itemOf}
 
 -- ---- the children
 
@@ -62,73 +57,6 @@ module _ (list tree : List ℕ) (at decl : ℕ) {m : ℕ} (e : m ≡ markAt tree
 
   pub goes-if : m ≡ mark "Fd" → {b : Bool} → b ≡ listed list (headAt tree at) → b ≡ (eqb (markAt tree decl) (mark "Fd") && listed list (headAt tree at))
   goes-if q f = f ∙ ap (λ (x : Bool). x && listed list (headAt tree at)) (sym (eq-eqb (markAt tree decl) (mark "Fd") (sym e ∙ q)))
-
--- ---- kinds by their marks
-
-module _ (m : ℕ) where
-  pub kind-kept : (m ≡ mark "Im") ⊎ (m ≡ mark "Op") → itemKind m ≡ iKept
-  unfolding itemKind
-  kind-kept = ⊎-elim (λ e. rw e) (λ e. rw e)
-
-  pub kind-dropped : m ≡ mark "St" → itemKind m ≡ iDropped
-  unfolding itemKind
-  kind-dropped e = rw e
-
-  pub kind-export : m ≡ mark "Ed" → itemKind m ≡ iExport
-  unfolding itemKind
-  kind-export e = rw e
-
-  pub kind-default : m ≡ mark "Xd" → itemKind m ≡ iDefault
-  unfolding itemKind
-  kind-default e = rw e
-
-  pub kind-expr : m ≡ mark "Xe" → itemKind m ≡ iDefaultExpr
-  unfolding itemKind
-  kind-expr e = rw e
-
-  pub kind-decl : ((m ≡ mark "Im") ⊎ (m ≡ mark "Op") → ⊥) → (m ≡ mark "St" → ⊥) → (m ≡ mark "Ed" → ⊥) → (m ≡ mark "Xd" → ⊥) → (m ≡ mark "Xe" → ⊥) → itemKind m ≡ iDecl
-  unfolding itemKind
-  kind-decl a b c d e = rw (ne-eqb _ _ (λ q. a (inl q)), ne-eqb _ _ (λ q. a (inr q)), ne-eqb _ _ b, ne-eqb _ _ c, ne-eqb _ _ d, ne-eqb _ _ e)
-
-  pub kind-class : m ≡ mark "Cd" → declKind m ≡ dClass
-  unfolding declKind
-  kind-class e = rw e
-
-  pub kind-fn : m ≡ mark "Fd" → declKind m ≡ dFn
-  unfolding declKind
-  kind-fn e = rw e
-
-  pub kind-var : m ≡ mark "Vd" → declKind m ≡ dVar
-  unfolding declKind
-  kind-var e = rw e
-
-  pub kind-enum : m ≡ mark "En" → declKind m ≡ dEnum
-  unfolding declKind
-  kind-enum e = rw e
-
-  pub kind-module : m ≡ mark "Ns" → declKind m ≡ dModule
-  unfolding declKind
-  kind-module e = rw e
-
-  pub kind-using : m ≡ mark "Us" → declKind m ≡ dUsing
-  unfolding declKind
-  kind-using e = rw e
-
-  pub kind-type : (m ≡ mark "Cd" → ⊥) → (m ≡ mark "Fd" → ⊥) → (m ≡ mark "Vd" → ⊥) → (m ≡ mark "En" → ⊥) → (m ≡ mark "Ns" → ⊥) → (m ≡ mark "Us" → ⊥) → declKind m ≡ dType
-  unfolding declKind
-  kind-type a b c d e f = rw (ne-eqb _ _ a, ne-eqb _ _ b, ne-eqb _ _ c, ne-eqb _ _ d, ne-eqb _ _ e, ne-eqb _ _ f)
-
-  pub kind-block : m ≡ mark "Nb" → bodyKind m ≡ bBlock
-  unfolding bodyKind
-  kind-block e = rw e
-
-  pub kind-nested : m ≡ mark "Nd" → bodyKind m ≡ bNested
-  unfolding bodyKind
-  kind-nested e = rw e
-
-  pub kind-other : (m ≡ mark "Nb" → ⊥) → (m ≡ mark "Nd" → ⊥) → bodyKind m ≡ bOther
-  unfolding bodyKind
-  kind-other a b = rw (ne-eqb _ _ a, ne-eqb _ _ b)
 
 -- whether a declaration is a function
 abbrev pub isFn : Decl → Bool

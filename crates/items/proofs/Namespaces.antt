@@ -1,18 +1,20 @@
 -- The body of a namespace.
-use mathlib.Core.Path.{_≡_, refl, sym, ap, _∙_, subst}
+use mathlib.Core.Path.{_≡_, sym, ap, _∙_, subst}
 use mathlib.Core.List.{List}
 use mathlib.Core.Bool.{true, false}
 use Prim.Native.Nat.{ℕ, _+_, _-_}
 use mir.Syntax.{w8}
 use mir.Val
 use lib.ListN.{length, getD}
-use Rattle.definition.specs.Tree.{Head, Rec, Recs, rec, headSize, markAt, lengthAt, countAt, bodyAt, headAt, treeAt}
+use borrow.Author.Tests.{ne-eqb}
+use Rattle.definition.specs.Tree.{Head, Rec, Recs, headSize, markAt, lengthAt, countAt, bodyAt, headAt, treeAt}
 use Rattle.definition.specs.Grammar.{mark, known}
 use Rattle.definition.specs.Children.{AcceptedAt}
 use Rattle.definition.specs.Record.{headOf, kidsOf, markOf, withFlags, Out, pure, wrap, atKid}
-use Rattle.definition.specs.Items.{Body, bBlock, bNested, bOther, bodyKind, bodyBy, nsParts, transformTsNsBody}
+use Rattle.definition.specs.Items.{nsParts}
 use Rattle.definition.proofs.Children.{tree-is}
 use Rattle.definition.proofs.Kids.{mark-is, flags-is, text-length}
+use Rattle.definition.proofs.ItemKinds.{block-becomes, nested-becomes, other-becomes}
 use Rattle.records.specs.declared.Head.{Head as Fields}
 use Rattle.records.specs.Fields.{fieldsAt}
 use Rattle.records.specs.Wrote.{sat}
@@ -30,43 +32,19 @@ use Rattle.parts.proofs.Framing.{two-kids, makes-second}
 use Rattle.parts.proofs.Makes.{makes-as, makes-front-last}
 use Rattle.classes.specs.Typings.{typingOf}
 use Rattle.items.specs.Steps.{recordsAt, withBody, itemsOf, bodyOf}
-use Rattle.items.proofs.Exports.{whole}
-use Rattle.items.proofs.ItemKinds.{kind-block, kind-nested, kind-other}
 
 -- ---- the body of a namespace
 
-body-rec : (list tree : List ℕ) (scope : Scope) (r : Rec) (n : ℕ)
-    → bodyBy list (scope .unresolved) (typingOf tree scope) (bodyKind (markOf r)) (headOf r) (kidsOf r) (λ n. itemsOf list tree scope false (kidsOf r) n) (λ n. nsParts list (scope .unresolved) (typingOf tree scope) (kidsOf r) n) n
-    ≡ bodyOf list tree scope r n
-unfolding transformTsNsBody
-body-rec list tree scope (rec h ks) n = refl
-
-module _ (list tree : List ℕ) (scope : Scope) (r : Rec) (n : ℕ) where
-  body-by : (k : Body) → bodyKind (markOf r) ≡ k
-      → bodyBy list (scope .unresolved) (typingOf tree scope) k (headOf r) (kidsOf r) (λ n. itemsOf list tree scope false (kidsOf r) n) (λ n. nsParts list (scope .unresolved) (typingOf tree scope) (kidsOf r) n) n
-      ≡ bodyOf list tree scope r n
-  body-by k e =
-      ap (λ (k : Body). bodyBy list (scope .unresolved) (typingOf tree scope) k (headOf r) (kidsOf r) (λ n. itemsOf list tree scope false (kidsOf r) n) (λ n. nsParts list (scope .unresolved) (typingOf tree scope) (kidsOf r) n) n)
-      (sym e) ∙ body-rec list tree scope r n
-
-  body-block : markOf r ≡ mark "Nb" → wrap (headOf r) (itemsOf list tree scope false (kidsOf r) n) ≡ bodyOf list tree scope r n
-  unfolding bodyBy
-  body-block m = body-by bBlock (kind-block (markOf r) m)
-
-  body-nested : markOf r ≡ mark "Nd" → wrap (headOf r) (nsParts list (scope .unresolved) (typingOf tree scope) (kidsOf r) n) ≡ bodyOf list tree scope r n
-  unfolding bodyBy
-  body-nested m = body-by bNested (kind-nested (markOf r) m)
-
-  pub body-other : (markOf r ≡ mark "Nb" → ⊥) → (markOf r ≡ mark "Nd" → ⊥) → pure r n ≡ bodyOf list tree scope r n
-  unfolding bodyBy
-  body-other a b = ap (λ (r : Rec). pure r n) (sym (whole r)) ∙ body-by bOther (kind-other (markOf r) a b)
+-- what is no Nb and no Nd stays
+pub body-other : (list tree : List ℕ) (scope : Scope) (r : Rec) (n : ℕ) → (markOf r ≡ mark "Nb" → ⊥) → (markOf r ≡ mark "Nd" → ⊥) → pure r n ≡ bodyOf list tree scope r n
+body-other list tree scope r n a b = sym (other-becomes list (scope .unresolved) (typingOf tree scope) r n (ne-eqb _ _ a) (ne-eqb _ _ b))
 
 -- an Nd: the flags that were read are its own
 pub nested-is : (list tree : List ℕ) (scope : Scope) (levels at n : ℕ) {h : Fields} → h ≡ fieldsAt tree at → markAt tree at ≡ mark "Nd"
     → withBody list tree scope (h .flags) (treeAt levels tree at) n ≡ bodyOf list tree scope (treeAt levels tree at) n
 nested-is list tree scope levels at n e m =
     ap (λ (f : ℕ). withBody list tree scope f (treeAt levels tree at) n) (ap (λ (x : Fields). x .flags) e ∙ sym (flags-is levels tree at))
-    ∙ body-nested list tree scope (treeAt levels tree at) n (mark-is levels tree at ∙ m)
+    ∙ sym (nested-becomes list (scope .unresolved) (typingOf tree scope) (treeAt levels tree at) n (mark-is levels tree at ∙ m))
 
 -- the children of an Ns or an Nd
 pub body-made : (list tree : List ℕ) (scope : Scope) (flags : ℕ) {levels at : ℕ} {o o1 o2 o3 o4 g g' : List ℕ} {s s2 s' : State} {f f1 f2 : Frame} → Begun levels tree at (withFlags (headOf (treeAt levels tree at)) flags) o o1 s f
@@ -100,4 +78,4 @@ block-made list tree scope levels at a known m {o} {o1} {o2} {g} {g'} s {s2} {ma
     subst (λ (q : ℕ). MakesAll o o1 g g' (movedTo s q) (made .s) items) (y ∙ ap (sat (s .written)) k) (record { step = w1 .step }) in
     let v' : Writes o1 o2 s s2 (frontBytes H (made .count)) true = front-same tree at (made .count) e v in
     makes-as (makes-front-last s H {y = items} w2 v' (w1 .many) (head-short levels tree at a known))
-    (ap (λ (r : Rec). wrap (headOf r) (itemsOf list tree scope false (kidsOf r) (s .counter))) (sym (tree-is levels tree at a)) ∙ body-block list tree scope (treeAt levels tree at) (s .counter) (mark-is levels tree at ∙ m))
+    (ap (λ (r : Rec). wrap (headOf r) (itemsOf list tree scope false (kidsOf r) (s .counter))) (sym (tree-is levels tree at a)) ∙ sym (block-becomes list (scope .unresolved) (typingOf tree scope) (treeAt levels tree at) (s .counter) (mark-is levels tree at ∙ m)))

@@ -18,8 +18,8 @@ use Rattle.definition.specs.Record.{headOf, kidsOf, markOf, withFlags, flag1, o
 use Rattle.definition.specs.Enums.{enumMember}
 use Rattle.definition.specs.Items.{Item, iKept, iDropped, iExport, iDefault, iDefaultExpr, iDecl, itemKind, Decl, dClass, dFn, dVar, dEnum, dModule, dUsing, dType, declKind, exportOf as exportWith, stmtOf as stmtWith, declToTypeDecl, transformModuleStmt, exportDecl, exportDefaultExpr, itemBy, transformModuleItem, exported, nsParts}
 use Rattle.definition.specs.Transform.{allTextsFit}
-use Rattle.definition.proofs.Children.{others}
-use Rattle.definition.proofs.Kids.{head-is, mark-is, flags-is, has}
+use Rattle.definition.proofs.Kids.{head-is, mark-is, flags-is}
+use Rattle.definition.proofs.ItemKinds.{kind-class, kind-decl, kind-default, kind-dropped, kind-enum, kind-export, kind-expr, kind-fn, kind-kept, kind-module, kind-type, kind-using, kind-var}
 use Rattle.records.specs.declared.Head.{Head as Fields}
 use Rattle.records.specs.Fields.{fieldsAt}
 use Rattle.records.specs.Wrote.{highest}
@@ -44,7 +44,7 @@ use Rattle.items.specs.Steps.{withClass, withFunction, withDeclarators, 
 use Rattle.items.proofs.Declarations.{each-silent}
 use Rattle.items.proofs.Inits.{member-silent}
 use Rattle.items.proofs.Exports.{whole}
-use Rattle.items.proofs.ItemKinds.{is-fn, isFn, kind-class, kind-decl, kind-default, kind-dropped, kind-enum, kind-export, kind-expr, kind-fn, kind-kept, kind-module, kind-type, kind-using, kind-var}
+use Rattle.items.proofs.ItemKinds.{is-fn, isFn}
 
 -- ---- the arms of `transform_module_items`
 
