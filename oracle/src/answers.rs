@@ -5,7 +5,9 @@
 use crate::call::Answer;
 use crate::depths;
 use crate::generate::Case;
+use crate::generate::TextCase;
 use crate::lines::outcome;
+use crate::text;
 
 /// The most bytes of a case's output buffer and of its diagnostics buffer.
 const ROOM: usize = 4096;
@@ -99,4 +101,25 @@ pub fn has_room(case: &Case) -> bool {
     Answer::Done(bytes, count) => bytes <= ROOM && 10 * count <= ROOM,
     Answer::Refused(_) => true,
   }
+}
+
+/// A case of the text with its answer: five numbers of four bytes (the tree's
+/// bytes that follow and its length, the length of the buffer; 0 and the text's
+/// length, or the refusal's number and its place), then the tree and the text.
+/// A refusal has none: the buffer is as it was. Where the tree is longer than
+/// the bytes that follow, any bytes do.
+pub fn write_text(case: &TextCase) -> Vec<u8> {
+  let room = case.room.min(ROOM);
+  let (number, value, text) = match text::text(&case.tree, room) {
+    Ok(text) => (0, text.len(), text),
+    Err(no) => (no.number as usize, no.place, vec![]),
+  };
+  let tree = stored(&case.tree, LONGEST_TREE);
+  let mut bytes = vec![];
+  for n in [tree.len(), case.tree.len(), room, number, value] {
+    bytes.extend((n as u32).to_le_bytes());
+  }
+  bytes.extend(tree);
+  bytes.extend(text);
+  bytes
 }

@@ -17,4 +17,5 @@ pub mod notation;
 pub mod notes;
 pub mod part;
 pub mod record;
+pub mod text;
 pub mod types;

@@ -7,6 +7,7 @@ use std::process::ExitCode;
 use oracle::call::Answer;
 use oracle::call::call;
 use oracle::generate::Case;
+use oracle::generate::TextCase;
 use oracle::leaves;
 use oracle::lines;
 use oracle::measure::Depths;
@@ -15,9 +16,13 @@ use oracle::measure::dotted;
 use oracle::measure::numbered;
 use oracle::measure::numbered_depth;
 use oracle::measure::numbered_dotted;
+use oracle::measure::numbered_text;
+use oracle::measure::texts;
 use oracle::measure::twice;
 use oracle::notation;
 use oracle::record::Rec;
+use oracle::text::samples::OUTSIDE;
+use oracle::text::samples::SAMPLES;
 use oracle::types;
 
 const USAGE: &str = "\
@@ -27,6 +32,10 @@ oracle run [--list HEX] [--context N] [--out N] [--diagnostics N] [TREE]
 oracle depths [--list HEX] [--context N] [--out N] [--diagnostics N] [TREE]
     how many of each diagnostic and how deep, printed as the program `depths`
     does
+oracle text-of [--out N] [TREE]
+oracle text-of --declarations [TREE]
+    the text of a tree, or the refusal as `declares` prints it; or what the
+    program `text` prints: the text of the tree's declarations
 oracle show          bytes on standard input, printed in notation
 oracle text TREE     notation, printed as bytes
 oracle gen N SEED    N random cases and those at the limits, and their counts
@@ -36,6 +45,8 @@ oracle depth-gen N SEED [--ordinary]
 oracle dotted-gen N SEED
     N random cases with dotted names and the fixed ones, and how many hold how
     long chains
+oracle text-gen N SEED
+    N random cases of the text and the fixed ones, and what they show
 oracle twice N SEED [--dotted]
     demand 3 over N random cases, each run twice; or over those of `dotted-gen`
 oracle cases N SEED [--max BYTES] [--limits]
@@ -55,6 +66,10 @@ oracle answers FOLDER N SEED M
     namespaces in namespaces; then those with dotted names, every other one
     with the table: the small and some of the deep fixed ones, and M random
     ones; written to stdin and stdout in its folder
+oracle text-answers FOLDER N SEED
+    cases of the text with their answers (see answers.rs): the samples, those
+    of the fixed ones that are small, and N random ones with trees of at most
+    400 bytes; written to stdin and stdout in the folder
 TREE is in notation, as 'Mo(Xe(Ar))'; without it bytes come from standard input.";
 
 fn main() -> ExitCode {
@@ -83,6 +98,7 @@ fn command(args: &[String]) -> Result<(), String> {
         _ => Err("the last two counts have to be 0".to_string()),
       }
     }
+    Some("text-of") => text_of(rest),
     Some("depth-gen") => depth_gen(rest),
     Some("dotted-gen") => {
       let dotted = dotted(number(rest.first())?, number(rest.get(1))?);
@@ -91,6 +107,11 @@ fn command(args: &[String]) -> Result<(), String> {
         0 => Ok(()),
         _ => Err("the last count has to be 0".to_string()),
       }
+    }
+    Some("text-gen") => {
+      let texts = texts(number(rest.first())?, number(rest.get(1))?);
+      texts.print();
+      Ok(())
     }
     Some("twice") => demand_3(rest),
     Some("cases") => cases(rest),
@@ -111,6 +132,7 @@ fn command(args: &[String]) -> Result<(), String> {
       program(rest, &leaves::stdin(&trees), &types::stdout(&trees))
     }
     Some("answers") => answers(rest),
+    Some("text-answers") => text_answers(rest),
     _ => Err(USAGE.to_string()),
   }
 }
@@ -213,6 +235,28 @@ fn dotted_cases(wanted: usize, seed: u64) -> impl Iterator<Item = Case> {
   let random =
     random.filter(|case| case.tree.len() <= 250 && case.list.len() <= 200);
   with_room(fixed.map(|(_, case)| case), random, wanted)
+}
+
+/// The small ones of the fixed cases of the text, and so many random ones.
+fn text_answers(args: &[String]) -> Result<(), String> {
+  let wanted: usize = number(args.get(1))?;
+  let seed = number(args.get(2))?;
+  let small = |case: &TextCase| case.tree.len() <= 400;
+  // The samples, and some of the many that differ in a byte or a number.
+  let samples = 4 * SAMPLES.len() + 2 * OUTSIDE.len();
+  let fixed = oracle::generate::text_limits().into_iter().enumerate();
+  let fixed = fixed.filter(|(place, case)| {
+    let some = *place < samples || place % 11 == 0;
+    some && (small(case) || case.tree.len() > 524_288)
+  });
+  let random = (0..).map(|place| numbered_text(seed, place));
+  let cases: Vec<Vec<u8>> = fixed
+    .map(|(_, case)| case)
+    .chain(random.filter(small).take(wanted))
+    .map(|case| oracle::answers::write_text(&case))
+    .collect();
+  let count = cases.len();
+  program(args, &cases.concat(), &format!("{count} cases, 0 differ\n"))
 }
 
 /// The fixed cases and so many of the random ones, of those that the program
@@ -350,6 +394,33 @@ fn depths(args: &[String]) -> Result<(), String> {
     Answer::Refused(_) => println!("{answer}"),
   }
   Ok(())
+}
+
+/// The text of a tree; or as the program `text`.
+fn text_of(args: &[String]) -> Result<(), String> {
+  let mut tree = None;
+  let mut room = usize::MAX;
+  let mut declarations = false;
+  let mut words = args.iter();
+  while let Some(word) = words.next() {
+    match word.as_str() {
+      "--declarations" => declarations = true,
+      "--out" => room = number(words.next())?,
+      word => tree = Some(parse_tree(word)?),
+    }
+  }
+  let tree = match tree {
+    Some(tree) => tree,
+    None => standard_input()?,
+  };
+  let printed = match declarations {
+    true => oracle::text::program(&tree),
+    false => oracle::text::text(&tree, room)
+      .unwrap_or_else(|no| format!("{}\n", Answer::Refused(no)).into_bytes()),
+  };
+  std::io::stdout()
+    .write_all(&printed)
+    .map_err(|error| error.to_string())
 }
 
 fn show() -> Result<(), String> {

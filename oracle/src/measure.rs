@@ -9,15 +9,19 @@ use crate::depths;
 use crate::encode;
 use crate::generate::Case;
 use crate::generate::Rng;
+use crate::generate::TextCase;
 use crate::generate::case;
 use crate::generate::depth_case;
 use crate::generate::dotted_case;
 use crate::generate::dotted_limits;
 use crate::generate::limits;
+use crate::generate::text_case;
+use crate::generate::text_limits;
 use crate::grammar::Grammar;
 use crate::grammar::check;
 use crate::lines::outcome;
 use crate::record::Rec;
+use crate::text::counts::Texts;
 
 /// The sizes of the trees, in records; small ones more often.
 const SIZES: [usize; 6] = [6, 12, 12, 30, 30, 120];
@@ -41,6 +45,13 @@ pub fn numbered_dotted(seed: u64, number: u64, ample: bool) -> Case {
   let mut rng = Rng::new(seed.wrapping_mul(1_000_000_007).wrapping_add(number));
   let size = *rng.one_of(&SIZES);
   dotted_case(&mut rng, size, ample)
+}
+
+/// The case of the text with this number.
+pub fn numbered_text(seed: u64, number: u64) -> TextCase {
+  let mut rng = Rng::new(seed.wrapping_mul(1_000_000_007).wrapping_add(number));
+  let size = *rng.one_of(&SIZES);
+  text_case(&mut rng, size)
 }
 
 #[derive(Default)]
@@ -307,6 +318,18 @@ pub fn dotted(cases: u64, seed: u64) -> Dotted {
     dotted.add(&numbered_dotted(seed, number, false));
   }
   dotted
+}
+
+/// Random cases of the text and the fixed ones.
+pub fn texts(cases: u64, seed: u64) -> Texts {
+  let mut texts = Texts::default();
+  for case in text_limits() {
+    texts.add(&case);
+  }
+  for number in 0..cases {
+    texts.add(&numbered_text(seed, number));
+  }
+  texts
 }
 
 /// Demand 3 over random cases, each run twice. The conditions, in document

@@ -47,3 +47,12 @@ pub mod FitItems
 pub mod Widths
 pub mod Demand3
 pub mod Demand3Sample
+pub mod TextSamples
+pub mod Numerals
+pub mod TextTable
+pub mod TextPlaceless
+pub mod TextTokens
+pub mod TextOutside
+pub mod TextLeftOut
+pub mod TextLines
+pub mod TextFeeds

@@ -83,7 +83,7 @@ abbrev pub bodies : List ℕ
 bodies = mark "Mo" ∷ mark "Nb" ∷ mark "Nd" ∷ []
 
 -- an Ns, and the records that can hold one, whatever stands between
-abbrev holders : List ℕ
+abbrev pub holders : List ℕ
 holders = mark "Ns" ∷ mark "Ed" ∷ bodies
 
 abbrev closed : List Row → Bool
@@ -115,7 +115,7 @@ left-lacks : lacks holders undestructured ≡ true
 unfolding marks member
 left-lacks = refl
 
-inside-lacks : (ps : List Part) (m : ℕ) → member m holders ≡ false → lacks holders (inside ps m) ≡ true
+pub inside-lacks : (ps : List Part) (m : ℕ) → member m holders ≡ false → lacks holders (inside ps m) ≡ true
 unfolding known slots
 inside-lacks ps m n = go (isProperty ps) (eqb m (mark "Ag")) (row-lacks grammar all-closed m n)
   where
@@ -126,7 +126,7 @@ inside-lacks ps m n = go (isProperty ps) (eqb m (mark "Ag")) (row-lacks grammar 
 
 -- ---- records that hold none
 
-not-one : (xs : List ℕ) (x : ℕ) → member x xs ≡ true → (m : ℕ) → member m xs ≡ false → eqb m x ≡ false
+pub not-one : (xs : List ℕ) (x : ℕ) → member x xs ≡ true → (m : ℕ) → member m xs ≡ false → eqb m x ≡ false
 not-one xs x i m n = ne-eqb m x (λ e. absurd (never (sym n ∙ (ap (λ (k : ℕ). member k xs) e ∙ i))))
 
 space-not : (m : ℕ) → member m holders ≡ false → eqb m (mark "Ns") ≡ false

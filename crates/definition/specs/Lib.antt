@@ -16,6 +16,10 @@ pub mod Items
 pub mod Transform
 pub mod Marked
 pub mod Depths
+pub mod Numerals
+pub mod Text
+pub mod TextLeftOut
+pub mod TextLines
 pub mod Demand3
 pub mod Widths
 pub mod Silence

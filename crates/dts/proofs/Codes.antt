@@ -7,9 +7,10 @@ use mir.Val
 use lib.ListN.{getD}
 use Rattle.definition.specs.Tree.{treeAt}
 use Rattle.definition.specs.Check.{deepest}
-use Rattle.definition.specs.Transform.{Result, call}
+use Rattle.definition.specs.Transform.{done, refused, Result, call}
 use Rattle.definition.specs.Transform as Transform
 use Rattle.definition.specs.Depths.{placed, tableOf, inOne, countsBy, callDepths}
+use Rattle.definition.specs.Text.{Written}
 use Rattle.grammar.specs.Answers.{number}
 use Rattle.grammar.specs.declared.Refusal.{Refusal}
 use Rattle.transform_dts.specs.declared.Answer.{Answer}
@@ -17,6 +18,9 @@ use Rattle.transform_dts.specs.declared.Answer.the-variants.{Done, Refused}
 use Rattle.transform_dts.specs.Answers.{answered, Gives}
 use Rattle.depth_counts.specs.Answers.{GivesCounted}
 use Rattle.depth_counts.proofs.Whole.{counted-table}
+use Rattle.declaration_text.specs.declared.Answer as Text
+use Rattle.declaration_text.specs.declared.Answer.the-variants.{Done as TextDone, Refused as TextRefused}
+use Rattle.declaration_text.specs.Answers as TextAnswers
 use Rattle.dts.specs.Answers.{codeOf, pairOf}
 
 -- ---- of an answer
@@ -67,3 +71,20 @@ module _ (tree list : List ℕ) (ctx : ℕ) (out diags : List ℕ) (t : List (Li
   pub depths-refused : {n : Refusal} {p : ℕ} → a ≡ Refused n p → {code : ℕ} {pair : List ℕ} → Told (Refused n p) code pair → (old : List ℕ) → CodedCounts z new old code pair o g old
   depths-refused q {code} {pair} d old =
       with-counts (subst (λ (x : Answer). Told x code pair) (sym q) d) old old (ap (λ (x : Answer). countsBy (answered x) new old) (sym q))
+
+-- ---- of the text
+
+-- the number, the pair and the buffer
+abbrev pub CodedText : Written → ℕ → List ℕ → List ℕ → Type 0
+CodedText z code pair out = (code ≡ codeOf (z .answer)) × ((pair ≡ pairOf (z .answer)) × (out ≡ z .out))
+
+module _ (z : Written) {a : Text.Answer} {o : List ℕ} (w : TextAnswers.Gives z a o) where
+  pub text-done : {n : ℕ} → a ≡ TextDone n → {code : ℕ} {pair : List ℕ} → Told (Done n 0) code pair → CodedText z code pair o
+  text-done q t =
+      let e : done _ 0 ≡ z .answer = ap TextAnswers.answered (sym q) ∙ w .answer in
+      (t .0 ∙ ap codeOf e, (t .1 ∙ ap pairOf e, w .output))
+
+  pub text-refused : {n : Refusal} {p : ℕ} → a ≡ TextRefused n p → {code : ℕ} {pair : List ℕ} → Told (Refused n p) code pair → CodedText z code pair o
+  text-refused q t =
+      let e : refused _ _ ≡ z .answer = ap TextAnswers.answered (sym q) ∙ w .answer in
+      (t .0 ∙ ap codeOf e, (t .1 ∙ ap pairOf e, w .output))

@@ -5,6 +5,7 @@ ghost use Rattle.definition.specs.Tree.{treeAt};
 ghost use Rattle.definition.specs.Check.{deepest, checkTree};
 ghost use Rattle.definition.specs.Transform.{call};
 ghost use Rattle.definition.specs.Depths.{placed, tableOf, inOne, countsBy};
+ghost use Rattle.definition.specs.Text.{callText};
 ghost use Rattle.transform_dts.specs.Answers.{answered};
 ghost use Rattle.dts.specs.Answers.{checkCode, checkPair, codeOf, pairOf};
 use depth_counts::table::CELLS;
@@ -121,5 +122,22 @@ pub extern "C" fn dts_depths(
             tell(Answer::Done(length, count), answer)
         }
         Answer::Refused(refusal, place) => tell(Answer::Refused(refusal, place), answer),
+    }
+}
+
+// `text`: 0 with the bytes of the text and 0 in `answer`, or the refusal's number with its place and 0 there.
+#[no_mangle]
+pub extern "C" fn dts_text(tree: &[u8], out: &mut [u8], answer: &mut [u64; 2]) -> u32
+    ensures number { λ r. ⌜ r ≡ codeOf (callText (now (tree .entry)) (now (out .entry)) .answer) ⌝ }
+    ensures pair { λ r. ⌜ now (answer .exit) ≡ pairOf (callText (now (tree .entry)) (now (out .entry)) .answer) ⌝ }
+    ensures output { λ r. ⌜ now (out .exit) ≡ callText (now (tree .entry)) (now (out .entry)) .out ⌝ }
+{
+    let made = declaration_text::text(tree, out);
+    match made {
+        declaration_text::Answer::Done(length) => tell(Answer::Done(length, 0), answer),
+        declaration_text::Answer::Refused(refusal, place) => tell(
+            Answer::Refused(refusal, place),
+            answer,
+        ),
     }
 }

@@ -7,13 +7,13 @@ use Rattle.definition.specs.Check.{Opening.opened, Opening.stopped, Checked.fin
 use Rattle.definition.specs.Check as Check
 use Rattle.grammar.specs.Slots.{partsFrom}
 use Rattle.grammar.specs.declared.Refusal.{Refusal}
-use Rattle.grammar.specs.declared.Refusal.the-variants.{TreeTooLong, BadOverloads, CutShort, UnknownMark, Misplaced, BackwardRange, TooDeep, TrailingBytes, OutputFull, DiagnosticsFull}
+use Rattle.grammar.specs.declared.Refusal.the-variants.{TreeTooLong, BadOverloads, CutShort, UnknownMark, Misplaced, BackwardRange, TooDeep, TrailingBytes, OutputFull, DiagnosticsFull, NumberOutside}
 use Rattle.grammar.specs.declared.Checked.{Checked}
 use Rattle.grammar.specs.declared.Checked.the-variants.{Fine, Refused}
 use Rattle.grammar.specs.declared.record.Opening.{Opening}
 use Rattle.grammar.specs.declared.record.Opening.the-variants.{Opened, Stopped}
 
--- the column "No." of document 01's table
+-- the column "No." of document 01's table. "Each new number, here and later, joins demand 1's ten and 01's table" (document 02, §3)
 abbrev pub number : Refusal → ℕ
 number TreeTooLong = 1
 number BadOverloads = 2
@@ -25,6 +25,7 @@ number TooDeep = 7
 number TrailingBytes = 8
 number OutputFull = 9
 number DiagnosticsFull = 10
+number NumberOutside = 11
 
 -- what a check found
 abbrev pub checked : Checked → Check.Checked

@@ -9,7 +9,7 @@ mod record;
 mod tables;
 mod text;
 
-// The refusals of document 01's table, 1 to 10 in its order; `number` of specs/Answers.antt gives each its number.
+// The refusals of document 01's table, 1 to 10 in its order, and document 02's behind them; `number` of specs/Answers.antt gives each its number.
 pub enum Refusal {
     TreeTooLong,
     BadOverloads,
@@ -21,6 +21,7 @@ pub enum Refusal {
     TrailingBytes,
     OutputFull,
     DiagnosticsFull,
+    NumberOutside,
 }
 
 // What a check finds: no refusal and the offset past what was checked, or the first refusal and its place.
@@ -53,7 +54,7 @@ pub fn check_tree(tree: &[u8], list: &[u8]) -> Checked
     found
 }
 
-// The number of a refusal in document 01's table.
+// The number of a refusal in document 01's table, which document 02 goes on with.
 pub fn number_of(refusal: Refusal) -> u32
     ensures { λ r. ⌜ r ≡ number refusal ⌝ }
 {
@@ -68,5 +69,6 @@ pub fn number_of(refusal: Refusal) -> u32
         Refusal::TrailingBytes => 8,
         Refusal::OutputFull => 9,
         Refusal::DiagnosticsFull => 10,
+        Refusal::NumberOutside => 11,
     }
 }

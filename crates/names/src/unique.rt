@@ -14,7 +14,7 @@ use records::put;
 use records::put_text;
 
 // `format!("{}", n)`: the decimal digits of n, from p on.
-fn put_decimal(n: usize, out: &mut [u8], p: usize) -> usize
+pub fn put_decimal(n: usize, out: &mut [u8], p: usize) -> usize
     ensures { λ r. ⌜ Put (now (out .entry)) (now (out .exit)) p (decimal n) r ⌝ }
 {
     if n < 10 {

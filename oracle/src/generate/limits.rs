@@ -65,7 +65,7 @@ pub fn deep(rng: &mut Rng, depth: usize) -> Rec {
 }
 
 /// A tree of exactly this many bytes.
-fn long(bytes: usize) -> Rec {
+pub fn long(bytes: usize) -> Rec {
   let mut left = bytes - HEAD;
   let mut items = vec![];
   while left > 0 {

@@ -2,12 +2,15 @@
 //! transform comes up often, overload lists that hit and miss, damaged copies,
 //! trees and lists at their limits, and buffers that are just long enough, one
 //! byte short, or ample; cases with namespaces in namespaces, for the depth of
-//! diagnostics; and cases with dotted names. The same seed gives the same cases.
+//! diagnostics; cases with dotted names; and cases of the text. The same seed
+//! gives the same cases.
 
 mod damage;
 mod depth_limits;
 mod dotted_limits;
 mod limits;
+mod text;
+mod text_limits;
 mod tree;
 
 pub use depth_limits::KINDS;
@@ -17,6 +20,9 @@ pub use depth_limits::in_namespaces;
 pub use dotted_limits::dotted_limits;
 pub use limits::limits;
 pub use limits::long_key;
+pub use text::TextCase;
+pub use text::text_case;
+pub use text_limits::text_limits;
 pub use tree::dotted;
 pub use tree::nested;
 pub use tree::tree;

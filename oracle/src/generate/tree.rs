@@ -3,9 +3,12 @@
 
 mod dotted;
 mod namespaces;
+mod written;
 
 pub use dotted::dotted;
 pub use namespaces::nested;
+pub use written::dress;
+pub use written::written;
 
 use super::Rng;
 use crate::grammar::MAX_DEPTH;

@@ -1,0 +1,9 @@
+pub mod Children
+pub mod RowsRead
+pub mod Conditions
+pub mod Words
+pub mod Templates
+pub mod Written
+pub mod LinesWritten
+pub mod Blocks
+pub mod Calls

@@ -1,0 +1,3 @@
+pub mod Writes
+mod Leaves
+mod Wholes
