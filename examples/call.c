@@ -1,11 +1,12 @@
 /* The exported call from C: the declarations of the module whose tree stands in standard input, with an empty overload list and the unresolved
    context 1. Prints what the program `declares` prints, and behind each diagnostic what it means; with the word `depths`, what the program `depths`
-   prints: how many of each diagnostic, and in how many namespaces.
+   prints: how many of each diagnostic, and in how many namespaces; with the word `text`, what the program `text` prints: the declarations as text.
 
        rt staticlib dts
        cc -Iinclude examples/call.c target/staticlib/libdts.a -o call
        ./call < crates/declares/stdin
        ./call depths < crates/depths/stdin
+       ./call text < crates/declares/stdin
 */
 #include "dts.h"
 #include <inttypes.h>
@@ -34,6 +35,7 @@ static uint32_t u32_at(const uint8_t *bytes) {
 
 int main(int argc, char **argv) {
     int depths = argc == 2 && strcmp(argv[1], "depths") == 0;
+    int text = argc == 2 && strcmp(argv[1], "text") == 0;
     size_t length = fread(tree, 1, sizeof tree, stdin);
     uint8_t *out = NULL;
     uint32_t counts[160];
@@ -53,6 +55,18 @@ int main(int argc, char **argv) {
         number = depths ? dts_depths(tree, length, list, 0, 1, out, out_length, diagnostics, sizeof diagnostics, counts, answer)
                         : dts_transform(tree, length, list, 0, 1, out, out_length, diagnostics, sizeof diagnostics, answer);
     }
+    if (number == 0 && text) {
+        /* the declarations are a tree too; no text is 8 times as long as its tree */
+        size_t text_length = 8 * (size_t)answer[0];
+        uint8_t *written = malloc(text_length);
+        if (written == NULL) {
+            fputs("no memory\n", stderr);
+            return 1;
+        }
+        number = dts_text(out, (size_t)answer[0], written, text_length, answer);
+        free(out);
+        out = written;
+    }
     if (number != 0) {
         printf("refused %" PRIu32 " at %" PRIu64 "\n", number, answer[0]);
     } else if (depths) {
@@ -61,6 +75,8 @@ int main(int argc, char **argv) {
             printf("%" PRIu32 "%c", counts[i], i % 32 == 31 ? '\n' : ' ');
         }
         printf("%" PRIu64 "\n", answer[1]);
+    } else if (text) {
+        fwrite(out, 1, (size_t)answer[0], stdout);
     } else {
         /* the declarations are the first answer[0] bytes of `out` */
         printf("ok %" PRIu64 " %" PRIu64 "\n", answer[0], answer[1]);

@@ -27,3 +27,10 @@ pub fn depths(tree: &[u8], out: &mut [u8], diagnostics: &mut [u8]) -> (u32, [u64
     assert!(number != 0 || counts.as_flattened().iter().map(|count| *count as u64).sum::<u64>() == answer[1]);
     (number, answer)
 }
+
+/// The text of a tree: 0, and the bytes written and 0.
+pub fn text(tree: &[u8], out: &mut [u8]) -> (u32, [u64; 2]) {
+    let mut answer = [0; 2];
+    let number = raw::text(tree, out, &mut answer);
+    (number, answer)
+}

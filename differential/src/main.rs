@@ -4,9 +4,12 @@
 //! `differential depths N SEED`: `dts_depths` beside the Rust, on N cases with namespaces in namespaces and those at the limits.
 //! `differential dotted N SEED`: both calls beside the oracle on N cases with dotted names and the fixed ones, as `cases`. A tree that holds `Nd` gets
 //! the Rust's answer to the tree without its chains, with these put back.
+//! `differential text N SEED`: `dts_text` beside the oracle's text, on N cases of the text and the fixed ones; and on the declarations that both
+//! transforms make of every fourth of them, and of as many of the cases of `cases`.
 //! `differential speed`: their times, as ratios in one run.
 mod depths;
 mod speed;
+mod text;
 
 use std::process::ExitCode;
 use std::sync::atomic::AtomicU64;
@@ -19,11 +22,13 @@ use oracle::generate::Rng;
 use oracle::generate::depth_limits;
 use oracle::generate::dotted_limits;
 use oracle::generate::limits;
+use oracle::generate::text_limits;
 use oracle::grammar::Refused;
 use oracle::lines;
 use oracle::measure::numbered;
 use oracle::measure::numbered_depth;
 use oracle::measure::numbered_dotted;
+use oracle::measure::numbered_text;
 use vatnext_dts::raw;
 
 /// The proved call.
@@ -186,6 +191,33 @@ fn depth_cases(wanted: u64, seed: u64) -> depths::Tally {
     share(wanted, seed, random).into_iter().fold(tally, depths::Tally::join)
 }
 
+/// How many of the cases of the text have a text of their declarations too, and how many of the ordinary ones.
+const ALSO_DECLARATIONS: u64 = 4;
+
+/// A tree with an empty list and 1 as the unresolved context; the buffers play no part.
+fn alone(tree: Vec<u8>) -> Case {
+    Case { tree, list: vec![], unresolved: 1, out: 0, diagnostics: 0 }
+}
+
+/// `dts_text` on cases of the text, and on declarations.
+fn text_cases(wanted: u64, seed: u64) -> (text::Tally, text::Tally) {
+    let mut tallies = (text::Tally::default(), text::Tally::default());
+    let mut rng = Rng::new(seed);
+    for case in text_limits() {
+        tallies.0.add(&case, &mut rng);
+        tallies.1.add_declarations(&alone(case.tree), &mut rng);
+    }
+    let random = |(trees, declarations): &mut (text::Tally, text::Tally), place: u64, rng: &mut Rng| {
+        let case = numbered_text(seed, place);
+        trees.add(&case, rng);
+        if place % ALSO_DECLARATIONS == 0 {
+            declarations.add_declarations(&alone(case.tree), rng);
+            declarations.add_declarations(&numbered(seed, place, true), rng);
+        }
+    };
+    share(wanted, seed, random).into_iter().fold(tallies, |sum, more| (sum.0.join(more.0), sum.1.join(more.1)))
+}
+
 fn main() -> ExitCode {
     let words: Vec<String> = std::env::args().skip(1).collect();
     let number = |at: usize| words.get(at).and_then(|word| word.parse::<u64>().ok());
@@ -208,9 +240,19 @@ fn main() -> ExitCode {
                 return ExitCode::FAILURE;
             }
         }
+        (Some("text"), Some(wanted), Some(seed)) => {
+            let (trees, declarations) = text_cases(wanted, seed);
+            trees.print("trees");
+            declarations.print("declarations");
+            if !trees.agrees() || !declarations.agrees() {
+                return ExitCode::FAILURE;
+            }
+        }
         (Some("speed"), None, None) => speed::print(),
         _ => {
-            eprintln!("differential cases N SEED\ndifferential depths N SEED\ndifferential dotted N SEED\ndifferential speed");
+            for words in ["cases N SEED", "depths N SEED", "dotted N SEED", "text N SEED", "speed"] {
+                eprintln!("differential {words}");
+            }
             return ExitCode::FAILURE;
         }
     }

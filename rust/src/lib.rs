@@ -1,9 +1,9 @@
 //! The proved declaration transform, as a safe call.
 //!
 //! A module goes in as a tree of flat records, and its declarations come out as such a tree, with the diagnostics of
-//! what could not be typed: [`transform`], and [`depths`] where these are to be counted. The work is done by the static
-//! library that `rt staticlib dts` proves and writes; this crate calls it, finds the sizes of its buffers, and reads
-//! what it wrote without a copy.
+//! what could not be typed: [`transform`], and [`depths`] where these are to be counted. [`text`] writes them as a .d.ts
+//! file has them. The work is done by the static library that `rt staticlib dts` proves and writes; this crate calls it,
+//! finds the sizes of its buffers, and reads what it wrote without a copy.
 #![deny(unsafe_code, unsafe_op_in_unsafe_fn)]
 #![warn(missing_docs)]
 
@@ -32,6 +32,14 @@ pub const LONGEST_TREE: usize = 524_288;
 /// without its type, and the `Xe` of its name) and its text at most twice (the `Id` of an `Sh`). So no output is 9
 /// times as long as its tree; the longest known, of many `Xe` over a `Re`, is 6.3 times as long. The rest is slack.
 const MOST_OUTPUT: usize = 16;
+
+/// A buffer of this many times the tree's length holds every text of it: counted by hand as well, with the same
+/// consequence.
+///
+/// What is written for a record of 15 bytes takes at most 76 bytes (for a `Vd` in 31 namespaces: 62 are its indent), for
+/// an `Ns` with its name and its block 142, and 6 for each byte of a text (those of an `Ss` or a `Qu` that are escaped).
+/// So no text is longer than 6 times its tree; the rest is slack.
+const MOST_TEXT: usize = 8;
 
 /// How long a record is at least; there are never more diagnostics than records.
 const LEAST_RECORD: usize = 15;
@@ -176,6 +184,68 @@ pub fn depths_into(
     let mut answer = [0; 2];
     let number = raw::depths(tree, list, unresolved_context, out, diagnostics, &mut depths.rows, &mut answer);
     done(number, answer)
+}
+
+/// The text of a tree, as a .d.ts file has it: two spaces of indent for each namespace around an item, and an item to a
+/// line. Statements, bodies and initial values are left out.
+///
+/// The tree may be any that is accepted. For a module's declarations, give those that [`transform`] made:
+///
+/// ```
+/// // `export default [];`
+/// let tree = b"Mo\0\0\0\0\0\x12\0\0\0\0\0\x01\0\
+///     Xe\0\0\0\0\0\x12\0\0\0\0\0\x01\0\
+///     Ar\0\x0f\0\0\0\x11\0\0\0\0\0\0\0";
+/// assert_eq!(vatnext_dts::text(tree)?, b"export default [ ]\n");
+///
+/// let declarations = vatnext_dts::transform(tree, &[], 1)?;
+/// let text = vatnext_dts::text(declarations.as_bytes())?;
+/// assert_eq!(text, b"declare const _dts_1 : readonly [ ]\nexport default _dts_1\n");
+/// # Ok::<(), vatnext_dts::Refused>(())
+/// ```
+///
+/// It is bytes and no `String`: names and opaque parts are written as they stand in the tree, which need not be UTF-8.
+///
+/// # Buffers
+///
+/// The first call has room for as many bytes as the tree has, which most texts fit. If it is too short, it gets the most
+/// that any text of such a tree needs, and the call is made again: so there are two calls at most.
+///
+/// # Errors
+///
+/// Refusal 1 and 3 to 8 say what is wrong with the tree. The declarations of a tree can be longer or deeper than a tree
+/// may be, and then have no text. [`Refusal::NumberOutside`] says that a number to be written has no spelling and can't
+/// be written in decimal; its place is that of the first such `Nu`.
+pub fn text(tree: &[u8]) -> Result<Vec<u8>, Refused> {
+    // of a longer tree nothing is written
+    let length = tree.len().min(LONGEST_TREE);
+    let most = MOST_TEXT * length;
+    let mut out = vec![0; length];
+    loop {
+        match text_into(tree, &mut out) {
+            Ok(bytes) => {
+                out.truncate(bytes);
+                out.shrink_to_fit();
+                return Ok(out);
+            }
+            // once: then the buffer has its most
+            Err(Refused { refusal: Refusal::OutputFull, .. }) if out.len() < most => out = vec![0; most],
+            Err(refused) => return Err(refused),
+        }
+    }
+}
+
+/// The same into a buffer of the caller's: how many bytes of text stand at the start of `out`. Every byte beyond is as it
+/// was.
+///
+/// # Errors
+///
+/// Those of [`text`], and then [`Refusal::OutputFull`] where the text is longer than `out`; it then holds what it held
+/// before.
+pub fn text_into(tree: &[u8], out: &mut [u8]) -> Result<usize, Refused> {
+    let mut answer = [0; 2];
+    let number = raw::text(tree, out, &mut answer);
+    done(number, answer).map(|(bytes, _)| bytes)
 }
 
 /// Whether a tree and an overload list are accepted.

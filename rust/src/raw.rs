@@ -41,6 +41,8 @@ unsafe extern "C" {
         counts: *mut [[u32; 32]; 5],
         answer: *mut [u64; 2],
     ) -> u32;
+
+    fn dts_text(tree: *const u8, tree_length: usize, out: *mut u8, out_length: usize, answer: *mut [u64; 2]) -> u32;
 }
 
 // SAFETY, of each call below: each pointer comes from a slice, with that slice's length, or from an array of the
@@ -105,4 +107,10 @@ pub fn depths(
             answer,
         )
     }
+}
+
+/// `dts_text`: the answer is how many bytes of `out` are written, and 0.
+pub fn text(tree: &[u8], out: &mut [u8], answer: &mut [u64; 2]) -> u32 {
+    // SAFETY: as above
+    unsafe { dts_text(tree.as_ptr(), tree.len(), out.as_mut_ptr(), out.len(), answer) }
 }

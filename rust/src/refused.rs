@@ -23,16 +23,18 @@ pub enum Refusal {
     /// 8: bytes after the root.
     TrailingBytes,
     /// 9: the output is longer than its buffer, or has a text that no head can hold. [`transform`](crate::transform)
-    /// gives a buffer that is long enough, so that from there it is the second.
+    /// gives a buffer that is long enough, so that from there it is the second. [`text`](crate::text) never says it.
     OutputFull,
     /// 10: the diagnostics are longer than their buffer. [`transform`](crate::transform) never says it.
     DiagnosticsFull,
+    /// 11: a number to be written in a text has no spelling, and is not whole or not below 2 to the 53 in size.
+    NumberOutside,
     /// A number that this crate doesn't know, from a library of another version.
     Other(u32),
 }
 
-/// Refusals 1 to 10, in their order.
-const NUMBERED: [Refusal; 10] = [
+/// Refusals 1 to 11, in their order.
+const NUMBERED: [Refusal; 11] = [
     Refusal::TreeTooLong,
     Refusal::BadOverloads,
     Refusal::CutShort,
@@ -43,6 +45,7 @@ const NUMBERED: [Refusal; 10] = [
     Refusal::TrailingBytes,
     Refusal::OutputFull,
     Refusal::DiagnosticsFull,
+    Refusal::NumberOutside,
 ];
 
 impl Refusal {
@@ -65,6 +68,7 @@ impl Refusal {
             Refusal::TrailingBytes => 8,
             Refusal::OutputFull => 9,
             Refusal::DiagnosticsFull => 10,
+            Refusal::NumberOutside => 11,
             Refusal::Other(number) => number,
         }
     }
@@ -97,7 +101,7 @@ impl fmt::Display for Refusal {
 pub struct Refused {
     /// Why.
     pub refusal: Refusal,
-    /// The record's offset for 3 to 7, that of the first extra byte for 8, else 0.
+    /// The record's offset for 3 to 7 and 11, that of the first extra byte for 8, else 0.
     pub place: usize,
 }
 
@@ -132,12 +136,12 @@ mod tests {
     }
 
     #[test]
-    fn only_3_to_8_name_a_place() {
-        for number in 0..12 {
+    fn only_3_to_8_and_11_name_a_place() {
+        for number in 0..13 {
             let refusal = Refusal::from_number(number);
             let said = Refused { refusal, place: 77 }.to_string();
             assert!(said.starts_with(&format!("refusal {number}")));
-            assert_eq!(said.contains("at byte 77"), (3..=8).contains(&number));
+            assert_eq!(said.contains("at byte 77"), matches!(number, 3..=8 | 11));
         }
     }
 }

@@ -2,7 +2,7 @@
 mod support;
 
 use support::{Node, Numbers, default, leaf, module, name, node};
-use vatnext_dts::{Record, Refusal, check, depths, transform};
+use vatnext_dts::{Record, Refusal, check, depths, text, transform};
 
 const INPUTS: usize = 20_000;
 
@@ -43,6 +43,12 @@ fn try_one(tree: &[u8], list: &[u8]) -> bool {
             assert_eq!(checked, Err(refused));
             assert_eq!(depths(tree, list, 1), Err(refused));
         }
+    }
+    // a text has no list
+    let checked_alone = check(tree, &[]);
+    match text(tree) {
+        Err(refused) if refused.refusal == Refusal::NumberOutside => assert_eq!(checked_alone, Ok(())),
+        written => assert_eq!(written.map(drop), checked_alone),
     }
     checked.is_ok()
 }

@@ -2,9 +2,12 @@
 mod support;
 
 use support::{Node, default, leaf, module, name, node};
-use vatnext_dts::{Depths, LONGEST_TREE, Refusal, check, depths, depths_into, transform, transform_into};
+use vatnext_dts::{
+    Depths, LONGEST_TREE, Refusal, check, depths, depths_into, text, text_into, transform, transform_into,
+};
 
-/// What the check refuses, the transform refuses alike, with depths and without, and leaves what is lent as it was.
+/// What the check refuses, the transform refuses alike, with depths and without, and so does the text, which has no list;
+/// all leave what is lent as it was.
 fn refused(tree: &[u8], list: &[u8]) -> (Refusal, usize) {
     let refused = check(tree, list).expect_err("refused");
     assert_eq!(transform(tree, list, 1), Err(refused));
@@ -15,6 +18,11 @@ fn refused(tree: &[u8], list: &[u8]) -> (Refusal, usize) {
     let mut table = Depths::default();
     assert_eq!(depths_into(tree, list, 1, &mut out, &mut diagnostics, &mut table), Err(refused));
     assert_eq!((out, diagnostics, table), ([7; 1000], [8; 1000], Depths::default()));
+    if refused.refusal != Refusal::BadOverloads {
+        assert_eq!(text(tree), Err(refused));
+        assert_eq!(text_into(tree, &mut out), Err(refused));
+        assert_eq!(out, [7; 1000]);
+    }
     (refused.refusal, refused.place)
 }
 
@@ -121,7 +129,7 @@ fn refusal_10_a_short_buffer_for_diagnostics() {
 /// Whatever is refused, its words are whole: what is wrong, where, what to do.
 #[test]
 fn words_for_each() {
-    let said: Vec<_> = (1..=10).map(|number| Refusal::from_number(number).to_string()).collect();
+    let said: Vec<_> = (1..=11).map(|number| Refusal::from_number(number).to_string()).collect();
     for (i, words) in said.iter().enumerate() {
         assert!(!words.is_empty() && !said[..i].contains(words));
     }

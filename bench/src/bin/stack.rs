@@ -1,5 +1,5 @@
 //! How much stack the exported calls take on trees of 64 levels: each is tried in a thread whose stack gets smaller, in a process of its own.
-use bench::{depths, dotted, leaf, name, record, transform};
+use bench::{depths, dotted, leaf, name, record, text, transform};
 use std::process::{Command, ExitCode, Stdio};
 
 /// The levels that a tree may have.
@@ -22,6 +22,8 @@ fn deep() -> Vec<(&'static str, Vec<u8>)> {
         let freeze = record("Mb", &[], &[record("Id", b"\x01\0\0\0Object", &[]), record("Ki", b"freeze", &[])]);
         record("Ca", &[], &[freeze, inner])
     };
+    let template = |inner| record("Te", &[], &[inner]);
+    let ops = |inner| record("Op", b"op", &[inner]);
     let namespace = |inner| record("Ns", &[], &[record("Op", b"n", &[]), record("Nb", &[], &[inner])]);
     let default = |expression| record("Xe", &[], &[expression]);
     // Mo, Xe and the innermost record are three levels.
@@ -30,6 +32,8 @@ fn deep() -> Vec<(&'static str, Vec<u8>)> {
         ("objects", default(nest((DEEPEST - 3) / 2, &object, leaf("Oe")))),
         ("arrows with defaults", default(nest((DEEPEST - 4) / 2, &function, leaf("Oe")))),
         ("frozen objects", default(nest(DEEPEST - 4, &frozen, leaf("Ob")))),
+        ("templates", default(nest(DEEPEST - 3, &template, leaf("Oe")))),
+        ("opaque parts", record("Im", &[], &[nest(DEEPEST - 3, &ops, leaf("Op"))])),
         ("namespaces", nest((DEEPEST - 2) / 2, &namespace, leaf("Im"))),
         ("a namespace with a dotted name", dotted(DEEPEST - 4, vec![leaf("Im")])),
         ("namespaces around an array", nest((DEEPEST - 4) / 2, &namespace, default(array(leaf("Oe"))))),
@@ -43,8 +47,11 @@ fn deep() -> Vec<(&'static str, Vec<u8>)> {
     items.into_iter().map(|(kind, item)| (kind, module(item))).collect()
 }
 
+/// A tree and two buffers.
+type Call = fn(&[u8], &mut [u8], &mut [u8]) -> (u32, [u64; 2]);
+
 /// The calls, by their numbers.
-const CALLS: [(&str, fn(&[u8], &mut [u8], &mut [u8]) -> (u32, [u64; 2])); 2] = [("transform", transform), ("depths", depths)];
+const CALLS: [(&str, Call); 3] = [("transform", transform), ("depths", depths), ("text", |tree, out, _| text(tree, out))];
 
 /// A call in a thread with so many KiB of stack; the process ends with a signal where they are too few.
 fn try_one(call: usize, kind: usize, kib: usize) {

@@ -1,0 +1,1 @@
+export declare class Booking <T> { static count : number ; note : string ; guest ; open : any ; "row" : number ; constructor ( public name : string , seat ? : number , wish : any ) ; [ Symbol . iterator ] ( ) : Iterator <T> ; get size ( ) : number ; set size ( value : number ) ; }

@@ -1,0 +1,2 @@
+export declare const greeting : string
+export declare const fixed : "Hello"

@@ -1,0 +1,3 @@
+export declare namespace hall . left {
+  export const rows : number
+}

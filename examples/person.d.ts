@@ -1,0 +1,1 @@
+export declare const person : { readonly age : bigint ; readonly [ "row" ] : RegExp ; readonly find : any ; }

@@ -1,0 +1,1 @@
+export declare const seats : { readonly confirmed : number ; }

@@ -1,0 +1,1 @@
+export declare const sides : readonly [ "left" , -2 , true , undefined ]
