@@ -6,7 +6,7 @@
        cc -Iinclude examples/call.c target/staticlib/libdts.a -o call
        ./call < crates/declares/stdin
        ./call depths < crates/depths/stdin
-       ./call text < crates/declares/stdin
+       ./call text < crates/text/stdin
 */
 #include "dts.h"
 #include <inttypes.h>

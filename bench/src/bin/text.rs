@@ -125,17 +125,16 @@ fn kinds(bytes: usize) -> Vec<(&'static str, Vec<u8>)> {
     ]
 }
 
-/// The time of a call, from so many of them, and the bytes that it writes.
+/// The time of a call, from so many of them behind one that brings its memory near, and the bytes that it writes.
 fn time(calls: u32, mut call: impl FnMut() -> (u32, [u64; 2])) -> (f64, u64) {
-    let mut written = 0;
+    let (number, answer) = call();
+    assert_eq!(number, 0);
     let start = Instant::now();
     for _ in 0..calls {
-        let (number, answer) = call();
-        assert_eq!(number, 0);
-        written = answer[0];
+        assert_eq!(call(), (0, answer));
     }
     let took: Duration = start.elapsed() / calls;
-    (took.as_secs_f64(), written)
+    (took.as_secs_f64(), answer[0])
 }
 
 /// The bytes of a kind's largest tree and of its text; and the shortest times of the text of a quarter, a half and the whole, and of the transform.
@@ -146,8 +145,8 @@ struct Kind {
     transform: f64,
 }
 
-/// By the shortest of many runs of each, taken in turns. A run is four calls on a quarter or two on a half: the shortest of runs that are shorter would
-/// be shorter than their share, where the processor's pace changes.
+/// By the shortest of many runs of each, taken in turns. A run is four calls on a quarter, or two on a half: where the processor's pace changes, the
+/// shortest of shorter runs would be less than their share.
 fn shortest(trees: impl Fn(usize) -> Vec<(&'static str, Vec<u8>)>) -> Vec<Kind> {
     let (mut out, mut diagnostics) = (vec![0; 8 << 20], vec![0; 1 << 20]);
     let sizes = [LARGEST / 4, LARGEST / 2, LARGEST].map(trees);

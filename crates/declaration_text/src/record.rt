@@ -212,7 +212,7 @@ fn behind(
         ⌝ }
 {
     let n = count_at(tree, at);
-    if n < slots {
+    if n <= slots {
         return s;
     }
     let under = mark_at(tree, at) == OC;

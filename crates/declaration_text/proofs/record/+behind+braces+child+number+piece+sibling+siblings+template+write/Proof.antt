@@ -49,6 +49,7 @@ pub +behind+braces+child+number+piece+sibling+siblings+template+write-spec : {M 
     (behind-m.mark-at-requires t)
     (behind-m.child-place-requires t)
     (behind-m.sub-siblings t)
+    (behind-m.sub-siblings-2 t)
     (behind-m.siblings-requires t)
     (behind-m.same-length t)
     (behind-m.returns-2 t))

@@ -33,7 +33,10 @@ pub child-place-requires : (t : ℕ) → behind-lts.Need-child-place-requires (c
 child-place-requires t c κs = ((c .before .before .before .before .before .before .pre .1 .1), (omega (arith, c .before .before .count-at .ensures .0, c .before .if1 .left)))
 
 pub sub-siblings : (t : ℕ) → behind-lts.Need-sub-siblings (calls t) (behind-at t) behind.Post
-sub-siblings t c = omega (arith, level (c .before .before .before .before .before .before .before .pre .1 .1))
+sub-siblings t c = omega (arith, c .before .before .if1 .left)
+
+pub sub-siblings-2 : (t : ℕ) → behind-lts.Need-sub-siblings-2 (calls t) (behind-at t) behind.Post
+sub-siblings-2 t c = omega (arith, level (c .before .before .before .before .before .before .before .pre .1 .1))
 
 pub siblings-requires : (t : ℕ) → behind-lts.Need-siblings-requires (calls t) (behind-at t) behind.Post
 siblings-requires t c κs = (omega (arith, c .before .before .before .before .before .before .before .before .pre .0, level (c .before .before .before .before .before .before .before .before .pre .1 .1)), (c .before .before .before .before .before .before .before .before .pre .1 .0, rw (c .before .before .before .before .count-at .ensures .0, c .before .child-place .ensures) (rest-accepted _ _ _ (c .before .before .before .before .before .before .before .before .pre .1 .1) _ (omega (arith, c .before .before .before .before .count-at .ensures .0, c .before .before .before .if1 .left)))))
