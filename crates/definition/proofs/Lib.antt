@@ -56,3 +56,6 @@ pub mod TextOutside
 pub mod TextLeftOut
 pub mod TextLines
 pub mod TextFeeds
+pub mod TextNumbers
+pub mod TextWeights
+pub mod TextBound

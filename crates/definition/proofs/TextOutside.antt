@@ -99,11 +99,11 @@ module _ (n at : ℕ) (h : Head) (lt : at < n) where
 
 -- ---- records
 
-size-is : (h : Head) (ks : Recs) → sizeOf (rec h ks) ≡ headSize + length (h .text) + length (encodes ks)
+pub size-is : (h : Head) (ks : Recs) → sizeOf (rec h ks) ≡ headSize + length (h .text) + length (encodes ks)
 unfolding encode
 size-is h ks = simp (length-append, length-headBytes) (omega arith)
 
-sizes-are : (r : Rec) (rs : Recs) → length (encodes (cons r rs)) ≡ sizeOf r + length (encodes rs)
+pub sizes-are : (r : Rec) (rs : Recs) → length (encodes (cons r rs)) ≡ sizeOf r + length (encodes rs)
 unfolding encode
 sizes-are r rs = length-append (encode r) (encodes rs)
 

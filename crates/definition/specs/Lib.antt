@@ -20,6 +20,7 @@ pub mod Numerals
 pub mod Text
 pub mod TextLeftOut
 pub mod TextLines
+pub mod TextNumbers
 pub mod Demand3
 pub mod Widths
 pub mod Silence
