@@ -18,7 +18,7 @@
 
    The place is the record's offset for 3 to 7 and 11, that of the first extra byte for 8, else 0. A 9 of dts_transform and dts_depths has one other
    reason: a key of more than 65,531 bytes, of which an `Id` would be made whose text no head can hold. Then no buffer is long enough, so don't grow
-   one without end: no output of 16 times the tree's length is known, and no text of 6 times it. */
+   one without end: no output of 16 times the tree's length is known, and no text is longer than 6 times it. */
 #ifndef DTS_H
 #define DTS_H
 

@@ -2,19 +2,24 @@
 use mathlib.Core.Path.{_≡_, refl, sym, ap, _∙_, subst}
 use mathlib.Core.List.{List, [], _∷_, _++_}
 use mathlib.Core.Bool.{Bool, true, false, cond, _||_}
-use Prim.Native.Nat.{ℕ, _+_, _-_, _<_, _≤_, _^_}
+use Prim.Native.Nat.{ℕ, _+_, _*_, _-_, _<_, _≤_, _^_}
 use native.Mathlib.Omega.{arith}
 use lib.Dec.{leb, ltb}
-use lib.ListN.{length, take, drop, length-append}
+use mir.Syntax.{w8}
+use mir.Val
+use lib.ListN.{length, getD, take, drop, length-append}
 use lib.Seq.{length-sets, length-take-le}
 use borrow.Author.Tests.{le-leb, lt-leb, lt-ltb, le-ltb}
 use Rattle.definition.specs.Tree.{rec, headSize, countAt, bodyAt, headAt, treeAt}
-use Rattle.definition.specs.Check.{fine, refused, deepest, checkTree}
+use Rattle.definition.specs.Check.{fine, refused, longestTree, deepest, checkTree}
 use Rattle.definition.specs.Check as Check
 use Rattle.definition.specs.Children.{AcceptedAt}
 use Rattle.definition.specs.Transform.{done, over}
 use Rattle.definition.specs.Transform as Transform
-use Rattle.definition.specs.Text.{Token, Line, tokens, anyWritten, firstLine, itemsLines, linesOf, linesBytes, firstOutside, nowhere, Written, writtenText, textBy, callText}
+use Rattle.definition.specs.Text.{Token, Line, tokens, anyWritten, firstLine, itemsLines, linesOf, linesBytes, firstOutside, nowhere, Written, writtenText, textBy, callText, textOf}
+use Rattle.definition.specs.TextNumbers.{numbersFit}
+use Rattle.definition.proofs.Accepted.{accepted-tree}
+use Rattle.definition.proofs.TextBound.{accepted-text, text-succeeds}
 use Rattle.definition.proofs.Children.{root-accepted, tree-is}
 use Rattle.definition.proofs.Kids.{text-length as own-length}
 use Rattle.grammar.specs.Answers.{number, checked}
@@ -23,13 +28,14 @@ use Rattle.grammar.specs.declared.Refusal.the-variants.{OutputFull, NumberOutsi
 use Rattle.grammar.specs.declared.Checked.{Checked}
 use Rattle.grammar.specs.declared.Checked.the-variants.{Fine, Refused as Rejected}
 use Rattle.records.specs.Wrote.{sat}
-use Rattle.records.proofs.Stores.{copy-all}
+use Rattle.records.proofs.Stores.{copy-all, part-sets}
+use Rattle.records.proofs.Whole.{slice-bytes}
 use Rattle.text_tokens.specs.declared.State.{State}
 use Rattle.text_tokens.specs.Writes.{Writes}
 use Rattle.declaration_text.specs.declared.Answer.{Answer}
 use Rattle.declaration_text.specs.declared.Answer.the-variants.{Done, Refused}
 use Rattle.declaration_text.specs.Lines.{WritesLines, recordsAt}
-use Rattle.declaration_text.specs.Answers.{start, answered, Gives}
+use Rattle.declaration_text.specs.Answers.{start, Accepted, answered, Gives}
 use Rattle.declaration_text.proofs.LinesWritten.{lines-none}
 
 -- ---- a module
@@ -98,6 +104,28 @@ module _ {o1 : List ℕ} {r : State} {ls : List Line} (dry : WritesLines [] o1 s
         rw (← dry .place, le-ltb (r .place) nowhere l, le-leb (length (linesBytes ls)) (length out) (omega arith))
         (record { answer = λ i. done (n i) 0; output = rw (kept, x, n) })
 
+-- ---- a run that is sure to succeed
+
+module _ {tree : List ℕ} (a : Accepted tree) where
+  pub accepted-root : AcceptedAt deepest tree 0
+  accepted-root = root-accepted tree [] (a .end) (a .checked)
+
+  pub accepted-short : length tree ≤ longestTree
+  accepted-short = accepted-tree tree [] (a .end) (a .checked) .0 .short
+
+  pub certain-done : ((i : ℕ) → mir.Val.Fits w8 (getD tree i 0)) → (out : List ℕ) → length out < 2 ^ 63
+      → (6 * length tree ≤ length out) × (numbersFit (treeAt deepest tree 0) ≡ true) → {o : List ℕ} {r : State} → WritesLines out o start r (linesOf (treeAt deepest tree 0))
+      → Gives (writtenText (linesOf (treeAt deepest tree 0)) out) (Done (r .written)) o
+  unfolding callText textBy textOf
+  certain-done known out m h {o} {r} w =
+      let bytes = slice-bytes tree known in
+      let E : List ℕ = linesBytes (linesOf (treeAt deepest tree 0)) in
+      let l : length E ≤ 6 * length tree = accepted-text tree [] (a .end) bytes (a .checked) in
+      let s : writtenText (linesOf (treeAt deepest tree 0)) out ≡ record { answer = done (length E) 0; out = over E out } =
+      rw (a .checked) at (text-succeeds tree out (a .end) bytes (a .checked) (h .1) (h .0)) in
+      let n : r .written ≡ length E = omega (arith, w .put .position, h .0, l) in
+      rw s (record { answer = λ i. done (n i) 0; output = w .put .bytes ∙ sym (part-sets out 0 E (omega (arith, h .0, l))) })
+
 -- ---- the call
 
 module _ (tree out : List ℕ) {f : Checked} (c : checked f ≡ checkTree tree []) where
@@ -113,8 +141,8 @@ module _ (tree out : List ℕ) {f : Checked} (c : checked f ≡ checkTree tree [
     tree-fine : checkTree tree [] ≡ fine e
     tree-fine = sym c ∙ ap checked q
 
-    pub call-root : AcceptedAt deepest tree 0
-    call-root = root-accepted tree [] e tree-fine
+    pub call-root : Accepted tree
+    call-root = record { end = e; checked = tree-fine }
 
     pub call-accepted : {r : Answer} {o : List ℕ} → Gives (writtenText (linesOf (treeAt deepest tree 0)) out) r o → Gives (callText tree out) r o
     unfolding callText textBy

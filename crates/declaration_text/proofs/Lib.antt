@@ -6,4 +6,5 @@ pub mod Templates
 pub mod Written
 pub mod LinesWritten
 pub mod Blocks
+pub mod NumbersFit
 pub mod Calls

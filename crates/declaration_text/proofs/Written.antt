@@ -1,6 +1,7 @@
 -- What the functions of `record` write, by the definition: a child, the children behind the slots, one of them, a template, a piece, a row.
 use mathlib.Core.Path.{_≡_, refl, sym, ap, _∙_}
 use mathlib.Core.List.{List, [], _∷_, _++_, append-nil, append-assoc}
+use mathlib.Core.Logic.{_⊎_, ⊎-elim}
 use mathlib.Core.Bool.{Bool, true, false, cond, _&&_, _||_}
 use Prim.Native.Nat.{ℕ, zero, suc, _+_, _-_, _*_, _<_, _≤_, _^_}
 use native.Mathlib.Omega.{arith}
@@ -10,18 +11,18 @@ use mir.Syntax.{w8}
 use mir.Val
 use borrow.Author.Tests.{ne-eqb}
 use Rattle.definition.specs.Tree.{Head, markAt, countAt, bodyAt, textAt, headAt, endOfAll, endAt, treeAt}
-use Rattle.definition.specs.Grammar.{mark, known, place}
+use Rattle.definition.specs.Grammar.{mark, marks, member, known, place}
 use Rattle.definition.specs.Children.{AcceptedAt, AllAccepted, childAt}
 use Rattle.definition.specs.Record.{text, isNo}
 use Rattle.definition.specs.Numerals.{bitsOf, wholeOf}
-use Rattle.definition.specs.Text.{Token, token, own, isWritten, anyWritten, lastWritten, stringToken, integerToken, decimalToken, Piece, Child, nth, tokens, textRows, rowIn, holds, more, closed, eachOf, numberOf, templateOf, inBraces, inTurns, quasis, behindQuasis, expressions, whatTokens, pieceTokens, piecesTokens}
+use Rattle.definition.specs.Text.{Token, token, own, isWritten, anyWritten, lastWritten, stringToken, integerToken, decimalToken, Piece, Child, nth, tokens, textRows, rowIn, rowTokens, holds, more, closed, eachOf, numberOf, templateOf, inBraces, inTurns, quasis, behindQuasis, expressions, whatTokens, pieceTokens, piecesTokens}
 use Rattle.definition.proofs.Children.{children, first-one, others, itself}
 use Rattle.definition.proofs.Kids.{text-is, is-mark, not-mark, all-others}
 use Rattle.text_tokens.specs.declared.State.{State}
 use Rattle.text_tokens.specs.Writes.{Writes, clearedOf}
 use Rattle.text_tokens.proofs.Writes.{or-true, writes-none, writes-then, writes-as, writes-same, anyWritten-append, last-any}
 use Rattle.declaration_text.specs.Table.{eachBy, whatOf, wordAt, cell, rowAt, pieceIn, piecesIn}
-use Rattle.declaration_text.specs.Steps.{childrenAt, childAlone, childrenOf, isChain}
+use Rattle.declaration_text.specs.Steps.{childrenAt, childAlone, childrenOf, isChain, Plain, Name}
 use Rattle.declaration_text.specs.Templates.{textsOf, tokensOf, Quasis, Expressions, quasiIf, bracesIf, passed}
 use Rattle.declaration_text.proofs.Children.{children-none, children-first, children-more, kid-none, kid-at, drop-is, drop-none, tokens-are}
 use Rattle.declaration_text.proofs.RowsRead.{row-pieces, row-slots, pieces-none, pieces-end, pieces-more}
@@ -465,3 +466,28 @@ module _ {levels : ℕ} {tree : List ℕ} {under : Bool} {total : List Token} {o
 pub template-of : (levels : ℕ) (s : List ℕ) (at : ℕ) → {under : Bool} → under ≡ isChain s at → {n : ℕ} → n ≡ countAt s at → {p : ℕ} → p ≡ bodyAt s at
     → templateOf (childrenAt (levels - 1) s under n p) ≡ templateOf (childrenOf levels s at)
 template-of levels s at e f g = rw (e, f, g)
+
+-- ---- records with one token
+
+module _ (levels : ℕ) (s : List ℕ) (at : ℕ) (under : Bool) (a : AcceptedAt levels s at) (known : (i : ℕ) → mir.Val.Fits w8 (getD s i 0)) {m : ℕ} (e : m ≡ markAt s at) where
+  alone : countAt s at ≡ 0 → childrenOf levels s at ≡ []
+  alone z = children-none (levels - 1) s known (isChain s at) (countAt s at) (bodyAt s at) (omega arith)
+
+  -- a row that gives the tokens ts where there are no children
+  by-row : (w : ℕ) (ts : List Token) → rowTokens (rowIn textRows w) under at (headAt s at) [] ≡ ts → countAt s at ≡ 0 → m ≡ w → ts ≡ tokens (treeAt levels s at) under at
+  by-row w ts q z f =
+      sym (tokens-are levels s at under a
+      ∙ ap (λ (x : ℕ). rowTokens (rowIn textRows x) under at (headAt s at) (childrenOf levels s at)) (sym e ∙ f)
+      ∙ ap (λ (cs : List Child). rowTokens (rowIn textRows w) under at (headAt s at) cs) (alone z)
+      ∙ q)
+
+  pub plain-token : Plain s at m → {t : List ℕ} → t ≡ textAt s at → token t ∷ [] ≡ tokens (treeAt levels s at) under at
+  unfolding textRows rowIn marks member piecesTokens holds whatTokens eachOf headAt
+  plain-token p g =
+      ap (λ (t : List ℕ). token t ∷ []) g
+      ∙ ⊎-elim (λ x. by-row (mark "Ki") (token (textAt s at) ∷ []) refl (p .alone) x)
+      (λ y. ⊎-elim (λ x. by-row (mark "Op") (token (textAt s at) ∷ []) refl (p .alone) x) (λ x. by-row (mark "Kw") (token (textAt s at) ∷ []) refl (p .alone) x) y) (p .kind)
+
+  pub name-token : Name s at m → token (drop 4 (textAt s at)) ∷ [] ≡ tokens (treeAt levels s at) under at
+  unfolding textRows rowIn marks member piecesTokens holds whatTokens eachOf headAt
+  name-token p = by-row (mark "Id") (token (drop 4 (textAt s at)) ∷ []) (rw (p .required)) (p .alone) (p .kind)

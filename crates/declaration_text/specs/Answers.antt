@@ -2,7 +2,8 @@
 use Prim.Native.Nat.{ℕ}
 use mathlib.Core.Path.{_≡_}
 use mathlib.Core.Bool.{false}
-use mathlib.Core.List.{List}
+use mathlib.Core.List.{List, []}
+use Rattle.definition.specs.Check.{fine, checkTree}
 use Rattle.definition.specs.Transform.{done, refused}
 use Rattle.definition.specs.Transform as Transform
 use Rattle.definition.specs.Text.{nowhere, Written}
@@ -10,6 +11,11 @@ use Rattle.grammar.specs.Answers.{number}
 use Rattle.text_tokens.specs.declared.State.{State}
 use Rattle.declaration_text.specs.declared.Answer.{Answer}
 use Rattle.declaration_text.specs.declared.Answer.the-variants.{Done, Refused}
+
+-- a tree that the check accepts
+pub record Accepted (tree : List ℕ) : Type 0 where
+  pub end : ℕ
+  pub checked : checkTree tree [] ≡ fine end
 
 -- where a run begins
 abbrev pub start : State

@@ -1,4 +1,5 @@
 // What the pieces of a row ask of a record: its flags and its children.
+ghost use mathlib.Core.Bool.{true};
 ghost use mathlib.Core.Path.{_≡_};
 ghost use Prim.Native.Nat.{_+_, _-_, _≤_, _<_};
 ghost use lib.Dec.{eqb};
@@ -9,16 +10,19 @@ ghost use Rattle.definition.specs.Record.{hasFlag, markOf, textOf};
 ghost use Rattle.definition.specs.Text.{nth, isQuoted, holds};
 ghost use Rattle.declaration_text.specs.Printed.{rowsTable};
 ghost use Rattle.declaration_text.specs.Table.{whenOf, cell};
-ghost use Rattle.declaration_text.specs.Steps.{childrenOf};
+ghost use Rattle.declaration_text.specs.Steps.{childrenOf, Plain, Name};
 use crate::table::Rows;
 use crate::table::cell;
 use records::body_at;
 use records::count_at;
 use records::flags::has_flag;
 use records::mark_at;
+use records::marks::ID;
 use records::marks::KI;
+use records::marks::KW;
 use records::marks::ND;
 use records::marks::NO;
+use records::marks::OP;
 use records::read_head;
 use records::record_end;
 use records::text_at;
@@ -127,4 +131,29 @@ pub fn piece_holds(
             child_is(tree, at, levels, 1, KI)
         }
     }
+}
+
+// Whether the record is an Op, a Kw or a Ki without children: its text is its only token.
+pub fn is_plain(tree: &[u8], at: usize, mark: u16) -> bool
+    requires { ⌜ at + headSize ≤ length (now tree) ⌝ }
+    ensures { λ r. ⌜ (r ≡ true → Plain (now (tree .entry)) at mark) ⌝ }
+{
+    match mark {
+        OP | KW | KI => count_at(tree, at) == 0,
+        _ => false,
+    }
+}
+
+// Whether it is an Id without children and without flag 1: its symbol is its only token.
+pub fn is_name(tree: &[u8], at: usize, mark: u16) -> bool
+    requires { ⌜ at + headSize ≤ length (now tree) ⌝ }
+    ensures { λ r. ⌜ (r ≡ true → Name (now (tree .entry)) at mark) ⌝ }
+{
+    if mark != ID {
+        return false;
+    }
+    if flag_is_set(tree, at, 1) {
+        return false;
+    }
+    count_at(tree, at) == 0
 }

@@ -1,16 +1,20 @@
 // Request §3, "Declarations as text": the text of a tree, for every byte string: the check, a dry run that says how long the text is and where a number
 // is outside the forms, and the run.
-ghost use mathlib.Core.Bool.{false};
+ghost use mathlib.Core.Bool.{true, false};
 ghost use mathlib.Core.Path.{_≡_};
+ghost use Prim.Native.Nat.{_*_, _≤_};
+ghost use lib.ListN.{length};
 ghost use Rattle.definition.specs.Tree.{treeAt};
-ghost use Rattle.definition.specs.Check.{deepest};
+ghost use Rattle.definition.specs.Check.{longestTree, deepest};
 ghost use Rattle.definition.specs.Children.{AcceptedAt};
 ghost use Rattle.definition.specs.Text.{tokens, firstLine, linesOf, writtenText, callText};
+ghost use Rattle.definition.specs.TextNumbers.{numbersFit};
 ghost use Rattle.declaration_text.specs.Table.{Tables};
 ghost use Rattle.declaration_text.specs.Lines.{WritesLines};
-ghost use Rattle.declaration_text.specs.Answers.{start, Gives};
+ghost use Rattle.declaration_text.specs.Answers.{start, Accepted, Gives};
 use crate::lines::put_items;
 use crate::lines::put_line;
+use crate::numbers::numbers_fit;
 use crate::record::write;
 use crate::table::Rows;
 use grammar::Checked;
@@ -23,6 +27,7 @@ use text_tokens::State;
 pub mod asks;
 pub mod leaves;
 pub mod lines;
+pub mod numbers;
 pub mod record;
 pub mod table;
 
@@ -34,6 +39,9 @@ pub enum Answer {
 
 // An offset past every tree: no number is outside the forms.
 const NOWHERE: usize = 524288;
+
+// The bytes of a text for each byte of its tree, at most (`text-short` of definition/proofs/TextBound.antt).
+const MOST_TEXT: usize = 6;
 
 // Where a run begins.
 fn begin() -> State
@@ -83,13 +91,29 @@ fn put_module(rows: &Rows, words: &[u8], tree: &[u8], out: &mut [u8]) -> State
     )
 }
 
-// The text of an accepted tree: refusals 11 and 9 by the dry run, then the run, on exactly the room that it takes.
+// Whether a run is sure to succeed: there is room for the text of any tree of this length, and no number is outside the forms.
+fn is_certain(tree: &[u8], room: usize) -> bool
+    requires { ⌜ AcceptedAt deepest (now tree) 0 × (length (now tree) ≤ longestTree) ⌝ }
+    ensures { λ r. ⌜ (r ≡ true → (6 * length (now (tree .entry)) ≤ room) × (numbersFit (treeAt deepest (now (tree .entry)) 0) ≡ true)) ⌝ }
+{
+    if room < MOST_TEXT * tree.len() {
+        return false;
+    }
+    numbers_fit(tree)
+}
+
+// The text of an accepted tree: the run alone where it is sure to succeed; else refusals 11 and 9 by a dry run, then the run, on exactly the room that
+// it takes.
 fn accepted(tree: &[u8], out: &mut [u8]) -> Answer
-    requires { ⌜ AcceptedAt deepest (now tree) 0 ⌝ }
+    requires { ⌜ Accepted (now tree) ⌝ }
     ensures { λ r. ⌜ Gives (writtenText (linesOf (treeAt deepest (now (tree .entry)) 0)) (now (out .entry))) r (now (out .exit)) ⌝ }
 {
     let rows = table::rows();
     let words = table::words();
+    if is_certain(tree, out.len()) {
+        let all = put_module(&rows, &words, tree, out);
+        return Answer::Done(all.written);
+    }
     let dry = put_module(&rows, &words, tree, &mut out[..0]);
     if dry.place < NOWHERE {
         return Answer::Refused(Refusal::NumberOutside, dry.place);

@@ -9,6 +9,8 @@ ghost use Rattle.declaration_text.specs.Table.{Tables, cell, rowAt, piec
 ghost use Rattle.declaration_text.specs.Steps.{childrenAt, childAlone, childrenOf};
 ghost use Rattle.declaration_text.specs.Templates.{bracesIf};
 use crate::asks::child_place;
+use crate::asks::is_name;
+use crate::asks::is_plain;
 use crate::asks::piece_holds;
 use crate::asks::skip;
 use crate::leaves::comma_follows;
@@ -368,7 +370,14 @@ pub fn write(
     requires { ⌜ Tables (now rows) (now words) × AcceptedAt levels (now tree) at ⌝ }
     ensures { λ r. ⌜ Writes (now (out .entry)) (now (out .exit)) s r (tokens (treeAt levels (now (tree .entry)) at) under at) ⌝ }
 {
-    let row = mark_number(mark_at(tree, at));
+    let mark = mark_at(tree, at);
+    if is_plain(tree, at, mark) {
+        return put_token(text_at(tree, at), out, s);
+    }
+    if is_name(tree, at, mark) {
+        return put_symbol(tree, at, levels, out, s);
+    }
+    let row = mark_number(mark);
     let mut next = s;
     let mut i: usize = 1;
     let mut n = PIECES;
