@@ -304,7 +304,7 @@ module _ (ids : PrescannedModuleIds) (ctx : ℕ) where
   spread-is sh a rest c n e = rw e
 
   -- the diagnostics of whatever typing meets are given
-  pub heard : {o e : Rec} {c' r' c r : Bool} → Meets ids ctx o c' r' e c r → (n : ℕ) → Heard o c' r' (expr_to_ts_type ids ctx e c r n).1
+  pub heard : {o : Rec} {c' r' : Bool} {e : Rec} {c r : Bool} → Meets ids ctx o c' r' e c r → (n : ℕ) → Heard o c' r' (expr_to_ts_type ids ctx e c r n).1
   heard Meets.itself n = record { counter = n; piece = piece-whole _ }
   heard (Meets.element {h} {ks} {c} {r} e m i k w) n =
       let a = reached c r i k n in
