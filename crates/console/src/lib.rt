@@ -58,7 +58,7 @@ pub fn front_mut(bytes: &mut [u8], n: usize) -> &mut [u8]
 // ---- Reading
 
 // What was read: its bytes at the start of the buffer, and whether they are all that was asked for.
-#[derive(Drop)]
+#[derive(Clone, Copy)]
 pub struct Read {
     pub whole: bool,
     pub length: usize,

@@ -26,7 +26,7 @@ pub mod record;
 pub mod table;
 
 // The bytes of the text; a refusal and its place.
-#[derive(Drop)]
+#[derive(Clone, Copy)]
 pub enum Answer {
     Done(usize),
     Refused(Refusal, usize),

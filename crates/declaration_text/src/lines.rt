@@ -14,7 +14,7 @@ use records::{advance, body_at, count_at, mark_at, put, record_end};
 use text_tokens::{State, put_token};
 
 // The block that an item opens: an Nb, by its offset and the levels that are left for it.
-#[derive(Drop)]
+#[derive(Clone, Copy)]
 pub enum Block {
     At(usize, usize),
     Nothing,

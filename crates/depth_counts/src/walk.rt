@@ -21,7 +21,7 @@ use records::{DIAGNOSTIC_SIZE, body_at, count_at, mark_at};
 use typing::State;
 
 // What an item is to the walk: an Ns with the Nb of its innermost body and the levels that are left for that, an Ns without one, or another item.
-#[derive(Drop)]
+#[derive(Clone, Copy)]
 pub enum Space {
     Block(usize, usize),
     Empty,

@@ -11,7 +11,7 @@ mod tables;
 mod text;
 
 // The refusals of document 01's table, 1 to 10 in its order, and document 02's behind them; `number` of specs/Answers.antt gives each its number.
-#[derive(Drop)]
+#[derive(Clone, Copy)]
 pub enum Refusal {
     TreeTooLong,
     BadOverloads,
@@ -27,7 +27,7 @@ pub enum Refusal {
 }
 
 // What a check finds: no refusal and the offset past what was checked, or the first refusal and its place.
-#[derive(Drop)]
+#[derive(Clone, Copy)]
 pub enum Checked {
     Fine(usize),
     Refused(Refusal, usize),

@@ -16,7 +16,7 @@ use records::{HEAD_SIZE, Head};
 
 // What the tests of a record by itself find: where its children begin, how many there are, their first slot and the slot after the record; or the
 // refusal.
-#[derive(Drop)]
+#[derive(Clone, Copy)]
 enum Opening {
     Opened(usize, usize, usize, usize),
     Stopped(Refusal),

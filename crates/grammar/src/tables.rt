@@ -85,7 +85,7 @@ const HIGH: usize = 1;
 const OTHER: usize = 2;
 
 // What a record finds at the slots: whether it may stand there, and the slot after it.
-#[derive(Drop)]
+#[derive(Clone, Copy)]
 pub struct Taken {
     pub placed: bool,
     pub next: usize,

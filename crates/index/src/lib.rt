@@ -17,7 +17,7 @@ pub const ARRAY_TYPED: u32 = 4;
 const BITS: u32 = 8;
 
 // The entries of a table: where they begin, and how many they are.
-#[derive(Drop)]
+#[derive(Clone, Copy)]
 pub struct Entries {
     pub from: usize,
     pub count: usize,

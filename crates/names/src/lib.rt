@@ -15,7 +15,7 @@ pub mod unique;
 
 // `Option<PropName>`: the record that stands as the key, or the one over which a fresh Kc is made, each by its offset and the levels left for
 // it; or no key.
-#[derive(Drop)]
+#[derive(Clone, Copy)]
 pub enum Key {
     Stands(usize, usize),
     Computed(usize, usize),

@@ -42,7 +42,7 @@ pub struct Names {
 }
 
 // A name that was made: the position behind it, and the counter that it was made of.
-#[derive(Drop)]
+#[derive(Clone, Copy)]
 pub struct Made {
     pub written: usize,
     pub id_counter: usize,

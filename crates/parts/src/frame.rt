@@ -13,7 +13,7 @@ use records::{body_at, read_head, record_end};
 use typing::State;
 
 // The `n` children that are left, from `at` on, each with `levels` levels; and where the writing stands.
-#[derive(Drop)]
+#[derive(Clone, Copy)]
 pub struct Frame {
     pub at: usize,
     pub n: usize,

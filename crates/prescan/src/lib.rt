@@ -30,7 +30,7 @@ pub const LARGE_TABLE: usize = 16384;
 pub const MIDDLE_TABLE: usize = 2048;
 
 // The sets of `PrescannedModuleIds`.
-#[derive(Drop)]
+#[derive(Clone, Copy)]
 pub enum Question {
     TypeofSafe,
     NonGenericClass,
@@ -38,7 +38,7 @@ pub enum Question {
 }
 
 // In which scope the names stand: the unresolved context.
-#[derive(Drop)]
+#[derive(Clone, Copy)]
 pub struct Scope {
     pub unresolved: u32,
 }

@@ -9,7 +9,7 @@ ghost use Rattle.records.specs.Whole.{Whole, part_at};
 use records::{Head, body_at, read_head, record_at, record_end, text_at};
 
 // The tree, lent by the caller, and the offset of a record in it.
-#[derive(Drop)]
+#[derive(Clone, Copy)]
 pub struct Reader<'a> {
     pub tree: &'a [u8],
     pub at: usize,

@@ -57,7 +57,7 @@ const DIAGNOSTIC_END: usize = 6;
 const HIGHEST: usize = 0xffff_ffff_ffff_ffff;
 
 // "start and end (4 each; what `range()` gives ..)".
-#[derive(Drop)]
+#[derive(Clone, Copy)]
 pub struct Range {
     pub start: u32,
     pub end: u32,
@@ -67,7 +67,7 @@ pub struct Range {
 pub const DUMMY_SP: Range = Range { start: 0, end: 0 };
 
 // A record's head by value: mark, flags, start and end, text length, child count.
-#[derive(Drop)]
+#[derive(Clone, Copy)]
 pub struct Head {
     pub mark: u16,
     pub flags: Flags,

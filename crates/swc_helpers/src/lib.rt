@@ -24,7 +24,7 @@ use records::{DUMMY_SP, Range};
 pub mod literals;
 
 // The keywords of `TsKeywordTypeKind` that types are made of.
-#[derive(Drop)]
+#[derive(Clone, Copy)]
 pub enum TsKeywordTypeKind {
     TsAnyKeyword,
     TsNumberKeyword,
@@ -145,7 +145,7 @@ pub fn ts_type_query(
 }
 
 // What may be found: an offset in the tree.
-#[derive(Drop)]
+#[derive(Clone, Copy)]
 pub enum Found {
     At(usize),
     Nothing,
@@ -199,7 +199,7 @@ pub fn object_freeze_call_arg(tree: &[u8], at: usize, levels: usize, unresolved:
 }
 
 // `DeclMutabilityKind`: `Const` where `as_const` is set.
-#[derive(Drop)]
+#[derive(Clone, Copy)]
 pub enum DeclMutabilityKind {
     Const,
     Mutable,
@@ -278,7 +278,7 @@ pub fn tpl_to_ts_type(
 }
 
 // `Option<TsType>`: a type was written, up to this position, or there is none.
-#[derive(Drop)]
+#[derive(Clone, Copy)]
 pub enum MaybeType {
     Typed(usize),
     Untyped,

@@ -18,7 +18,7 @@ use records::{Head, Range};
 
 // `Lit`: "A literal is a string, a number, a big integer, a boolean, null or a regex", "also `Jt` (JSX text)". A string and a big integer are
 // the offsets of their records.
-#[derive(Drop)]
+#[derive(Clone, Copy)]
 pub enum Literal {
     Str(usize),
     Num(f64),

@@ -28,7 +28,7 @@ const CELL: usize = 8;
 const CELLS_ROOM: usize = CELLS * CELL;
 
 // A case before its bytes.
-#[derive(Drop)]
+#[derive(Clone, Copy)]
 struct Case {
     tree_bytes: usize,
     tree: usize,

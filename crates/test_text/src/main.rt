@@ -17,7 +17,7 @@ const TREE: usize = 524289;
 const NUMBERS: usize = 20;
 
 // A case before its bytes.
-#[derive(Drop)]
+#[derive(Clone, Copy)]
 struct Case {
     tree_bytes: usize,
     tree: usize,

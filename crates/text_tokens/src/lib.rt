@@ -13,7 +13,7 @@ pub mod numerals;
 
 // Where the text stands: the position behind it; whether the line has a token; whether a token was written since this was last cleared; the last
 // byte of the last token; the first place of a written number outside the forms.
-#[derive(Drop)]
+#[derive(Clone, Copy)]
 pub struct State {
     pub written: usize,
     pub begun: bool,
@@ -23,7 +23,7 @@ pub struct State {
 }
 
 // A position behind bytes of a token, and the last of them.
-#[derive(Drop)]
+#[derive(Clone, Copy)]
 pub struct Ended {
     pub written: usize,
     pub last: u8,

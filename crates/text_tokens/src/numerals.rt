@@ -4,7 +4,7 @@ ghost use Rattle.definition.specs.Numerals.{bits_of, is_negative, whole_of, halv
 ghost use Rattle.text_tokens.specs.Writes.{whole_is};
 
 // A whole number below 2 to the 53, or none.
-#[derive(Drop)]
+#[derive(Clone, Copy)]
 pub enum Whole {
     Number(usize),
     Outside,

@@ -16,7 +16,7 @@ use typing::State;
 pub mod twice;
 
 // "Success returns bytes written and the diagnostic count"; a refusal and its place.
-#[derive(Drop)]
+#[derive(Clone, Copy)]
 pub enum Answer {
     Done(usize, usize),
     Refused(Refusal, usize),

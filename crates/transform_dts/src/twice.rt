@@ -8,7 +8,7 @@ use crate::{Answer, transform};
 use grammar::Refusal;
 
 // What the first call refused; or its counts, and what the second call answered.
-#[derive(Drop)]
+#[derive(Clone, Copy)]
 pub enum Twice {
     Refused(Refusal, usize),
     Again(usize, usize, Answer),

@@ -27,7 +27,7 @@ mod readonly;
 
 // Where a typing stands: the positions in the output and in the diagnostics, the name counter, and whether every text that was written fits
 // the two bytes of its length.
-#[derive(Drop)]
+#[derive(Clone, Copy)]
 pub struct State {
     pub written: usize,
     pub reported: usize,
@@ -36,7 +36,7 @@ pub struct State {
 }
 
 // `Option<TsType>`: whether there is a type, and where the typing stands behind it.
-#[derive(Drop)]
+#[derive(Clone, Copy)]
 pub enum Typed {
     Some(State),
     None(State),
@@ -44,7 +44,7 @@ pub enum Typed {
 
 // How an expression is typed: in which scope, `as_const` and `as_readonly` of the Rust, and whether its type is written as `readonly_of` it, where
 // that has an answer.
-#[derive(Drop)]
+#[derive(Clone, Copy)]
 pub struct Mode {
     pub scope: Scope,
     pub as_const: bool,
@@ -53,14 +53,14 @@ pub struct Mode {
 }
 
 // Records that were made one after the other: where the typing stands behind them, and how many they are.
-#[derive(Drop)]
+#[derive(Clone, Copy)]
 pub struct Counted {
     pub s: State,
     pub count: usize,
 }
 
 // The elements of a tuple that a child of an array gives, or that the array has no type.
-#[derive(Drop)]
+#[derive(Clone, Copy)]
 pub enum Elements {
     All(Counted),
     Failed(State),

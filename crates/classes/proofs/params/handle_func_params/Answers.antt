@@ -1,0 +1,37 @@
+-- `params::handle_func_params` meets its contract.
+use native.Mathlib.Omega.{arith}
+use Rattle.definition.specs.Classes.{handle_func_param}
+use Rattle.definition.proofs.Walk.{left-first}
+use Rattle.swc_helpers.proofs.Made.{is_whole}
+use Rattle.parts.proofs.Each.{making-done, making-out, making-diagnostics, Eaching, eaching_start}
+use Rattle.classes.specs.Typings.{typing_of}
+use Rattle.classes.proofs.Ready.{ready_one}
+use Rattle.classes.proofs.Parameters.{handling_turn}
+use Rattle.classes.proofs.params.handle_func_params.Goals as goal
+
+pub loop-k-init : goal.loop-k-init
+loop-k-init c = eaching_start _ _ _ _ _ _ c.requires.accepted c.requires.low (omega (arith, c.well_formed)) (omega (arith, c.well_formed))
+
+pub handle_func_param-next-requires : goal.handle_func_param-next-requires
+handle_func_param-next-requires c = ready_one c.requires (left-first c.loop-k.invariant.left c.loop-k-test.true) c.loop-k.invariant.low
+
+pub record_end-param-requires : goal.record_end-param-requires
+record_end-param-requires c = is_whole _ _ _ (left-first c.loop-k.invariant.left c.loop-k-test.true)
+
+pub overflow_sub-k : goal.overflow_sub-k
+overflow_sub-k c = omega arith
+
+pub loop-k-smaller : goal.loop-k-smaller
+loop-k-smaller c = omega arith
+
+pub loop-k-preserved : goal.loop-k-preserved
+loop-k-preserved c = handling_turn c.args.scope _ _ c.loop-k.invariant c.loop-k-test.true c.handle_func_param-next.ensures c.record_end-param.ensures
+
+pub shape_of-out : goal.shape_of-out
+shape_of-out c = making-out _ _ _ c.loop-k.invariant
+
+pub shape_of-diagnostics : goal.shape_of-diagnostics
+shape_of-diagnostics c = making-diagnostics _ _ _ c.loop-k.invariant
+
+pub returns : goal.returns
+returns c = making-done _ _ _ c.loop-k.invariant (omega arith)

@@ -1,0 +1,13 @@
+-- `declaration_text::leaves::count_expressions` meets its contract: the loop counts the children that it passes.
+use native.Mathlib.Omega.{arith}
+use Rattle.records.proofs.Accepted.{room, lies}
+use Rattle.declaration_text.specs.Templates.{Expressions}
+use Rattle.declaration_text.proofs.Templates.{Counting, counting_start, counting_first, counting_turn, counting_stop, counting_done, expressions-none, expressions-stop, expressions-more}
+use mathlib.Core.Path.{◌∙◌, sym}
+use Rattle.declaration_text.proofs.leaves.count_expressions.Given as goal
+
+abbrev pub invariant-loop-k : goal.invariant-loop-k
+invariant-loop-k l = Counting (Expressions l.levels l.tree) l.levels l.tree l.n l.at l.k l.child
+
+abbrev pub decreases-loop-k : goal.decreases-loop-k
+decreases-loop-k l = l.k

@@ -1,0 +1,14 @@
+-- `depth_counts::table::in_one` meets its contract: the counts below i are copied.
+use mathlib.Core.Path.{refl}
+use Prim.Native.Nat.{◌-◌, ◌/◌, ◌%◌}
+use native.Mathlib.Omega.{arith}
+use borrow.Author.Rules.{rules}
+use Rattle.depth_counts.specs.Tables.{Shape}
+use Rattle.depth_counts.proofs.Rows.{cell_most, Copying, copying_turn, copying_done}
+use Rattle.depth_counts.proofs.table.in_one.Given as goal
+
+abbrev pub invariant-loop-i : goal.invariant-loop-i
+invariant-loop-i l = (s : Shape l.table) → Copying l.table s l.counts l.i
+
+abbrev pub decreases-loop-i : goal.decreases-loop-i
+decreases-loop-i l = 160 - l.i

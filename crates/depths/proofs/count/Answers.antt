@@ -1,0 +1,8 @@
+-- `depths::count` is safe: the sum of the counts is the number of diagnostics.
+use native.Mathlib.Omega.{arith}
+use Rattle.depth_counts.proofs.Whole.{counted_small}
+use borrow.Author.Rules.{rules}
+use Rattle.depths.proofs.count.Goals as goal
+
+pub total-requires : goal.total-requires
+total-requires c = omega (arith, counted_small _ _ _ _ _ _ c.shared_slice_known-1.given c.depths.ensures c.in-Done.is)

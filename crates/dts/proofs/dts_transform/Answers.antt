@@ -1,0 +1,7 @@
+-- `dts_transform` meets its contract: both numbers and both buffers are those of the call.
+use Rattle.dts.proofs.Codes.{coded}
+use borrow.Author.Rules.{rules}
+use Rattle.dts.proofs.dts_transform.Goals as goal
+
+pub returns : goal.returns
+returns c = coded _ c.transform-made.ensures c.tell.ensures

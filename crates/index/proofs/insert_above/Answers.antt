@@ -1,0 +1,7 @@
+-- `index::insert_above` meets its contract.
+use Rattle.index.proofs.Laws.{inserted_above}
+use borrow.Author.Rules.{rules}
+use Rattle.index.proofs.insert_above.Goals as goal
+
+pub returns : goal.returns
+returns c = inserted_above _ c.requires.0 c.requires.1 c.raise.ensures

@@ -1,0 +1,6 @@
+-- `index::join_at` meets its contract.
+use borrow.Author.Rules.{rules}
+use Rattle.index.proofs.join_at.Goals as goal
+
+pub returns : goal.returns
+returns c = rw c.joined.ensures

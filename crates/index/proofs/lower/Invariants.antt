@@ -1,0 +1,11 @@
+-- `index::lower` meets its contract: the first i entries have moved.
+use Prim.Native.Nat.{◌-◌}
+use native.Mathlib.Omega.{arith}
+use Rattle.index.proofs.Laws.{Lowering, lowering_start, lowering_turn, lowering_done}
+use Rattle.index.proofs.lower.Given as goal
+
+abbrev pub invariant-loop-i : goal.invariant-loop-i
+invariant-loop-i l = Lowering l.initial.table l.table l.p l.i
+
+abbrev pub decreases-loop-i : goal.decreases-loop-i
+decreases-loop-i l = l.p - l.i

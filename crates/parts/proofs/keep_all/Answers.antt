@@ -1,0 +1,32 @@
+-- `keep_all` meets its contract.
+use mathlib.Core.Path.{refl}
+use native.Mathlib.Omega.{arith}
+use Rattle.definition.specs.Tree.{read_all, end_at, tree_at}
+use Rattle.definition.proofs.Walk.{left-first}
+use Rattle.swc_helpers.proofs.Made.{is_whole}
+use Rattle.parts.proofs.Kept.{puts-length, Keeping, keeping_start, keeping_turn, keeping_done}
+use Rattle.parts.proofs.keep_all.Goals as goal
+
+pub loop-k-init : goal.loop-k-init
+loop-k-init c = keeping_start _ _ _ _ _ c.requires _ _ (omega (arith, c.well_formed))
+
+pub keep-next-requires : goal.keep-next-requires
+keep-next-requires c = left-first c.loop-k.invariant.left c.loop-k-test.true
+
+pub record_end-child-requires : goal.record_end-child-requires
+record_end-child-requires c = is_whole _ _ _ (left-first c.loop-k.invariant.left c.loop-k-test.true)
+
+pub overflow_sub-k : goal.overflow_sub-k
+overflow_sub-k c = omega arith
+
+pub loop-k-smaller : goal.loop-k-smaller
+loop-k-smaller c = omega arith
+
+pub loop-k-preserved : goal.loop-k-preserved
+loop-k-preserved c = keeping_turn c.loop-k.invariant (omega (arith, c.well_formed)) c.loop-k-test.true (λ rs. refl) c.keep-next.ensures c.record_end-child.ensures
+
+pub shape_of-out : goal.shape_of-out
+shape_of-out c = puts-length c.loop-k.invariant.put
+
+pub returns : goal.returns
+returns c = keeping_done c.loop-k.invariant refl (omega arith)

@@ -1,0 +1,15 @@
+-- `prescan::add_class` meets its contract.
+use mathlib.Core.Path.{sym}
+use borrow.Author.Rules.{rules}
+use Rattle.records.proofs.Accepted.{room}
+use Rattle.prescan.proofs.Laws.{params-child, class-plain}
+use Rattle.prescan.proofs.add_class.Goals as goal
+
+pub body_at-requires : goal.body_at-requires
+body_at-requires c = room c.requires.0
+
+pub mark_at-requires : goal.mark_at-requires
+mark_at-requires c = room (params-child c.requires.0 c.requires.1 c.body_at.ensures).accepted
+
+pub returns-in-NonGenericClass : goal.returns-in-NonGenericClass
+returns-in-NonGenericClass c = rw c.in-NonGenericClass.is (sym (class-plain c.requires.0 c.requires.1 c.body_at.ensures c.mark_at.ensures.0))

@@ -1,0 +1,49 @@
+-- `prescan::index` meets its contract: each turn of the loop enters one item.
+use native.Mathlib.Omega.{arith}
+use mathlib.Core.Path.{refl, sym, ap, ◌∙◌}
+use Prim.Native.Nat.{◌-◌, ◌/◌}
+use lib.ListN.{length}
+use Rattle.definition.specs.Tree.{end_at, tree_at}
+use Rattle.definition.specs.Check.{deepest}
+use Rattle.definition.specs.Record.{kids_of}
+use Rattle.definition.specs.Prescan.{add_item}
+use Rattle.definition.proofs.Walk.{left-first}
+use Rattle.records.proofs.Accepted.{room, lies}
+use Rattle.prescan.proofs.Tables.{Items, Filling, room-start, filling_start, filling_turn, filling_done, items-step, items-none, indexed, inside}
+use Rattle.prescan.proofs.index.Goals as goal
+
+pub count_at-rest-requires : goal.count_at-rest-requires
+count_at-rest-requires c = room c.requires.0
+
+pub body_at-item-requires : goal.body_at-item-requires
+body_at-item-requires c = room c.requires.0
+
+pub loop-rest-init : goal.loop-rest-init
+loop-rest-init c = filling_start Items c.requires.0 (room-start c.requires.1.0 c.requires.1.1 refl) c.count_at-rest.ensures.0 c.body_at-item.ensures
+
+pub overflow_sub-enter_item : goal.overflow_sub-enter_item
+overflow_sub-enter_item c = omega arith
+
+pub enter_item-filled-requires : goal.enter_item-filled-requires
+enter_item-filled-requires c = (left-first c.loop-rest.invariant.left c.loop-rest-test.true, c.loop-rest.invariant.room)
+
+pub overflow_sub-record_end : goal.overflow_sub-record_end
+overflow_sub-record_end c = omega arith
+
+pub record_end-item-requires : goal.record_end-item-requires
+record_end-item-requires c = lies (left-first c.loop-rest.invariant.left c.loop-rest-test.true)
+
+pub overflow_sub-rest : goal.overflow_sub-rest
+overflow_sub-rest c = omega arith
+
+pub loop-rest-smaller : goal.loop-rest-smaller
+loop-rest-smaller c = omega arith
+
+pub loop-rest-preserved : goal.loop-rest-preserved
+loop-rest-preserved c = filling_turn c.loop-rest.invariant add_item items-step c.loop-rest-test.true c.enter_item-filled.ensures c.record_end-item.ensures
+
+pub shape_of-table : goal.shape_of-table
+shape_of-table c = c.loop-rest.invariant.filled.same
+
+pub returns : goal.returns
+returns c = let f = filling_done c.loop-rest.invariant items-none c.loop-rest-test.false in (indexed refl f, inside _ _ (omega (arith, f.from, f.same)) f.enters.sorted)

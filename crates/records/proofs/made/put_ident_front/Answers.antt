@@ -1,0 +1,8 @@
+-- `made::put_ident_front` meets its contract.
+use native.Mathlib.Omega.{arith}
+use Rattle.records.proofs.Puts.{put-put}
+use borrow.Author.Rules.{rules}
+use Rattle.records.proofs.made.put_ident_front.Goals as goal
+
+pub returns : goal.returns
+returns c = put-put (omega arith) c.put_made-q.ensures c.put_text.ensures

@@ -1,0 +1,6 @@
+-- `range_at` meets its contract.
+use borrow.Author.Rules.{rules}
+use Rattle.records.proofs.range_at.Goals as goal
+
+pub returns : goal.returns
+returns c = cc (c.u32_at-start.ensures.0, c.u32_at-end.ensures.0)

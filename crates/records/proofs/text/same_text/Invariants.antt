@@ -1,0 +1,15 @@
+-- `records::text::same_text` meets its contract: up to the place i the two texts, of one length, are equal.
+use mathlib.Core.Path.{◌≡◌, sym, ◌∙◌}
+use borrow.Author.Rules.{rules}
+use Prim.Native.Nat.{◌-◌, ◌≤◌}
+use native.Mathlib.Omega.{arith}
+use lib.ListN.{length, drop}
+use Rattle.definition.specs.Record.{same_text}
+use Rattle.records.proofs.Texts.{front-passed, same-longer, same-on, same_off, same_end}
+use Rattle.records.proofs.text.same_text.Given as goal
+
+abbrev pub invariant-loop-i : goal.invariant-loop-i
+invariant-loop-i l = (l.i ≤ length l.a) × (length l.a ≡ length l.b) × (same_text l.a l.b ≡ same_text (drop l.i l.a) (drop l.i l.b))
+
+abbrev pub decreases-loop-i : goal.decreases-loop-i
+decreases-loop-i l = length l.a - l.i

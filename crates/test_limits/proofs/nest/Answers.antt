@@ -1,0 +1,14 @@
+-- `test_limits::nest` is safe and ends: each turn leaves one level less.
+use mathlib.Core.Path.{◌≡◌, refl, ap, ◌∙◌}
+use borrow.Author.Rules.{rules}
+use lib.ListN.{length}
+use Rattle.test_limits.proofs.nest.Goals as goal
+
+pub loop-n-init : goal.loop-n-init
+loop-n-init c = refl
+
+pub loop-n-preserved : goal.loop-n-preserved
+loop-n-preserved c = c.put-p-in-loop-n.auto.0 ∙ c.loop-n.invariant
+
+pub shape_of-tree : goal.shape_of-tree
+shape_of-tree c = c.put.auto.0 ∙ c.loop-n.invariant ∙ c.put-p-2.auto.0 ∙ c.put-p.auto.0

@@ -1,0 +1,10 @@
+-- `test_types::main` is safe and ends: each turn raises the module's number.
+use Prim.Native.Nat.{◌-◌}
+use borrow.Author.Rules.{rules}
+use Rattle.test_types.proofs.main.Goals as goal
+
+pub loop-number-init : goal.loop-number-init
+loop-number-init c = tt
+
+pub loop-number-preserved : goal.loop-number-preserved
+loop-number-preserved c = tt

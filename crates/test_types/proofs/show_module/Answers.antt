@@ -1,0 +1,12 @@
+-- `test_types::show_module` is safe: the root of a tree that was checked is accepted, and the table is long enough.
+use mathlib.Core.Path.{◌≡◌}
+use Prim.Native.Nat.{◌+◌, ◌-◌}
+use native.Mathlib.Omega.{arith}
+use borrow.Author.Rules.{rules}
+use Rattle.test_types.proofs.show_module.Goals as goal
+
+pub index-names-requires : goal.index-names-requires
+index-names-requires c = let u = c.print_check.ensures c.if-print_check.true in (u.0, (u.1, omega (arith, u.1)))
+
+pub show_items-requires : goal.show_items-requires
+show_items-requires c = let e = c.index-names.result in let z : e.from + e.count - e.from ≡ e.count = omega arith in ((c.print_check.ensures c.if-print_check.true).0, rw z c.index-names.ensures.0)

@@ -1,0 +1,11 @@
+-- `made::move_up` meets its contract.
+use native.Mathlib.Omega.{arith}
+use borrow.Author.Rules.{rules}
+use Rattle.typing.proofs.Shift.{Moving, moving_start, moving_turn, moving_done, moved_none}
+use Rattle.typing.proofs.made.move_up.Given as goal
+
+abbrev pub invariant-loop-i : goal.invariant-loop-i
+invariant-loop-i l = Moving l.initial.out l.out l.from l.start l.initial.i l.i
+
+abbrev pub decreases-loop-i : goal.decreases-loop-i
+decreases-loop-i l = l.i
