@@ -1,5 +1,6 @@
 // The check of one tree: reads a tree of at most 32,768 bytes from standard input (else prints `too long`), takes the overload list as empty, and
 // prints `accepted`, or `refused`, the refusal's number, `at` and its place.
+#![tactic(auto)]
 
 fn main() {
     let mut buffer = [0u8; console::TREE_ROOM];

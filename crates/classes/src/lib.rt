@@ -1,4 +1,6 @@
 // Classes, and the functions that they share with declarations: `class_body_to_type` and what it calls.
+#![tactic(auto)]
+
 ghost use Rattle.std.specs.Prelude.{◌≡◌, []};
 ghost use Rattle.definition.specs.Tree.{mark_at, tree_at};
 ghost use Rattle.definition.specs.Grammar.{mark};

@@ -1,4 +1,6 @@
 // What the programs share: what they read from standard input, what they print, and the buffers that they lend.
+#![tactic(auto)]
+
 ghost use Rattle.std.specs.Prelude.{true, ◌≡◌, ◌≤◌, length, take};
 ghost use Rattle.definition.specs.Check.{longest_tree, deepest};
 ghost use Rattle.definition.specs.Children.{AcceptedAt};

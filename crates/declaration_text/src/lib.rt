@@ -1,5 +1,7 @@
 // Request §3, "Declarations as text": the text of a tree, for every byte string: the check, a dry run that says how long the text is and where a number
 // is outside the forms, and the run.
+#![tactic(auto)]
+
 ghost use Rattle.std.specs.Prelude.{true, false, ◌≡◌, ◌*◌, ◌≤◌, length};
 ghost use Rattle.definition.specs.Tree.{tree_at};
 ghost use Rattle.definition.specs.Check.{longest_tree, deepest};

@@ -54,6 +54,7 @@ fn braces(
 
 // A template, of its n children from `at` on.
 #[cycle(behind_braces_child_number_piece_sibling_siblings_template_write)]
+#[cycle(written)]
 fn template(
     rows: &Rows,
     words: &[u8],
@@ -98,6 +99,7 @@ fn template(
 
 // What is written for the first of n children: for an Op, an element or a member.
 #[cycle(behind_braces_child_number_piece_sibling_siblings_template_write)]
+#[cycle(written)]
 fn sibling(
     rows: &Rows,
     words: &[u8],
@@ -144,6 +146,7 @@ fn sibling(
 
 // What is written for each of n children from `at` on.
 #[cycle(behind_braces_child_number_piece_sibling_siblings_template_write)]
+#[cycle(written)]
 fn siblings(
     rows: &Rows,
     words: &[u8],
@@ -208,6 +211,7 @@ fn behind(
 
 // The child at the place i, if there is one.
 #[cycle(behind_braces_child_number_piece_sibling_siblings_template_write)]
+#[cycle(written)]
 fn child(
     rows: &Rows,
     words: &[u8],
@@ -231,6 +235,7 @@ fn child(
 
 // A number: its spelling, where it has one, else its decimal.
 #[cycle(behind_braces_child_number_piece_sibling_siblings_template_write)]
+#[cycle(written)]
 fn number(
     rows: &Rows,
     words: &[u8],
@@ -252,6 +257,7 @@ fn number(
 
 // The piece at the place i of a row.
 #[cycle(behind_braces_child_number_piece_sibling_siblings_template_write)]
+#[cycle(written)]
 fn piece(
     rows: &Rows,
     words: &[u8],
@@ -330,6 +336,7 @@ fn piece(
 
 // The tokens of the record at `at`; `under` says whether an Oc holds it.
 #[cycle(behind_braces_child_number_piece_sibling_siblings_template_write)]
+#[cycle(written)]
 pub fn write(
     rows: &Rows,
     words: &[u8],

@@ -1,5 +1,7 @@
 // The declarations themselves: reads a tree as `declares` does, with the same list and context, and writes the output tree to standard output; a
 // refusal is a line, as there.
+#![tactic(auto)]
+
 use console::{DIAGNOSTICS_ROOM, OUTPUT_ROOM, UNRESOLVED, print, print_refusal};
 use transform_dts::Answer;
 

@@ -1,5 +1,7 @@
 // Document 01's program: reads a tree of at most 32,768 bytes from standard input (else prints `too long`), takes the overload list as empty and 1
 // as the unresolved context, and prints what the call answers.
+#![tactic(auto)]
+
 ghost use Rattle.std.specs.Prelude.{◌+◌, ◌*◌, ◌≤◌, length};
 
 use console::{

@@ -1,4 +1,6 @@
 // Request §1: the transform, and how many of each diagnostic it gives at each namespace depth.
+#![tactic(auto)]
+
 ghost use Rattle.std.specs.Prelude.{◌≡◌, ◌*◌, ◌/◌, ◌<◌, ◌≤◌, length};
 ghost use Rattle.definition.specs.Tree.{tree_at};
 ghost use Rattle.definition.specs.Check.{longest_tree, deepest};

@@ -115,6 +115,7 @@ fn count_plain(
 
 // The n items from `at` on, which `depth` Ns records hold.
 #[cycle(count_item_count_items)]
+#[cycle(counted_items)]
 pub fn count_items(
     tree: &[u8],
     at: usize,
@@ -162,6 +163,7 @@ pub fn count_items(
 
 // One of them.
 #[cycle(count_item_count_items)]
+#[cycle(counted_items)]
 fn count_item(
     tree: &[u8],
     at: usize,

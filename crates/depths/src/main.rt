@@ -1,5 +1,7 @@
 // Request §1's program: reads and refuses as `declares` does, else prints how many of each diagnostic stand at each namespace depth: five lines of 32
 // counts, d1 on top, and the total below.
+#![tactic(auto)]
+
 use console::{DIAGNOSTICS_ROOM, OUTPUT_ROOM, UNRESOLVED, print, print_number, print_refusal};
 use depth_counts::table::{COLUMNS, ROWS, Table, total};
 use transform_dts::Answer;

@@ -1,5 +1,7 @@
 // The exported C functions, thin over the crates that do the work; `include/dts.h` declares them. Each returns 0 or a refusal's number, and `answer`
 // is two numbers.
+#![tactic(auto)]
+
 ghost use Rattle.std.specs.Prelude.{◌≡◌};
 ghost use Rattle.definition.specs.Tree.{tree_at};
 ghost use Rattle.definition.specs.Check.{deepest, check_tree};

@@ -1,4 +1,6 @@
 // The check of a tree and of an overload list: refusals 1 to 8 of document 01's table, in its order and with its places.
+#![tactic(auto)]
+
 ghost use Rattle.std.specs.Prelude.{◌≡◌};
 ghost use Rattle.definition.specs.Check.{check_tree};
 ghost use Rattle.grammar.specs.Answers.{checked, number};

@@ -1,4 +1,6 @@
 // An index of names: offsets of Ids with three bits for each, sorted by the Ids' texts, found by halving.
+#![tactic(auto)]
+
 ghost use Rattle.std.specs.Prelude.{◌≡◌, ◌&&◌, ◌||◌, cond, ◌+◌, ◌*◌, ◌/◌, ◌%◌, ◌<◌, ◌≤◌, eqb, ltb, length, get_or, set, drop};
 ghost use Rattle.definition.specs.Tree.{body_at, text_at};
 ghost use Rattle.definition.specs.Record.{same_text};

@@ -29,6 +29,7 @@ fn valid_enum_ts_type(tree: &[u8], at: usize, levels: usize) -> bool
 
 // `valid_enum_init_expr`, arm by arm.
 #[cycle(valid_enum_init_expr_valid_exprs_valid_part)]
+#[cycle(enum_values)]
 pub fn valid_enum_init_expr(tree: &[u8], at: usize, levels: usize) -> bool
     requires { AcceptedAt levels tree.now at }
     ensures { result ≡ valid_enum_init_expr (tree_at levels tree.now at) }
@@ -62,6 +63,7 @@ pub fn valid_enum_init_expr(tree: &[u8], at: usize, levels: usize) -> bool
 
 // `Expr::Tpl`: whether all its expressions are valid.
 #[cycle(valid_enum_init_expr_valid_exprs_valid_part)]
+#[cycle(enum_values)]
 fn valid_exprs(tree: &[u8], at: usize, levels: usize) -> bool
     requires { AcceptedAt levels tree.now at }
     ensures { result ≡ valid_all (kids_of (tree_at levels tree.now at)) }
@@ -80,6 +82,7 @@ fn valid_exprs(tree: &[u8], at: usize, levels: usize) -> bool
 
 // A child of a template: a Qu, an Op or an expression.
 #[cycle(valid_enum_init_expr_valid_exprs_valid_part)]
+#[cycle(enum_values)]
 fn valid_part(tree: &[u8], at: usize, levels: usize) -> bool
     requires { AcceptedAt levels tree.now at }
     ensures { result ≡ ((is "Qu" (tree_at levels tree.now at) || is "Op" (tree_at levels tree.now at))

@@ -1,4 +1,6 @@
 // The keys of class members and the names that are made: `valid_prop_name`, `is_well_known_symbol_expr` and `gen_unique_name`.
+#![tactic(auto)]
+
 ghost use Rattle.std.specs.Prelude.{◌≡◌};
 ghost use Rattle.definition.specs.Tree.{tree_at};
 ghost use Rattle.definition.specs.Children.{AcceptedAt};

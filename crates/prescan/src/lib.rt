@@ -1,4 +1,6 @@
 // `prescan_module_ids`: the three sets of module-level names, as an index that is built once and asked by halving.
+#![tactic(auto)]
+
 ghost use Rattle.std.specs.Prelude.{◌≡◌, ◌+◌, ◌*◌, ◌-◌, ◌/◌, ◌<◌, ◌≤◌, length, take};
 ghost use Rattle.definition.specs.Tree.{mark_at, text_at, end_at, tree_at};
 ghost use Rattle.definition.specs.Grammar.{mark};

@@ -1,6 +1,8 @@
 // The record reader: "a struct holding the tree and an offset". Few thin functions over those of crate `records`: each takes the
 // struct apart and calls a covered function with the tree and the offset. `next_at` and `child_at` make a reader in a local; who
 // calls them passes a plain slice and numbers.
+#![tactic(auto)]
+
 ghost use Rattle.std.specs.Prelude.{◌≡◌, ◌+◌, ◌≤◌, length};
 ghost use Rattle.definition.specs.Tree.{head_size, body_at, text_at, end_at};
 ghost use Rattle.records.specs.Fields.{fields_at};

@@ -1,4 +1,6 @@
 // Records: numbers, heads, marks, a record's end and the part of the tree that it fills, copies and clipped writes.
+#![tactic(auto)]
+
 ghost use Rattle.std.specs.Prelude.{◌≡◌, ◌+◌, ◌<◌, ◌≤◌, length, set};
 ghost use Rattle.std.proofs.lemmas.List.Edits.{sets};
 ghost use Rattle.definition.specs.Tree.{flags_size, head_size, le2, le4, flag_bytes, u16_at, u32_at, mark_at, flags_at, count_at, body_at, text_at, end_at};

@@ -1,6 +1,8 @@
 // swc_helpers.rs: small types, types of literals and of templates, and the argument of `Object.freeze`. A function that makes a record writes
 // it at a position, as far as there is room, and returns the position behind it. One that makes a record around a type which is typed later
 // writes what stands before that type.
+#![tactic(auto)]
+
 ghost use Rattle.std.specs.Prelude.{◌≡◌};
 ghost use Rattle.std.proofs.Math.Option.{some};
 ghost use Rattle.definition.specs.Tree.{encode, tree_at, mark_at};

@@ -1,5 +1,7 @@
 // The functions of `swc_helpers`, `prescan` and `names` on every record of small trees, and what they give, a line each. Standard input holds
 // the trees, each behind its length in two bytes. What has to be printed comes from the Rust: `oracle leaves`.
+#![tactic(auto)]
+
 ghost use Rattle.definition.specs.Check.{deepest};
 ghost use Rattle.definition.specs.Children.{AcceptedAt};
 ghost use Rattle.definition.specs.Grammar.{mark};

@@ -1,5 +1,7 @@
 // Document 01's limits, which are too large to evaluate in the logic: the longest tree and one byte more, 64 and 65 levels, the longest overload
 // list and one entry more. Each line is the check's answer, but the last: the call's on the longest tree.
+#![tactic(auto)]
+
 use console::{UNRESOLVED, front, print, print_done, print_number, print_refusal};
 use grammar::Checked;
 use records::marks::{AR, IM, MO, OE, OP, PR, XE};

@@ -4,6 +4,8 @@
 // context, the lengths of both buffers; the answer: 0, bytes and diagnostics, or the refusal's number, its place and 0; 1 for `depths`, 0 for the
 // transform, and how many cells of the table are not 0), then tree, list, output and diagnostics, and the cells: the place of each, row by row, and its
 // count, four bytes each. Where a length is more than the bytes that follow, any bytes do. `oracle answers` makes the cases.
+#![tactic(auto)]
+
 ghost use Rattle.std.specs.Prelude.{◌≤◌};
 
 use console::{ROOM, front, front_mut, print, print_number, read_bytes};

@@ -2,6 +2,8 @@
 // every byte of the buffer, those behind the text and those of a refusal too, are compared with what the oracle gave. A case is five numbers of four
 // bytes (the tree's bytes that follow and its length, the length of the buffer; the answer: 0 and the bytes of the text, or the refusal's number and its
 // place), then the tree and the text. Where a length is more than the bytes that follow, any bytes do. `oracle text-answers` makes the cases.
+#![tactic(auto)]
+
 ghost use Rattle.std.specs.Prelude.{◌≤◌};
 
 use console::{ROOM, front, front_mut, print, print_number, read_bytes};

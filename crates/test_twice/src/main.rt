@@ -1,6 +1,8 @@
 // Demand 3, run: for each module of standard input what the call answers, what it answers on exactly the bytes that it wrote, and whether both
 // outputs have the same length and the same bytes. Each module stands behind its length in two bytes; the overload list is empty and 1 the
 // unresolved context.
+#![tactic(auto)]
+
 use console::{MOST, UNRESOLVED, front, print, print_done, print_number, print_refusal, unwritten};
 use transform_dts::Answer;
 use transform_dts::twice::Twice;

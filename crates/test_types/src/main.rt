@@ -1,6 +1,8 @@
 // The types of expressions: for the expression of each Xe of the modules in standard input, and in each of the four modes, what a dry run says,
 // and what is written where there is exactly as much room as it asked for. Each module stands behind its length in two bytes. What has to be
 // printed comes from the Rust: `oracle types`.
+#![tactic(auto)]
+
 ghost use Rattle.std.specs.Prelude.{◌≡◌};
 ghost use Rattle.definition.specs.Check.{deepest};
 ghost use Rattle.definition.specs.Children.{AcceptedAt};

@@ -1,5 +1,7 @@
 // Request §3's program: reads and refuses as `declares` does, and prints the text of the declarations: the transform, then its output's text into 393,216
 // bytes; a refusal of either is a line, as there.
+#![tactic(auto)]
+
 use console::{DIAGNOSTICS_ROOM, OUTPUT_ROOM, UNRESOLVED, print, print_refusal};
 use declaration_text::Answer;
 

@@ -1,4 +1,6 @@
 // Request §3: tokens on their way into the text. "One space parts two nonempty tokens, unless both are one template's own."
+#![tactic(auto)]
+
 ghost use Rattle.std.specs.Prelude.{◌≡◌, [], ◌∷◌, ◌<◌, min};
 ghost use Rattle.definition.specs.Text.{token, own, hex_digit, is_escaped, escaped_byte, escaped, string_token, minus, integer_token, decimal_token};
 ghost use Rattle.definition.specs.Numerals.{bits_of, whole_of};

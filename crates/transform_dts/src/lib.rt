@@ -1,4 +1,6 @@
 // `transform` on a Module, for every two byte strings: the check, a dry run that says how long output and diagnostics are, and the run.
+#![tactic(auto)]
+
 ghost use Rattle.std.specs.Prelude.{◌≡◌, ◌*◌, ◌/◌, ◌<◌, ◌≤◌, length};
 ghost use Rattle.definition.specs.Check.{longest_tree, deepest};
 ghost use Rattle.definition.specs.Children.{AcceptedAt};
