@@ -118,7 +118,6 @@ fn block_at(tree: &[u8], at: usize, levels: usize) -> Block
 }
 
 // An item, which `depth` Ns records hold, and the block that it opens.
-#[cycle(put_item_put_items)]
 #[cycle(item_lines)]
 fn put_item(
     rows: &Rows,
@@ -163,7 +162,6 @@ fn put_item(
 }
 
 // The n items from `at` on.
-#[cycle(put_item_put_items)]
 #[cycle(item_lines)]
 pub fn put_items(
     rows: &Rows,

@@ -26,7 +26,7 @@ const LIST: u8 = 4;
 const MEMBERS: u8 = 5;
 
 // The first of n expressions of a template in its braces, if there is one.
-#[cycle(behind_braces_child_number_piece_sibling_siblings_template_write)]
+#[cycle(written)]
 fn braces(
     rows: &Rows,
     words: &[u8],
@@ -53,7 +53,6 @@ fn braces(
 }
 
 // A template, of its n children from `at` on.
-#[cycle(behind_braces_child_number_piece_sibling_siblings_template_write)]
 #[cycle(written)]
 fn template(
     rows: &Rows,
@@ -98,7 +97,6 @@ fn template(
 }
 
 // What is written for the first of n children: for an Op, an element or a member.
-#[cycle(behind_braces_child_number_piece_sibling_siblings_template_write)]
 #[cycle(written)]
 fn sibling(
     rows: &Rows,
@@ -145,7 +143,6 @@ fn sibling(
 }
 
 // What is written for each of n children from `at` on.
-#[cycle(behind_braces_child_number_piece_sibling_siblings_template_write)]
 #[cycle(written)]
 fn siblings(
     rows: &Rows,
@@ -174,7 +171,7 @@ fn siblings(
 }
 
 // What is written for each of the children behind the slots.
-#[cycle(behind_braces_child_number_piece_sibling_siblings_template_write)]
+#[cycle(written)]
 fn behind(
     rows: &Rows,
     words: &[u8],
@@ -210,7 +207,6 @@ fn behind(
 }
 
 // The child at the place i, if there is one.
-#[cycle(behind_braces_child_number_piece_sibling_siblings_template_write)]
 #[cycle(written)]
 fn child(
     rows: &Rows,
@@ -234,7 +230,6 @@ fn child(
 }
 
 // A number: its spelling, where it has one, else its decimal.
-#[cycle(behind_braces_child_number_piece_sibling_siblings_template_write)]
 #[cycle(written)]
 fn number(
     rows: &Rows,
@@ -256,7 +251,6 @@ fn number(
 }
 
 // The piece at the place i of a row.
-#[cycle(behind_braces_child_number_piece_sibling_siblings_template_write)]
 #[cycle(written)]
 fn piece(
     rows: &Rows,
@@ -335,7 +329,6 @@ fn piece(
 }
 
 // The tokens of the record at `at`; `under` says whether an Oc holds it.
-#[cycle(behind_braces_child_number_piece_sibling_siblings_template_write)]
 #[cycle(written)]
 pub fn write(
     rows: &Rows,

@@ -114,7 +114,6 @@ fn count_plain(
 }
 
 // The n items from `at` on, which `depth` Ns records hold.
-#[cycle(count_item_count_items)]
 #[cycle(counted_items)]
 pub fn count_items(
     tree: &[u8],
@@ -162,7 +161,6 @@ pub fn count_items(
 }
 
 // One of them.
-#[cycle(count_item_count_items)]
 #[cycle(counted_items)]
 fn count_item(
     tree: &[u8],

@@ -28,7 +28,6 @@ fn valid_enum_ts_type(tree: &[u8], at: usize, levels: usize) -> bool
 }
 
 // `valid_enum_init_expr`, arm by arm.
-#[cycle(valid_enum_init_expr_valid_exprs_valid_part)]
 #[cycle(enum_values)]
 pub fn valid_enum_init_expr(tree: &[u8], at: usize, levels: usize) -> bool
     requires { AcceptedAt levels tree.now at }
@@ -62,7 +61,6 @@ pub fn valid_enum_init_expr(tree: &[u8], at: usize, levels: usize) -> bool
 }
 
 // `Expr::Tpl`: whether all its expressions are valid.
-#[cycle(valid_enum_init_expr_valid_exprs_valid_part)]
 #[cycle(enum_values)]
 fn valid_exprs(tree: &[u8], at: usize, levels: usize) -> bool
     requires { AcceptedAt levels tree.now at }
@@ -81,7 +79,6 @@ fn valid_exprs(tree: &[u8], at: usize, levels: usize) -> bool
 }
 
 // A child of a template: a Qu, an Op or an expression.
-#[cycle(valid_enum_init_expr_valid_exprs_valid_part)]
 #[cycle(enum_values)]
 fn valid_part(tree: &[u8], at: usize, levels: usize) -> bool
     requires { AcceptedAt levels tree.now at }

@@ -50,7 +50,6 @@ fn is_overloaded(list: &[u8], tree: &[u8], at: usize, decl: usize) -> bool
 }
 
 // `transform_module_items`: the n records from `at` on; `top` is `is_top_level`.
-#[cycle(decl_to_type_decl_export_decl_ns_block_transform_module_item_transform_module_items_transform_module_stmt_transform_ts_ns_body_with_body)]
 #[cycle(statements)]
 pub fn transform_module_items(
     tree: &[u8],
@@ -95,7 +94,6 @@ pub fn transform_module_items(
 }
 
 // One of the items, by its kind.
-#[cycle(decl_to_type_decl_export_decl_ns_block_transform_module_item_transform_module_items_transform_module_stmt_transform_ts_ns_body_with_body)]
 #[cycle(statements)]
 pub fn transform_module_item(
     tree: &[u8],
@@ -146,7 +144,6 @@ pub fn transform_module_item(
 }
 
 // `ModuleDecl::ExportDecl`: "Fd goes if the range of the outermost of Ed, Xd, Fd is in the overload list".
-#[cycle(decl_to_type_decl_export_decl_ns_block_transform_module_item_transform_module_items_transform_module_stmt_transform_ts_ns_body_with_body)]
 #[cycle(statements)]
 fn export_decl(
     tree: &[u8],
@@ -192,7 +189,6 @@ fn export_decl(
 }
 
 // `transform_module_stmt`: "In, Ty and a bare Us pass".
-#[cycle(decl_to_type_decl_export_decl_ns_block_transform_module_item_transform_module_items_transform_module_stmt_transform_ts_ns_body_with_body)]
 #[cycle(statements)]
 fn transform_module_stmt(
     tree: &[u8],
@@ -234,7 +230,6 @@ fn transform_module_stmt(
 }
 
 // `decl_to_type_decl`: "Exported Us gives d5 at Us".
-#[cycle(decl_to_type_decl_export_decl_ns_block_transform_module_item_transform_module_items_transform_module_stmt_transform_ts_ns_body_with_body)]
 #[cycle(statements)]
 fn decl_to_type_decl(
     tree: &[u8],
@@ -307,7 +302,6 @@ fn decl_to_type_decl(
 }
 
 // An Ns or an Nd: its body is the second child.
-#[cycle(decl_to_type_decl_export_decl_ns_block_transform_module_item_transform_module_items_transform_module_stmt_transform_ts_ns_body_with_body)]
 #[cycle(statements)]
 fn with_body(
     tree: &[u8],
@@ -342,7 +336,6 @@ fn with_body(
 }
 
 // `transform_ts_ns_body`; "Nd keeps its name and its body is transformed within it" (document 02, §2), where the Rust has its innermost Nb.
-#[cycle(decl_to_type_decl_export_decl_ns_block_transform_module_item_transform_module_items_transform_module_stmt_transform_ts_ns_body_with_body)]
 #[cycle(statements)]
 fn transform_ts_ns_body(
     tree: &[u8],
@@ -381,7 +374,6 @@ fn transform_ts_ns_body(
 }
 
 // `TsNamespaceBody::TsModuleBlock`: an Nb, whose items are not at the top level. Its front follows them, with their number.
-#[cycle(decl_to_type_decl_export_decl_ns_block_transform_module_item_transform_module_items_transform_module_stmt_transform_ts_ns_body_with_body)]
 #[cycle(statements)]
 fn ns_block(
     tree: &[u8],

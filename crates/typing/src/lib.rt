@@ -215,7 +215,6 @@ fn params_from(function: bool) -> usize
 }
 
 // `expr_to_ts_type`: the type of the expression at `at`, arm by arm.
-#[cycle(array_type_call_type_element_type_expr_to_ts_type_function_type_key_value_named_param_object_type_param_type_pat_to_ts_fn_param_property_type_rest_type_spread_type_tuple_type_unnamed_param)]
 #[cycle(expressions)]
 pub fn expr_to_ts_type(
     tree: &[u8],
@@ -281,7 +280,6 @@ pub fn expr_to_ts_type(
 }
 
 // `Expr::Array`: a tuple, readonly where `as_readonly` or `readonly_of` asks for it.
-#[cycle(array_type_call_type_element_type_expr_to_ts_type_function_type_key_value_named_param_object_type_param_type_pat_to_ts_fn_param_property_type_rest_type_spread_type_tuple_type_unnamed_param)]
 #[cycle(expressions)]
 fn array_type(
     tree: &[u8],
@@ -309,7 +307,6 @@ fn array_type(
 }
 
 // `TsTupleType`, from the elements of the Ar at `at`.
-#[cycle(array_type_call_type_element_type_expr_to_ts_type_function_type_key_value_named_param_object_type_param_type_pat_to_ts_fn_param_property_type_rest_type_spread_type_tuple_type_unnamed_param)]
 #[cycle(expressions)]
 fn tuple_type(
     tree: &[u8],
@@ -353,7 +350,6 @@ fn tuple_type(
 }
 
 // One of `arr.elems`; the Ops of the array stand behind them.
-#[cycle(array_type_call_type_element_type_expr_to_ts_type_function_type_key_value_named_param_object_type_param_type_pat_to_ts_fn_param_property_type_rest_type_spread_type_tuple_type_unnamed_param)]
 #[cycle(expressions)]
 fn element_type(
     tree: &[u8],
@@ -390,7 +386,6 @@ fn element_type(
 }
 
 // `expr_or_spread.spread.is_some()`: a rest of what is spread, or "give up on the whole array".
-#[cycle(array_type_call_type_element_type_expr_to_ts_type_function_type_key_value_named_param_object_type_param_type_pat_to_ts_fn_param_property_type_rest_type_spread_type_tuple_type_unnamed_param)]
 #[cycle(expressions)]
 fn spread_type(
     tree: &[u8],
@@ -420,7 +415,6 @@ fn spread_type(
 }
 
 // `rest_type`: an array-typed name, or an array literal (`as_readonly` off).
-#[cycle(array_type_call_type_element_type_expr_to_ts_type_function_type_key_value_named_param_object_type_param_type_pat_to_ts_fn_param_property_type_rest_type_spread_type_tuple_type_unnamed_param)]
 #[cycle(expressions)]
 fn rest_type(
     tree: &[u8],
@@ -449,7 +443,6 @@ fn rest_type(
 }
 
 // `Expr::Object`: a type literal of the members that its properties give.
-#[cycle(array_type_call_type_element_type_expr_to_ts_type_function_type_key_value_named_param_object_type_param_type_pat_to_ts_fn_param_property_type_rest_type_spread_type_tuple_type_unnamed_param)]
 #[cycle(expressions)]
 fn object_type(
     tree: &[u8],
@@ -487,7 +480,6 @@ fn object_type(
 }
 
 // One of `obj.props`.
-#[cycle(array_type_call_type_element_type_expr_to_ts_type_function_type_key_value_named_param_object_type_param_type_pat_to_ts_fn_param_property_type_rest_type_spread_type_tuple_type_unnamed_param)]
 #[cycle(expressions)]
 fn property_type(
     tree: &[u8],
@@ -513,7 +505,6 @@ fn property_type(
 }
 
 // `Prop::KeyValue`.
-#[cycle(array_type_call_type_element_type_expr_to_ts_type_function_type_key_value_named_param_object_type_param_type_pat_to_ts_fn_param_property_type_rest_type_spread_type_tuple_type_unnamed_param)]
 #[cycle(expressions)]
 fn key_value(
     tree: &[u8],
@@ -550,7 +541,6 @@ fn key_value(
 
 // `Expr::Call`, of `Object.freeze`: "An argument that cannot be typed ends the call's typing at once; else `readonly_of`". The argument's type is
 // written as `readonly_of` it, and is given up where that has no answer.
-#[cycle(array_type_call_type_element_type_expr_to_ts_type_function_type_key_value_named_param_object_type_param_type_pat_to_ts_fn_param_property_type_rest_type_spread_type_tuple_type_unnamed_param)]
 #[cycle(expressions)]
 fn call_type(
     tree: &[u8],
@@ -583,7 +573,6 @@ fn call_type(
 }
 
 // `Expr::Fn`, at its Fu, and `Expr::Arrow`: a function's type.
-#[cycle(array_type_call_type_element_type_expr_to_ts_type_function_type_key_value_named_param_object_type_param_type_pat_to_ts_fn_param_property_type_rest_type_spread_type_tuple_type_unnamed_param)]
 #[cycle(expressions)]
 fn function_type(
     tree: &[u8],
@@ -634,7 +623,6 @@ fn function_type(
 }
 
 // One of `fn_expr.function.params`, a Pa, or of `arrow_expr.params`, a pattern; the Ops stand behind them.
-#[cycle(array_type_call_type_element_type_expr_to_ts_type_function_type_key_value_named_param_object_type_param_type_pat_to_ts_fn_param_property_type_rest_type_spread_type_tuple_type_unnamed_param)]
 #[cycle(expressions)]
 fn param_type(
     tree: &[u8],
@@ -662,7 +650,6 @@ fn param_type(
 }
 
 // `pat_to_ts_fn_param`.
-#[cycle(array_type_call_type_element_type_expr_to_ts_type_function_type_key_value_named_param_object_type_param_type_pat_to_ts_fn_param_property_type_rest_type_spread_type_tuple_type_unnamed_param)]
 #[cycle(expressions)]
 pub fn pat_to_ts_fn_param(
     tree: &[u8],
@@ -700,7 +687,6 @@ pub fn pat_to_ts_fn_param(
 }
 
 // `Pat::Assign` of a name: the parameter has that name and the type of the default.
-#[cycle(array_type_call_type_element_type_expr_to_ts_type_function_type_key_value_named_param_object_type_param_type_pat_to_ts_fn_param_property_type_rest_type_spread_type_tuple_type_unnamed_param)]
 #[cycle(expressions)]
 fn named_param(
     tree: &[u8],
@@ -736,7 +722,6 @@ fn named_param(
 }
 
 // `Pat::Assign` of another pattern: the parameter's name is generated once the default has been typed.
-#[cycle(array_type_call_type_element_type_expr_to_ts_type_function_type_key_value_named_param_object_type_param_type_pat_to_ts_fn_param_property_type_rest_type_spread_type_tuple_type_unnamed_param)]
 #[cycle(expressions)]
 fn unnamed_param(
     tree: &[u8],
