@@ -1,6 +1,5 @@
 -- `records::body_at` meets its contract: the head, and behind it the text.
 use native.Mathlib.Omega.{arith}
-use borrow.Author.Rules.{rules}
 use Rattle.records.proofs.body_at.Goals as goal
 
 pub overflow_add-result : goal.overflow_add-result

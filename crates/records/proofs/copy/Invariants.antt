@@ -1,12 +1,8 @@
 -- `records::copy` meets its contract: after i turns the first i bytes are copied. The measure is what is left.
-use mathlib.Core.Path.{◌≡◌, refl, sym, ap, ◌∙◌}
-use mathlib.Core.List.{List}
-use Prim.Native.Nat.{ℕ, ◌≤◌, ◌-◌}
-use native.Mathlib.Nat.{zero-add}
-use native.Mathlib.Omega.{arith}
-use lib.ListN.{length, take, set, get_or}
-use lib.Seq.{sets, length-sets, take_all}
-use Rattle.records.proofs.Stores.{copy_more, copy-all}
+use mathlib.Core.Path.{◌≡◌}
+use Prim.Native.Nat.{◌≤◌, ◌-◌}
+use lib.ListN.{length, take}
+use lib.Seq.{sets}
 use Rattle.records.proofs.copy.Given as goal
 
 abbrev pub invariant-loop-i : goal.invariant-loop-i

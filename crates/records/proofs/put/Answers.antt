@@ -1,7 +1,6 @@
 -- `records::put` meets its contract: a byte past the end is no store.
 use mathlib.Core.Path.{sym}
 use lib.Seq.{set_out}
-use borrow.Author.Rules.{rules}
 use Rattle.records.proofs.put.Goals as goal
 
 pub returns-else-p-out : goal.returns-else-p-out

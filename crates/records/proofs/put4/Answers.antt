@@ -3,7 +3,6 @@ use mathlib.Core.Path.{sym}
 use native.Mathlib.Numerals.{add-one, add-two, add-three}
 use Rattle.definition.specs.Tree.{le4}
 use Rattle.records.proofs.Stores.{sets-out}
-use borrow.Author.Rules.{rules}
 use Rattle.records.proofs.put4.Goals as goal
 
 pub returns-then-p-out : goal.returns-then-p-out

@@ -2,7 +2,6 @@
 use mathlib.Core.Path.{sym}
 use Rattle.records.specs.Fields.{field_bytes}
 use Rattle.records.proofs.Stores.{sets-out, head_sets}
-use borrow.Author.Rules.{rules}
 use Rattle.records.proofs.put_cut_head.Goals as goal
 
 pub returns-then-p-out : goal.returns-then-p-out

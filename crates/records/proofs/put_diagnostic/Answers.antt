@@ -5,7 +5,6 @@ use Rattle.definition.specs.Record.{diag_bytes}
 use Rattle.records.specs.Fields.{diag_of}
 use Rattle.records.specs.Wrote.{sat}
 use Rattle.records.proofs.Stores.{sets-out, diag-sets, length-diag_bytes}
-use borrow.Author.Rules.{rules}
 use Rattle.records.proofs.put_diagnostic.Goals as goal
 
 pub returns-then-diagnostics-d : goal.returns-then-diagnostics-d

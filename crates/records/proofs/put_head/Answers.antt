@@ -3,7 +3,6 @@ use mathlib.Core.Path.{sym, ◌∙◌, ap}
 use Prim.Native.Nat.{ℕ}
 use Rattle.records.specs.Wrote.{sat}
 use Rattle.records.proofs.Stores.{length-field_bytes}
-use borrow.Author.Rules.{rules}
 use Rattle.records.proofs.put_head.Goals as goal
 
 pub returns-then-end-out : goal.returns-then-end-out

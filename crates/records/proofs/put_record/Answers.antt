@@ -1,5 +1,4 @@
 -- `records::put_record` meets its contract: the part of the tree that the record fills is written as a text.
-use borrow.Author.Rules.{rules}
 use Rattle.records.proofs.put_record.Goals as goal
 
 pub returns : goal.returns

@@ -5,7 +5,6 @@ use native.Mathlib.Omega.{arith}
 use lib.ListN.{length, length-take, length-drop}
 use lib.Seq.{length-take-le}
 use Rattle.records.proofs.Stores.{sets-out, part_sets, cut_sets}
-use borrow.Author.Rules.{rules}
 use Rattle.records.proofs.put_text.Goals as goal
 
 pub returns-then-end-out : goal.returns-then-end-out

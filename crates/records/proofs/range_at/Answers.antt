@@ -1,5 +1,4 @@
 -- `range_at` meets its contract.
-use borrow.Author.Rules.{rules}
 use Rattle.records.proofs.range_at.Goals as goal
 
 pub returns : goal.returns

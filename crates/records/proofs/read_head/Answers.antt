@@ -1,5 +1,4 @@
 -- `records::read_head` meets its contract: each field is what its reader ensures.
-use borrow.Author.Rules.{rules}
 use Rattle.records.proofs.read_head.Goals as goal
 
 pub returns : goal.returns

@@ -1,8 +1,7 @@
 -- `records::record_at` meets its contract: a whole record ends behind its start, within the tree.
-use mathlib.Core.Path.{◌≡◌, ap}
+use mathlib.Core.Path.{ap}
 use Prim.Native.Nat.{ℕ, ◌-◌}
 use native.Mathlib.Omega.{arith}
-use borrow.Author.Rules.{rules}
 use lib.ListN.{take, drop}
 use Rattle.records.proofs.Whole.{whole-span}
 use Rattle.records.proofs.record_at.Goals as goal

@@ -1,10 +1,7 @@
 -- `records::record_end` meets its contract: the records that are pending stand in a row, and each turn puts a record's children in its place. The
 -- measure is what is left of the tree.
-use Prim.Native.Nat.{◌+◌, ◌-◌}
 use native.Mathlib.Omega.{arith}
-use lib.ListN.{length}
-use Rattle.definition.specs.Tree.{end_at}
-use Rattle.records.proofs.Whole.{Pending, pending_start, pending_body, pending_room, pending_turn, pending_done}
+use Rattle.records.proofs.Whole.{pending_start, pending_body, pending_room, pending_turn, pending_done}
 use Rattle.records.proofs.record_end.Goals as goal
 
 pub loop-pending-init : goal.loop-pending-init

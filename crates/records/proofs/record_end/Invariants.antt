@@ -1,10 +1,9 @@
 -- `records::record_end` meets its contract: the records that are pending stand in a row, and each turn puts a record's children in its place. The
 -- measure is what is left of the tree.
-use Prim.Native.Nat.{◌+◌, ◌-◌}
-use native.Mathlib.Omega.{arith}
+use Prim.Native.Nat.{◌-◌}
 use lib.ListN.{length}
 use Rattle.definition.specs.Tree.{end_at}
-use Rattle.records.proofs.Whole.{Pending, pending_start, pending_body, pending_room, pending_turn, pending_done}
+use Rattle.records.proofs.Whole.{Pending}
 use Rattle.records.proofs.record_end.Given as goal
 
 abbrev pub invariant-loop-pending : goal.invariant-loop-pending

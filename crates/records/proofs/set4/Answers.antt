@@ -2,7 +2,6 @@
 use native.Mathlib.Numerals.{add-one, add-two, add-three}
 use native.Mathlib.Omega.{arith}
 use lib.ListN.{length-set}
-use borrow.Author.Rules.{rules}
 use Rattle.records.proofs.set4.Goals as goal
 
 pub bounds-out-p-2 : goal.bounds-out-p-2

@@ -1,6 +1,5 @@
 -- `records::set_head` meets its contract: the fields one after the other are the bytes of the head.
 use Rattle.records.proofs.Stores.{head_sets}
-use borrow.Author.Rules.{rules}
 use Rattle.records.proofs.set_head.Goals as goal
 
 pub returns : goal.returns

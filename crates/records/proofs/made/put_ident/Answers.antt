@@ -2,7 +2,6 @@
 use mathlib.Core.Path.{refl}
 use native.Mathlib.Omega.{arith}
 use Rattle.records.proofs.Puts.{ident-put}
-use borrow.Author.Rules.{rules}
 use Rattle.records.proofs.made.put_ident.Goals as goal
 
 pub returns : goal.returns

@@ -1,7 +1,6 @@
 -- `made::put_ident_front` meets its contract.
 use native.Mathlib.Omega.{arith}
 use Rattle.records.proofs.Puts.{put-put}
-use borrow.Author.Rules.{rules}
 use Rattle.records.proofs.made.put_ident_front.Goals as goal
 
 pub returns : goal.returns

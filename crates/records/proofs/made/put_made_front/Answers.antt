@@ -1,7 +1,6 @@
 -- `made::put_made_front` meets its contract.
 use Rattle.definition.specs.Tree.{head_bytes}
 use Rattle.records.specs.Fields.{field_bytes}
-use borrow.Author.Rules.{rules}
 use Rattle.records.proofs.made.put_made_front.Goals as goal
 
 pub returns : goal.returns

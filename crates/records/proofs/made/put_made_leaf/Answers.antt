@@ -3,7 +3,6 @@ use native.Mathlib.Omega.{arith}
 use Rattle.definition.specs.Tree.{head_bytes}
 use Rattle.records.specs.Fields.{field_bytes}
 use Rattle.records.proofs.Puts.{put-put, put_as, encode-leaf}
-use borrow.Author.Rules.{rules}
 use Rattle.records.proofs.made.put_made_leaf.Goals as goal
 
 pub returns : goal.returns

@@ -1,9 +1,7 @@
 -- `records::text::same_front` meets its contract: the texts are equal up to the place i, and four bytes more.
 use Prim.Native.Nat.{◌-◌}
-use native.Mathlib.Omega.{arith}
 use lib.ListN.{length}
 use Rattle.records.specs.Texts.{SameFront}
-use Rattle.records.proofs.Texts.{front-none, front-four}
 use Rattle.records.proofs.text.same_front.Given as goal
 
 abbrev pub invariant-loop-i : goal.invariant-loop-i

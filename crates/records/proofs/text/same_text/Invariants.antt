@@ -1,11 +1,8 @@
 -- `records::text::same_text` meets its contract: up to the place i the two texts, of one length, are equal.
-use mathlib.Core.Path.{◌≡◌, sym, ◌∙◌}
-use borrow.Author.Rules.{rules}
+use mathlib.Core.Path.{◌≡◌}
 use Prim.Native.Nat.{◌-◌, ◌≤◌}
-use native.Mathlib.Omega.{arith}
 use lib.ListN.{length, drop}
 use Rattle.definition.specs.Record.{same_text}
-use Rattle.records.proofs.Texts.{front-passed, same-longer, same-on, same_off, same_end}
 use Rattle.records.proofs.text.same_text.Given as goal
 
 abbrev pub invariant-loop-i : goal.invariant-loop-i

@@ -4,16 +4,15 @@ use mathlib.Core.Path.{ap, ◌∙◌}
 use Prim.Native.Nat.{ℕ, ◌+◌, ◌-◌, ◌≤◌}
 use mathlib.Core.List.{List}
 use native.Mathlib.Omega.{arith}
-use borrow.Author.Rules.{rules}
 use lib.ListN.{length, drop, length-drop}
 use lib.Seq.{take_all}
 use Rattle.definition.specs.Tree.{head_size, length_at}
 use Rattle.definition.proofs.Places.{part_length}
 use Rattle.records.proofs.text.symbol_at.Goals as goal
 
-long : (c : tie.After-text-at) → 4 ≤ length c.text_at.result.now
+long : (c : goal.After-text_at-text) → 4 ≤ length c.text_at-text.result.now
 long c =
-    omega (arith, ap length c.text_at.ensures, c.before.before.requires, part_length c.before.before.args.tree.now (c.before.before.args.at + head_size) (length_at c.before.before.args.tree.now c.before.before.args.at) c.before.before.requires.0)
+    omega (arith, ap length c.text_at-text.ensures, c.requires, part_length c.args.tree.now (c.args.at + head_size) (length_at c.args.tree.now c.args.at) c.requires.0)
 
 pub slice_bounds-result-count : goal.slice_bounds-result-count
 slice_bounds-result-count c = omega (arith, long c)
