@@ -27,31 +27,31 @@ use Rattle.parts.proofs.Framing.{ready_second}
 use Rattle.items.proofs.+statements.Goals as goal
 
 pub decl_to_type_decl-read_head-requires : goal.decl_to_type_decl-read_head-requires
-decl_to_type_decl-read_head-requires t c = (itself _ _ _ c.requires.1.accepted).room
+decl_to_type_decl-read_head-requires t c = (itself _ _ _ c.requires.accepted).room
 
 pub decl_to_type_decl-mark_at-requires : goal.decl_to_type_decl-mark_at-requires
-decl_to_type_decl-mark_at-requires t c = (itself _ _ _ c.requires.1.accepted).room
+decl_to_type_decl-mark_at-requires t c = (itself _ _ _ c.requires.accepted).room
 
 pub decl_to_type_decl-with_class-requires : goal.decl_to_type_decl-with_class-requires
-decl_to_type_decl-with_class-requires t c = (c.requires.1, inl (told c.mark_at.ensures.0 c.in-25667.is))
+decl_to_type_decl-with_class-requires t c = record { ready = c.requires; fact = inl (told c.mark_at.ensures.0 c.in-25667.is) }
 
 pub decl_to_type_decl-with_function-requires : goal.decl_to_type_decl-with_function-requires
-decl_to_type_decl-with_function-requires t c = (c.requires.1, told c.mark_at.ensures.0 c.in-25670.is)
+decl_to_type_decl-with_function-requires t c = (c.requires, told c.mark_at.ensures.0 c.in-25670.is)
 
 pub decl_to_type_decl-with_declarators-requires : goal.decl_to_type_decl-with_declarators-requires
-decl_to_type_decl-with_declarators-requires t c = c.requires.1
+decl_to_type_decl-with_declarators-requires t c = c.requires
 
 pub decl_to_type_decl-with_members-requires : goal.decl_to_type_decl-with_members-requires
-decl_to_type_decl-with_members-requires t c = c.requires.1.accepted
+decl_to_type_decl-with_members-requires t c = c.requires.accepted
 
 pub decl_to_type_decl-with_body-requires : goal.decl_to_type_decl-with_body-requires
-decl_to_type_decl-with_body-requires t c = (omega (arith, c.requires.0), (c.requires.1, has (mark "Ns") _ _ _ c.requires.1.accepted (told c.mark_at.ensures.0 c.in-29518.is)))
+decl_to_type_decl-with_body-requires t c = (omega (arith, c.decreases), (c.requires, has (mark "Ns") _ _ _ c.requires.accepted (told c.mark_at.ensures.0 c.in-29518.is)))
 
 pub decl_to_type_decl-mark_diagnostic-requires : goal.decl_to_type_decl-mark_diagnostic-requires
-decl_to_type_decl-mark_diagnostic-requires t c = (itself _ _ _ c.requires.1.accepted).room
+decl_to_type_decl-mark_diagnostic-requires t c = (itself _ _ _ c.requires.accepted).room
 
 pub decl_to_type_decl-keep-requires : goal.decl_to_type_decl-keep-requires
-decl_to_type_decl-keep-requires t c = c.requires.1.accepted
+decl_to_type_decl-keep-requires t c = c.requires.accepted
 
 pub decl_to_type_decl-returns-in-25667 : goal.decl_to_type_decl-returns-in-25667
 decl_to_type_decl-returns-in-25667 t c = did_made c.with_class.ensures (decl-class c.args.list.now c.args.tree.now c.args.scope c.args.top (tree_at c.args.levels c.args.tree.now c.args.at) c.args.s.counter (flags-made c.args.levels c.args.tree.now c.args.at c.args.top c.read_head.ensures c.declared-flags.ensures) (told (mark_of_lem c.args.levels c.args.tree.now c.args.at c.mark_at.ensures.0) c.in-25667.is))
@@ -108,49 +108,49 @@ pub decl_to_type_decl-shape_of-out-in_default : goal.decl_to_type_decl-shape_of-
 decl_to_type_decl-shape_of-out-in_default t c = (decl_to_type_decl-returns-in_default t c).step.ran.out.same
 
 pub export_decl-body_at-decl-requires : goal.export_decl-body_at-decl-requires
-export_decl-body_at-decl-requires t c = (itself _ _ _ c.requires.1.0.accepted).room
+export_decl-body_at-decl-requires t c = (itself _ _ _ c.requires.0.accepted).room
 
 pub export_decl-is_overloaded-requires : goal.export_decl-is_overloaded-requires
-export_decl-is_overloaded-requires t c = ((itself _ _ _ c.requires.1.0.accepted).room, (itself _ _ _ (ed_kids _ _ _ c.requires.1.0.accepted c.requires.1.1 c.body_at-decl.ensures refl).first).room)
+export_decl-is_overloaded-requires t c = ((itself _ _ _ c.requires.0.accepted).room, (itself _ _ _ (ed_kids _ _ _ c.requires.0.accepted c.requires.1 c.body_at-decl.ensures refl).first).room)
 
 pub export_decl-returns-then-is_overloaded : goal.export_decl-returns-then-is_overloaded
-export_decl-returns-then-is_overloaded t c = gives_none _ _ c.args.s (omega (arith, c.well_formed)) (omega (arith, c.well_formed)) (export_gone c.args.list.now c.args.tree.now c.args.scope c.args.top c.args.levels c.args.at (ed_kids _ _ _ c.requires.1.0.accepted c.requires.1.1 c.body_at-decl.ensures refl) c.is_overloaded.ensures c.args.s.counter c.if-is_overloaded.true)
+export_decl-returns-then-is_overloaded t c = gives_none _ _ c.args.s (omega (arith, c.well_formed)) (omega (arith, c.well_formed)) (export_gone c.args.list.now c.args.tree.now c.args.scope c.args.top c.args.levels c.args.at (ed_kids _ _ _ c.requires.0.accepted c.requires.1 c.body_at-decl.ensures refl) c.is_overloaded.ensures c.args.s.counter c.if-is_overloaded.true)
 
 pub export_decl-read_head-head-requires : goal.export_decl-read_head-head-requires
-export_decl-read_head-head-requires t c = (itself _ _ _ c.requires.1.0.accepted).room
+export_decl-read_head-head-requires t c = (itself _ _ _ c.requires.0.accepted).room
 
 pub export_decl-overflow_sub-levels : goal.export_decl-overflow_sub-levels
-export_decl-overflow_sub-levels t c = omega (arith, some_left _ _ _ c.requires.1.0.accepted)
+export_decl-overflow_sub-levels t c = omega (arith, some_left _ _ _ c.requires.0.accepted)
 
 pub export_decl-record_end-rest-requires : goal.export_decl-record_end-rest-requires
-export_decl-record_end-rest-requires t c = is_whole _ _ _ (ed_kids _ _ _ c.requires.1.0.accepted c.requires.1.1 c.body_at-decl.ensures refl).first
+export_decl-record_end-rest-requires t c = is_whole _ _ _ (ed_kids _ _ _ c.requires.0.accepted c.requires.1 c.body_at-decl.ensures refl).first
 
 pub export_decl-put_front-front-requires : goal.export_decl-put_front-front-requires
-export_decl-put_front-front-requires t c = c.requires.1.0.accepted
+export_decl-put_front-front-requires t c = c.requires.0.accepted
 
 pub export_decl-overflow_sub-levels-2 : goal.export_decl-overflow_sub-levels-2
-export_decl-overflow_sub-levels-2 t c = omega (arith, some_left _ _ _ c.requires.1.0.accepted)
+export_decl-overflow_sub-levels-2 t c = omega (arith, some_left _ _ _ c.requires.0.accepted)
 
 pub export_decl-decl_to_type_decl-requires : goal.export_decl-decl_to_type_decl-requires
-export_decl-decl_to_type_decl-requires t c = let u = ed_kids _ _ _ c.requires.1.0.accepted c.requires.1.1 c.body_at-decl.ensures refl in (omega (arith, some_left _ _ _ c.requires.1.0.accepted, c.requires.0), ready_kid c.requires.1.0 u.first u.low0 (puts-counter c.put_front-front.ensures))
+export_decl-decl_to_type_decl-requires t c = let u = ed_kids _ _ _ c.requires.0.accepted c.requires.1 c.body_at-decl.ensures refl in (omega (arith, some_left _ _ _ c.requires.0.accepted, c.decreases), ready_kid c.requires.0 u.first u.low0 (puts-counter c.put_front-front.ensures))
 
 pub export_decl-overflow_sub-head : goal.export_decl-overflow_sub-head
-export_decl-overflow_sub-head t c = omega (arith, count-as c.args.tree.now c.args.at c.read_head-head.ensures, has (mark "Ed") _ _ _ c.requires.1.0.accepted c.requires.1.1)
+export_decl-overflow_sub-head t c = omega (arith, count-as c.args.tree.now c.args.at c.read_head-head.ensures, has (mark "Ed") _ _ _ c.requires.0.accepted c.requires.1)
 
 pub export_decl-overflow_sub-levels-in-Some : goal.export_decl-overflow_sub-levels-in-Some
-export_decl-overflow_sub-levels-in-Some t c = omega (arith, some_left _ _ _ c.requires.1.0.accepted)
+export_decl-overflow_sub-levels-in-Some t c = omega (arith, some_left _ _ _ c.requires.0.accepted)
 
 pub export_decl-keep_all-next-requires : goal.export_decl-keep_all-next-requires
-export_decl-keep_all-next-requires t c = others-as _ _ c.read_head-head.ensures 1 (ed_kids _ _ _ c.requires.1.0.accepted c.requires.1.1 c.body_at-decl.ensures c.record_end-rest.ensures).others
+export_decl-keep_all-next-requires t c = others-as _ _ c.read_head-head.ensures 1 (ed_kids _ _ _ c.requires.0.accepted c.requires.1 c.body_at-decl.ensures c.record_end-rest.ensures).others
 
 pub export_decl-skipped-requires : goal.export_decl-skipped-requires
-export_decl-skipped-requires t c = (itself _ _ _ c.requires.1.0.accepted).room
+export_decl-skipped-requires t c = (itself _ _ _ c.requires.0.accepted).room
 
 pub export_decl-returns-in-Some : goal.export_decl-returns-in-Some
-export_decl-returns-in-Some t c = export_some c.args.list.now c.args.tree.now c.args.scope c.args.top c.args.levels c.args.at (ed_kids _ _ _ c.requires.1.0.accepted c.requires.1.1 c.body_at-decl.ensures c.record_end-rest.ensures) c.is_overloaded.ensures c.if-is_overloaded.false (omega (arith, c.well_formed)) c.read_head-head.ensures c.put_front-front.ensures c.decl_to_type_decl.ensures c.requires.1.0.accepted c.shared_slice_known-1.given c.in-Some.is c.keep_all-next.ensures
+export_decl-returns-in-Some t c = export_some c.args.list.now c.args.tree.now c.args.scope c.args.top c.args.levels c.args.at (ed_kids _ _ _ c.requires.0.accepted c.requires.1 c.body_at-decl.ensures c.record_end-rest.ensures) c.is_overloaded.ensures c.if-is_overloaded.false (omega (arith, c.well_formed)) c.read_head-head.ensures c.put_front-front.ensures c.decl_to_type_decl.ensures c.requires.0.accepted c.shared_slice_known-1.given c.in-Some.is c.keep_all-next.ensures
 
 pub export_decl-returns-in-None : goal.export_decl-returns-in-None
-export_decl-returns-in-None t c = export_none c.args.list.now c.args.tree.now c.args.scope c.args.top c.args.levels c.args.at (ed_kids _ _ _ c.requires.1.0.accepted c.requires.1.1 c.body_at-decl.ensures c.record_end-rest.ensures) c.is_overloaded.ensures c.if-is_overloaded.false (omega (arith, c.well_formed)) c.read_head-head.ensures c.put_front-front.ensures c.decl_to_type_decl.ensures c.in-None.is (omega (arith, c.well_formed)) c.back.ensures c.skipped.ensures.0 c.skipped.ensures.1
+export_decl-returns-in-None t c = export_none c.args.list.now c.args.tree.now c.args.scope c.args.top c.args.levels c.args.at (ed_kids _ _ _ c.requires.0.accepted c.requires.1 c.body_at-decl.ensures c.record_end-rest.ensures) c.is_overloaded.ensures c.if-is_overloaded.false (omega (arith, c.well_formed)) c.read_head-head.ensures c.put_front-front.ensures c.decl_to_type_decl.ensures c.in-None.is (omega (arith, c.well_formed)) c.back.ensures c.skipped.ensures.0 c.skipped.ensures.1
 
 pub export_decl-shape_of-out-in-Some : goal.export_decl-shape_of-out-in-Some
 export_decl-shape_of-out-in-Some t c = (export_decl-returns-in-Some t c).step.ran.out.same
@@ -165,25 +165,25 @@ pub export_decl-shape_of-diagnostics-in-None : goal.export_decl-shape_of-diagnos
 export_decl-shape_of-diagnostics-in-None t c = (export_decl-returns-in-None t c).step.ran.dia.same
 
 pub ns_block-read_head-head-requires : goal.ns_block-read_head-head-requires
-ns_block-read_head-head-requires t c = (itself _ _ _ c.requires.1.0.accepted).room
+ns_block-read_head-head-requires t c = (itself _ _ _ c.requires.0.accepted).room
 
 pub ns_block-body_at-first-requires : goal.ns_block-body_at-first-requires
-ns_block-body_at-first-requires t c = (itself _ _ _ c.requires.1.0.accepted).room
+ns_block-body_at-first-requires t c = (itself _ _ _ c.requires.0.accepted).room
 
 pub ns_block-front_size-requires : goal.ns_block-front_size-requires
-ns_block-front_size-requires t c = (itself _ _ _ c.requires.1.0.accepted).room
+ns_block-front_size-requires t c = (itself _ _ _ c.requires.0.accepted).room
 
 pub ns_block-overflow_sub-levels : goal.ns_block-overflow_sub-levels
-ns_block-overflow_sub-levels t c = omega (arith, some_left _ _ _ c.requires.1.0.accepted)
+ns_block-overflow_sub-levels t c = omega (arith, some_left _ _ _ c.requires.0.accepted)
 
 pub ns_block-transform_module_items-made-requires : goal.ns_block-transform_module_items-made-requires
-ns_block-transform_module_items-made-requires t c = (omega (arith, some_left _ _ _ c.requires.1.0.accepted, c.requires.0), (kids_ready c.requires.1.0 c.read_head-head.ensures c.body_at-first.ensures refl, count_small c.args.tree.now c.args.at c.shared_slice_known-1.given c.read_head-head.ensures))
+ns_block-transform_module_items-made-requires t c = (omega (arith, some_left _ _ _ c.requires.0.accepted, c.decreases), (kids_ready c.requires.0 c.read_head-head.ensures c.body_at-first.ensures refl, count_small c.args.tree.now c.args.at c.shared_slice_known-1.given c.read_head-head.ensures))
 
 pub ns_block-put_front-requires : goal.ns_block-put_front-requires
-ns_block-put_front-requires t c = c.requires.1.0.accepted
+ns_block-put_front-requires t c = c.requires.0.accepted
 
 pub ns_block-returns : goal.ns_block-returns
-ns_block-returns t c = block_made c.args.list.now c.args.tree.now c.args.scope c.args.levels c.args.at c.requires.1.0.accepted c.shared_slice_known-1.given c.requires.1.1 c.args.s c.read_head-head.ensures c.body_at-first.ensures c.front_size.ensures.0 c.advance.ensures c.transform_module_items-made.ensures c.put_front.ensures
+ns_block-returns t c = block_made c.args.list.now c.args.tree.now c.args.scope c.args.levels c.args.at c.requires.0.accepted c.shared_slice_known-1.given c.requires.1 c.args.s c.read_head-head.ensures c.body_at-first.ensures c.front_size.ensures.0 c.advance.ensures c.transform_module_items-made.ensures c.put_front.ensures
 
 pub ns_block-shape_of-out : goal.ns_block-shape_of-out
 ns_block-shape_of-out t c = (ns_block-returns t c).step.ran.out.same
@@ -192,22 +192,22 @@ pub ns_block-shape_of-diagnostics : goal.ns_block-shape_of-diagnostics
 ns_block-shape_of-diagnostics t c = (ns_block-returns t c).step.ran.dia.same
 
 pub transform_module_item-mark_at-requires : goal.transform_module_item-mark_at-requires
-transform_module_item-mark_at-requires t c = (itself _ _ _ c.requires.1.accepted).room
+transform_module_item-mark_at-requires t c = (itself _ _ _ c.requires.accepted).room
 
 pub transform_module_item-kept-requires : goal.transform_module_item-kept-requires
-transform_module_item-kept-requires t c = c.requires.1.accepted
+transform_module_item-kept-requires t c = c.requires.accepted
 
 pub transform_module_item-export_decl-requires : goal.transform_module_item-export_decl-requires
-transform_module_item-export_decl-requires t c = (omega (arith, c.requires.0), (c.requires.1, told c.mark_at.ensures.0 c.in-25669.is))
+transform_module_item-export_decl-requires t c = (omega (arith, c.decreases), (c.requires, told c.mark_at.ensures.0 c.in-25669.is))
 
 pub transform_module_item-export_default_decl-requires : goal.transform_module_item-export_default_decl-requires
-transform_module_item-export_default_decl-requires t c = (c.requires.1, told c.mark_at.ensures.0 c.in-25688.is)
+transform_module_item-export_default_decl-requires t c = (c.requires, told c.mark_at.ensures.0 c.in-25688.is)
 
 pub transform_module_item-export_default_expr-requires : goal.transform_module_item-export_default_expr-requires
-transform_module_item-export_default_expr-requires t c = (c.requires.1, told c.mark_at.ensures.0 c.in-25944.is)
+transform_module_item-export_default_expr-requires t c = (c.requires, told c.mark_at.ensures.0 c.in-25944.is)
 
 pub transform_module_item-transform_module_stmt-requires : goal.transform_module_item-transform_module_stmt-requires
-transform_module_item-transform_module_stmt-requires t c = (omega (arith, c.requires.0), c.requires.1)
+transform_module_item-transform_module_stmt-requires t c = (omega (arith, c.decreases), c.requires)
 
 pub transform_module_item-returns-in-27977 : goal.transform_module_item-returns-in-27977
 transform_module_item-returns-in-27977 t c = kept_gives _ c.kept.ensures (omega (arith, c.well_formed)) (item-kept c.args.list.now c.args.tree.now c.args.scope c.args.top (tree_at c.args.levels c.args.tree.now c.args.at) c.args.s.counter (told_in Kept (mark_of_lem c.args.levels c.args.tree.now c.args.at c.mark_at.ensures.0) c.in-27977.is))
@@ -255,10 +255,10 @@ pub transform_module_item-shape_of-diagnostics-in_default : goal.transform_modul
 transform_module_item-shape_of-diagnostics-in_default t c = (transform_module_item-returns-in_default t c).step.ran.dia.same
 
 pub transform_module_items-loop-k-init : goal.transform_module_items-loop-k-init
-transform_module_items-loop-k-init t c = numbering_start _ _ _ 0 2 131070 _ _ _ c.requires.1.0.accepted c.requires.1.0.low (omega (arith, c.well_formed)) (omega (arith, c.well_formed)) (omega (arith, c.requires.1.1))
+transform_module_items-loop-k-init t c = numbering_start _ _ _ 0 2 131070 _ _ _ c.requires.0.accepted c.requires.0.low (omega (arith, c.well_formed)) (omega (arith, c.well_formed)) (omega (arith, c.requires.1))
 
 pub transform_module_items-transform_module_item-made-requires : goal.transform_module_items-transform_module_item-made-requires
-transform_module_items-transform_module_item-made-requires t c = (omega (arith, c.requires.0), one_ready c.requires.1.0 (left-first c.loop-k.invariant.making.left c.loop-k-test.true) c.loop-k.invariant.making.low)
+transform_module_items-transform_module_item-made-requires t c = (omega (arith, c.decreases), one_ready c.requires.0 (left-first c.loop-k.invariant.making.left c.loop-k-test.true) c.loop-k.invariant.making.low)
 
 pub transform_module_items-overflow_add-count : goal.transform_module_items-overflow_add-count
 transform_module_items-overflow_add-count t c = omega (arith, c.loop-k.invariant.few, itemizing_few c.args.list.now c.args.tree.now c.args.scope c.args.top c.args.levels c.args.n c.args.at c.loop-k.invariant, c.transform_module_item-made.ensures.many)
@@ -285,22 +285,22 @@ pub transform_module_items-returns : goal.transform_module_items-returns
 transform_module_items-returns t c = itemizing_done c.args.list.now c.args.tree.now c.args.scope c.args.top c.args.levels c.args.n c.args.at c.loop-k.invariant (omega arith)
 
 pub transform_module_stmt-is_overloaded-requires : goal.transform_module_stmt-is_overloaded-requires
-transform_module_stmt-is_overloaded-requires t c = ((itself _ _ _ c.requires.1.accepted).room, (itself _ _ _ c.requires.1.accepted).room)
+transform_module_stmt-is_overloaded-requires t c = ((itself _ _ _ c.requires.accepted).room, (itself _ _ _ c.requires.accepted).room)
 
 pub transform_module_stmt-returns-then-is_overloaded : goal.transform_module_stmt-returns-then-is_overloaded
 transform_module_stmt-returns-then-is_overloaded t c = gives_none _ _ c.args.s (omega (arith, c.well_formed)) (omega (arith, c.well_formed)) (stmt_gone c.args.list.now c.args.tree.now c.args.scope c.args.top (tree_at c.args.levels c.args.tree.now c.args.at) c.args.s.counter (stmt_told c.args.list.now c.args.levels c.args.tree.now c.args.at c.is_overloaded.ensures) c.if-is_overloaded.true)
 
 pub transform_module_stmt-mark_at-requires : goal.transform_module_stmt-mark_at-requires
-transform_module_stmt-mark_at-requires t c = (itself _ _ _ c.requires.1.accepted).room
+transform_module_stmt-mark_at-requires t c = (itself _ _ _ c.requires.accepted).room
 
 pub transform_module_stmt-decl_to_type_decl-requires : goal.transform_module_stmt-decl_to_type_decl-requires
-transform_module_stmt-decl_to_type_decl-requires t c = (omega (arith, c.requires.0), c.requires.1)
+transform_module_stmt-decl_to_type_decl-requires t c = (omega (arith, c.decreases), c.requires)
 
 pub transform_module_stmt-skipped-requires : goal.transform_module_stmt-skipped-requires
-transform_module_stmt-skipped-requires t c = (itself _ _ _ c.requires.1.accepted).room
+transform_module_stmt-skipped-requires t c = (itself _ _ _ c.requires.accepted).room
 
 pub transform_module_stmt-kept-requires : goal.transform_module_stmt-kept-requires
-transform_module_stmt-kept-requires t c = c.requires.1.accepted
+transform_module_stmt-kept-requires t c = c.requires.accepted
 
 pub transform_module_stmt-returns-in-Some : goal.transform_module_stmt-returns-in-Some
 transform_module_stmt-returns-in-Some t c = stmt_some c.args.list.now c.args.tree.now c.args.scope c.args.top c.args.levels c.args.at c.decl_to_type_decl.ensures (stmt_made c.args.list.now c.args.tree.now c.args.scope c.args.top (tree_at c.args.levels c.args.tree.now c.args.at) c.args.s.counter (stmt_told c.args.list.now c.args.levels c.args.tree.now c.args.at c.is_overloaded.ensures) c.if-is_overloaded.false (is_made_lem _ (told_in Made (mark_of_lem c.args.levels c.args.tree.now c.args.at c.mark_at.ensures.0) c.in-25667.is))) c.in-Some.is
@@ -327,19 +327,19 @@ pub transform_module_stmt-shape_of-out-in_default : goal.transform_module_stmt-s
 transform_module_stmt-shape_of-out-in_default t c = (transform_module_stmt-returns-in_default t c).step.ran.out.same
 
 pub transform_ts_ns_body-mark_at-requires : goal.transform_ts_ns_body-mark_at-requires
-transform_ts_ns_body-mark_at-requires t c = (itself _ _ _ c.requires.1.accepted).room
+transform_ts_ns_body-mark_at-requires t c = (itself _ _ _ c.requires.accepted).room
 
 pub transform_ts_ns_body-ns_block-requires : goal.transform_ts_ns_body-ns_block-requires
-transform_ts_ns_body-ns_block-requires t c = (omega (arith, c.requires.0), (c.requires.1, told c.mark_at.ensures.0 c.in-25166.is))
+transform_ts_ns_body-ns_block-requires t c = (omega (arith, c.decreases), (c.requires, told c.mark_at.ensures.0 c.in-25166.is))
 
 pub transform_ts_ns_body-read_head-head-requires : goal.transform_ts_ns_body-read_head-head-requires
-transform_ts_ns_body-read_head-head-requires t c = (itself _ _ _ c.requires.1.accepted).room
+transform_ts_ns_body-read_head-head-requires t c = (itself _ _ _ c.requires.accepted).room
 
 pub transform_ts_ns_body-with_body-requires : goal.transform_ts_ns_body-with_body-requires
-transform_ts_ns_body-with_body-requires t c = (omega (arith, c.requires.0), (c.requires.1, has (mark "Nd") _ _ _ c.requires.1.accepted (told c.mark_at.ensures.0 c.in-25678.is)))
+transform_ts_ns_body-with_body-requires t c = (omega (arith, c.decreases), (c.requires, has (mark "Nd") _ _ _ c.requires.accepted (told c.mark_at.ensures.0 c.in-25678.is)))
 
 pub transform_ts_ns_body-keep-requires : goal.transform_ts_ns_body-keep-requires
-transform_ts_ns_body-keep-requires t c = c.requires.1.accepted
+transform_ts_ns_body-keep-requires t c = c.requires.accepted
 
 pub transform_ts_ns_body-returns-in-25166 : goal.transform_ts_ns_body-returns-in-25166
 transform_ts_ns_body-returns-in-25166 t c = c.ns_block.ensures
@@ -366,16 +366,16 @@ pub transform_ts_ns_body-shape_of-out-in_default : goal.transform_ts_ns_body-sha
 transform_ts_ns_body-shape_of-out-in_default t c = (transform_ts_ns_body-returns-in_default t c).step.ran.out.same
 
 pub with_body-begin_with-name-requires : goal.with_body-begin_with-name-requires
-with_body-begin_with-name-requires t c = c.requires.1.0.accepted
+with_body-begin_with-name-requires t c = c.requires.0.accepted
 
 pub with_body-keep_next-body-requires : goal.with_body-keep_next-body-requires
-with_body-keep_next-body-requires t c = record { left = c.begin_with-name.ensures.left; more = omega (arith, c.requires.1.1) }
+with_body-keep_next-body-requires t c = record { left = c.begin_with-name.ensures.left; more = omega (arith, c.requires.1) }
 
 pub with_body-transform_ts_ns_body-next-requires : goal.with_body-transform_ts_ns_body-next-requires
-with_body-transform_ts_ns_body-next-requires t c = (omega (arith, some_left _ _ _ c.requires.1.0.accepted, c.requires.0, c.begin_with-name.ensures.deep, c.keep_next-body.ensures.passed.deep), ready_second c.begin_with-name.ensures c.requires.1.0 c.keep_next-body.ensures (omega (arith, c.requires.1.1)))
+with_body-transform_ts_ns_body-next-requires t c = (omega (arith, some_left _ _ _ c.requires.0.accepted, c.decreases, c.begin_with-name.ensures.deep, c.keep_next-body.ensures.passed.deep), ready_second c.begin_with-name.ensures c.requires.0 c.keep_next-body.ensures (omega (arith, c.requires.1)))
 
 pub with_body-passed-requires : goal.with_body-passed-requires
-with_body-passed-requires t c = record { left = c.keep_next-body.ensures.passed.left; more = omega (arith, c.requires.1.1) }
+with_body-passed-requires t c = record { left = c.keep_next-body.ensures.passed.left; more = omega (arith, c.requires.1) }
 
 pub with_body-finish-requires : goal.with_body-finish-requires
 with_body-finish-requires t c = c.passed.ensures.left

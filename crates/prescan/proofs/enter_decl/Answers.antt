@@ -20,7 +20,7 @@ pub returns-then-mark_at-ne-ID : goal.returns-then-mark_at-ne-ID
 returns-then-mark_at-ne-ID c = filled_none c.requires.room (omega (arith, end_after _ _ _ c.requires.accepted_at)) (fn-none c.requires.accepted_at c.mark_at.ensures.0 c.body_at-ident.ensures c.mark_at-in-25670.ensures.0 c.in-25670.is c.if-mark_at-ne-ID.true)
 
 pub insert-requires : goal.insert-requires
-insert-requires c = (c.requires.room.sorted, (room-one c.requires.room (omega (arith, fn-long c.requires.accepted_at c.mark_at.ensures.0 c.body_at-ident.ensures c.mark_at-in-25670.ensures.0 c.in-25670.is c.if-mark_at-ne-ID.false, end-inside _ _ _ c.requires.accepted_at)), (fits (fn-ident c.requires.accepted_at c.mark_at.ensures.0 c.body_at-ident.ensures c.in-25670.is).accepted, c.requires.room.short)))
+insert-requires c = record { sorted = c.requires.room.sorted; from_nonzero = room-one c.requires.room (omega (arith, fn-long c.requires.accepted_at c.mark_at.ensures.0 c.body_at-ident.ensures c.mark_at-in-25670.ensures.0 c.in-25670.is c.if-mark_at-ne-ID.false, end-inside _ _ _ c.requires.accepted_at)); id_in_bounds = fits (fn-ident c.requires.accepted_at c.mark_at.ensures.0 c.body_at-ident.ensures c.in-25670.is).accepted; tree_len_bound = c.requires.room.short }
 
 pub body_at-ident-requires-in-25667 : goal.body_at-ident-requires-in-25667
 body_at-ident-requires-in-25667 c = room c.requires.accepted_at
@@ -41,10 +41,10 @@ pub overflow_sub-levels-in-25667 : goal.overflow_sub-levels-in-25667
 overflow_sub-levels-in-25667 c = omega (arith, level c.requires.accepted_at)
 
 pub add_class-plain-requires : goal.add_class-plain-requires
-add_class-plain-requires c = ((class-child c.requires.accepted_at c.mark_at.ensures.0 c.body_at-ident-in-25667.ensures c.in-25667.is c.record_end-class.ensures).accepted, class-mark c.requires.accepted_at c.mark_at.ensures.0 c.body_at-ident-in-25667.ensures c.in-25667.is c.record_end-class.ensures)
+add_class-plain-requires c = record { accepted_at = (class-child c.requires.accepted_at c.mark_at.ensures.0 c.body_at-ident-in-25667.ensures c.in-25667.is c.record_end-class.ensures).accepted; at_value = class-mark c.requires.accepted_at c.mark_at.ensures.0 c.body_at-ident-in-25667.ensures c.in-25667.is c.record_end-class.ensures }
 
 pub insert-requires-in-25667 : goal.insert-requires-in-25667
-insert-requires-in-25667 c = (c.requires.room.sorted, (room-one c.requires.room (omega (arith, class-long c.requires.accepted_at c.mark_at.ensures.0 c.body_at-ident-in-25667.ensures c.mark_at-in-25667.ensures.0 c.in-25667.is c.if-mark_at-ne-ID-2.false c.record_end-class.ensures, end-inside _ _ _ c.requires.accepted_at)), (fits (class-ident c.requires.accepted_at c.mark_at.ensures.0 c.body_at-ident-in-25667.ensures c.in-25667.is).accepted, c.requires.room.short)))
+insert-requires-in-25667 c = record { sorted = c.requires.room.sorted; from_nonzero = room-one c.requires.room (omega (arith, class-long c.requires.accepted_at c.mark_at.ensures.0 c.body_at-ident-in-25667.ensures c.mark_at-in-25667.ensures.0 c.in-25667.is c.if-mark_at-ne-ID-2.false c.record_end-class.ensures, end-inside _ _ _ c.requires.accepted_at)); id_in_bounds = fits (class-ident c.requires.accepted_at c.mark_at.ensures.0 c.body_at-ident-in-25667.ensures c.in-25667.is).accepted; tree_len_bound = c.requires.room.short }
 
 pub shape_of-table-else-mark_at-ne-ID : goal.shape_of-table-else-mark_at-ne-ID
 shape_of-table-else-mark_at-ne-ID c = c.insert.ensures.grown.same

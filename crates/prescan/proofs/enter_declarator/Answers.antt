@@ -38,13 +38,13 @@ pub record_end-init-requires : goal.record_end-init-requires
 record_end-init-requires c = lies (pattern-child c.requires.accepted_at c.mark_at.ensures.0 c.if-mark_at-ne-VR.false c.body_at-pattern.ensures).accepted
 
 pub add_const-safe-requires : goal.add_const-safe-requires
-add_const-safe-requires c = ((init-child c.requires.accepted_at c.mark_at.ensures.0 c.if-mark_at-ne-VR.false c.body_at-pattern.ensures c.record_end-init.ensures).accepted, (type-child c.requires.accepted_at c.mark_at.ensures.0 c.if-mark_at-ne-VR.false c.body_at-pattern.ensures c.mark_at-2.ensures.0 c.if-mark_at-ne-BD.false c.body_at-ident.ensures c.record_end-ty.ensures).accepted)
+add_const-safe-requires c = record { accepted_at = (init-child c.requires.accepted_at c.mark_at.ensures.0 c.if-mark_at-ne-VR.false c.body_at-pattern.ensures c.record_end-init.ensures).accepted; accepted_at_2 = (type-child c.requires.accepted_at c.mark_at.ensures.0 c.if-mark_at-ne-VR.false c.body_at-pattern.ensures c.mark_at-2.ensures.0 c.if-mark_at-ne-BD.false c.body_at-ident.ensures c.record_end-ty.ensures).accepted }
 
 pub add_const-array-requires : goal.add_const-array-requires
-add_const-array-requires c = ((init-child c.requires.accepted_at c.mark_at.ensures.0 c.if-mark_at-ne-VR.false c.body_at-pattern.ensures c.record_end-init.ensures).accepted, (type-child c.requires.accepted_at c.mark_at.ensures.0 c.if-mark_at-ne-VR.false c.body_at-pattern.ensures c.mark_at-2.ensures.0 c.if-mark_at-ne-BD.false c.body_at-ident.ensures c.record_end-ty.ensures).accepted)
+add_const-array-requires c = record { accepted_at = (init-child c.requires.accepted_at c.mark_at.ensures.0 c.if-mark_at-ne-VR.false c.body_at-pattern.ensures c.record_end-init.ensures).accepted; accepted_at_2 = (type-child c.requires.accepted_at c.mark_at.ensures.0 c.if-mark_at-ne-VR.false c.body_at-pattern.ensures c.mark_at-2.ensures.0 c.if-mark_at-ne-BD.false c.body_at-ident.ensures c.record_end-ty.ensures).accepted }
 
 pub insert-requires : goal.insert-requires
-insert-requires c = (c.requires.room.sorted, (room-one c.requires.room (omega (arith, declarator-long c.requires.accepted_at c.mark_at.ensures.0 c.if-mark_at-ne-VR.false c.body_at-pattern.ensures c.mark_at-2.ensures.0 c.if-mark_at-ne-BD.false c.body_at-ident.ensures c.record_end-ty.ensures c.record_end-init.ensures, end-inside _ _ _ c.requires.accepted_at)), (fits (ident-child c.requires.accepted_at c.mark_at.ensures.0 c.if-mark_at-ne-VR.false c.body_at-pattern.ensures c.mark_at-2.ensures.0 c.if-mark_at-ne-BD.false c.body_at-ident.ensures).accepted, c.requires.room.short)))
+insert-requires c = record { sorted = c.requires.room.sorted; from_nonzero = room-one c.requires.room (omega (arith, declarator-long c.requires.accepted_at c.mark_at.ensures.0 c.if-mark_at-ne-VR.false c.body_at-pattern.ensures c.mark_at-2.ensures.0 c.if-mark_at-ne-BD.false c.body_at-ident.ensures c.record_end-ty.ensures c.record_end-init.ensures, end-inside _ _ _ c.requires.accepted_at)); id_in_bounds = fits (ident-child c.requires.accepted_at c.mark_at.ensures.0 c.if-mark_at-ne-VR.false c.body_at-pattern.ensures c.mark_at-2.ensures.0 c.if-mark_at-ne-BD.false c.body_at-ident.ensures).accepted; tree_len_bound = c.requires.room.short }
 
 pub shape_of-table : goal.shape_of-table
 shape_of-table c = c.insert.ensures.grown.same

@@ -16,7 +16,7 @@ pub overflow_sub-levels : goal.overflow_sub-levels
 overflow_sub-levels c = omega (arith, level c.requires.accepted_at)
 
 pub enter_decl-requires : goal.enter_decl-requires
-enter_decl-requires c = ((export_child c.requires.accepted_at c.mark_at.ensures.0 c.body_at.ensures c.in-25669.is).accepted, room-later c.requires.room (omega (arith, c.body_at.ensures)))
+enter_decl-requires c = record { accepted_at = (export_child c.requires.accepted_at c.mark_at.ensures.0 c.body_at.ensures c.in-25669.is).accepted; room = room-later c.requires.room (omega (arith, c.body_at.ensures)) }
 
 pub shape_of-table-in-25669 : goal.shape_of-table-in-25669
 shape_of-table-in-25669 c = c.enter_decl.ensures.same

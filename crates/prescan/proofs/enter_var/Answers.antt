@@ -30,7 +30,7 @@ pub overflow_sub-levels : goal.overflow_sub-levels
 overflow_sub-levels c = omega (arith, level c.requires.accepted_at)
 
 pub enter_declarator-filled-requires : goal.enter_declarator-filled-requires
-enter_declarator-filled-requires c = (left-first c.loop-rest.invariant.left c.loop-rest-test.true, c.loop-rest.invariant.room)
+enter_declarator-filled-requires c = record { accepted_at = left-first c.loop-rest.invariant.left c.loop-rest-test.true; room = c.loop-rest.invariant.room }
 
 pub overflow_sub-levels-in-loop-rest : goal.overflow_sub-levels-in-loop-rest
 overflow_sub-levels-in-loop-rest c = omega (arith, level c.requires.accepted_at)

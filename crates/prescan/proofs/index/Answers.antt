@@ -25,7 +25,7 @@ pub overflow_sub-enter_item : goal.overflow_sub-enter_item
 overflow_sub-enter_item c = omega arith
 
 pub enter_item-filled-requires : goal.enter_item-filled-requires
-enter_item-filled-requires c = (left-first c.loop-rest.invariant.left c.loop-rest-test.true, c.loop-rest.invariant.room)
+enter_item-filled-requires c = record { accepted_at = left-first c.loop-rest.invariant.left c.loop-rest-test.true; room = c.loop-rest.invariant.room }
 
 pub overflow_sub-record_end : goal.overflow_sub-record_end
 overflow_sub-record_end c = omega arith

@@ -34,10 +34,10 @@ use Rattle.typing.proofs.Patterns.{pat_named, named-fits, gave-named, gave_left_
 use Rattle.typing.proofs.+expressions.Goals as goal
 
 pub array_type-tuple_type-requires : goal.array_type-tuple_type-requires
-array_type-tuple_type-requires t c = (omega (arith, c.requires.0), c.requires.1.0)
+array_type-tuple_type-requires t c = (omega (arith, c.decreases), c.requires.0)
 
 pub array_type-returns-then-not-is_readonly : goal.array_type-returns-then-not-is_readonly
-array_type-returns-then-not-is_readonly t c = did-as c.tuple_type.ensures (array_plain c.args.tree.now c.args.mode c.args.levels c.args.at c.args.s.counter c.requires.1.1 (sym c.is_readonly.ensures ∙ not-true _ c.if-not-is_readonly.true-raw))
+array_type-returns-then-not-is_readonly t c = did-as c.tuple_type.ensures (array_plain c.args.tree.now c.args.mode c.args.levels c.args.at c.args.s.counter c.requires.1 (sym c.is_readonly.ensures ∙ not-true _ c.if-not-is_readonly.true-raw))
 
 pub array_type-shape_of-out-then-not-is_readonly : goal.array_type-shape_of-out-then-not-is_readonly
 array_type-shape_of-out-then-not-is_readonly t c = (array_type-returns-then-not-is_readonly t c).step.ran.out.same
@@ -46,10 +46,10 @@ pub array_type-shape_of-diagnostics-then-not-is_readonly : goal.array_type-shape
 array_type-shape_of-diagnostics-then-not-is_readonly t c = (array_type-returns-then-not-is_readonly t c).step.ran.dia.same
 
 pub array_type-tuple_type-requires-2 : goal.array_type-tuple_type-requires-2
-array_type-tuple_type-requires-2 t c = (omega (arith, c.requires.0), c.requires.1.0)
+array_type-tuple_type-requires-2 t c = (omega (arith, c.decreases), c.requires.0)
 
 pub array_type-returns-in-Some : goal.array_type-returns-in-Some
-array_type-returns-in-Some t c = did-as (wrap-some (ts_readonly dummy_sp) (step-put _ c.args.s c.ts_readonly.ensures (omega (arith, c.well_formed))) readonly_front (is_some c.tuple_type-2.ensures c.in-Some.is)) (array_readonly c.args.tree.now c.args.mode c.args.levels c.args.at c.args.s.counter c.requires.1.1 (sym c.is_readonly.ensures ∙ not-false _ c.if-not-is_readonly.false-raw))
+array_type-returns-in-Some t c = did-as (wrap-some (ts_readonly dummy_sp) (step-put _ c.args.s c.ts_readonly.ensures (omega (arith, c.well_formed))) readonly_front (is_some c.tuple_type-2.ensures c.in-Some.is)) (array_readonly c.args.tree.now c.args.mode c.args.levels c.args.at c.args.s.counter c.requires.1 (sym c.is_readonly.ensures ∙ not-false _ c.if-not-is_readonly.false-raw))
 
 pub array_type-shape_of-out-in-Some : goal.array_type-shape_of-out-in-Some
 array_type-shape_of-out-in-Some t c = (array_type-returns-in-Some t c).step.ran.out.same
@@ -58,7 +58,7 @@ pub array_type-shape_of-diagnostics-in-Some : goal.array_type-shape_of-diagnosti
 array_type-shape_of-diagnostics-in-Some t c = (array_type-returns-in-Some t c).step.ran.dia.same
 
 pub array_type-returns-in-None : goal.array_type-returns-in-None
-array_type-returns-in-None t c = did-as (did_at c.back.ensures (wrap-none (ts_readonly dummy_sp) (step-put _ c.args.s c.ts_readonly.ensures (omega (arith, c.well_formed))) (omega (arith, c.well_formed)) (is_none c.tuple_type-2.ensures c.in-None.is))) (array_readonly c.args.tree.now c.args.mode c.args.levels c.args.at c.args.s.counter c.requires.1.1 (sym c.is_readonly.ensures ∙ not-false _ c.if-not-is_readonly.false-raw))
+array_type-returns-in-None t c = did-as (did_at c.back.ensures (wrap-none (ts_readonly dummy_sp) (step-put _ c.args.s c.ts_readonly.ensures (omega (arith, c.well_formed))) (omega (arith, c.well_formed)) (is_none c.tuple_type-2.ensures c.in-None.is))) (array_readonly c.args.tree.now c.args.mode c.args.levels c.args.at c.args.s.counter c.requires.1 (sym c.is_readonly.ensures ∙ not-false _ c.if-not-is_readonly.false-raw))
 
 pub array_type-shape_of-out-in-None : goal.array_type-shape_of-out-in-None
 array_type-shape_of-out-in-None t c = (array_type-returns-in-None t c).step.ran.out.same
@@ -67,19 +67,19 @@ pub array_type-shape_of-diagnostics-in-None : goal.array_type-shape_of-diagnosti
 array_type-shape_of-diagnostics-in-None t c = (array_type-returns-in-None t c).step.ran.dia.same
 
 pub call_type-object_freeze_call_arg-found-requires : goal.call_type-object_freeze_call_arg-found-requires
-call_type-object_freeze_call_arg-found-requires t c = (c.requires.1.0.accepted, c.requires.1.1)
+call_type-object_freeze_call_arg-found-requires t c = (c.requires.0.accepted, c.requires.1)
 
 pub call_type-returns-in_default : goal.call_type-returns-in_default
-call_type-returns-in_default t c = did-as (did_none (step-none _ _ c.args.s (omega (arith, c.well_formed)) (omega (arith, c.well_formed)))) (sym (type_other_call c.args.tree.now c.args.mode c.args.levels c.args.at c.args.s.counter c.requires.1.1 (is-nothing _ _ (sym c.in_default.is ∙ c.object_freeze_call_arg-found.ensures))))
+call_type-returns-in_default t c = did-as (did_none (step-none _ _ c.args.s (omega (arith, c.well_formed)) (omega (arith, c.well_formed)))) (sym (type_other_call c.args.tree.now c.args.mode c.args.levels c.args.at c.args.s.counter c.requires.1 (is-nothing _ _ (sym c.in_default.is ∙ c.object_freeze_call_arg-found.ensures))))
 
 pub call_type-overflow_sub-levels : goal.call_type-overflow_sub-levels
-call_type-overflow_sub-levels t c = omega (arith, some_left _ _ _ c.requires.1.0.accepted)
+call_type-overflow_sub-levels t c = omega (arith, some_left _ _ _ c.requires.0.accepted)
 
 pub call_type-expr_to_ts_type-inner_type-requires : goal.call_type-expr_to_ts_type-inner_type-requires
-call_type-expr_to_ts_type-inner_type-requires t c = (omega (arith, c.requires.0, some_left _ _ _ c.requires.1.0.accepted), freeze_ready c.args.tree.now c.args.mode c.args.levels c.args.at c.args.s.counter c.requires.1.0 c.requires.1.1 (is_found _ _ _ (sym c.in-At.is ∙ c.object_freeze_call_arg-found.ensures)))
+call_type-expr_to_ts_type-inner_type-requires t c = (omega (arith, c.decreases, some_left _ _ _ c.requires.0.accepted), freeze_ready c.args.tree.now c.args.mode c.args.levels c.args.at c.args.s.counter c.requires.0 c.requires.1 (is_found _ _ _ (sym c.in-At.is ∙ c.object_freeze_call_arg-found.ensures)))
 
 pub call_type-returns-in_default-inner_type : goal.call_type-returns-in_default-inner_type
-call_type-returns-in_default-inner_type t c = did-as (kept-none _ c.expr_to_ts_type-inner_type.ensures c.in_default-inner_type.is) (freeze-is c.args.tree.now c.args.mode c.args.levels c.args.at c.args.s.counter c.requires.1.0.accepted c.requires.1.1 (is_found _ _ _ (sym c.in-At.is ∙ c.object_freeze_call_arg-found.ensures)))
+call_type-returns-in_default-inner_type t c = did-as (kept-none _ c.expr_to_ts_type-inner_type.ensures c.in_default-inner_type.is) (freeze-is c.args.tree.now c.args.mode c.args.levels c.args.at c.args.s.counter c.requires.0.accepted c.requires.1 (is_found _ _ _ (sym c.in-At.is ∙ c.object_freeze_call_arg-found.ensures)))
 
 pub call_type-shape_of-out-in_default-inner_type : goal.call_type-shape_of-out-in_default-inner_type
 call_type-shape_of-out-in_default-inner_type t c = (call_type-returns-in_default-inner_type t c).step.ran.out.same
@@ -88,13 +88,13 @@ pub call_type-shape_of-diagnostics-in_default-inner_type : goal.call_type-shape_
 call_type-shape_of-diagnostics-in_default-inner_type t c = (call_type-returns-in_default-inner_type t c).step.ran.dia.same
 
 pub call_type-overflow_sub-levels-2 : goal.call_type-overflow_sub-levels-2
-call_type-overflow_sub-levels-2 t c = omega (arith, some_left _ _ _ c.requires.1.0.accepted)
+call_type-overflow_sub-levels-2 t c = omega (arith, some_left _ _ _ c.requires.0.accepted)
 
 pub call_type-has_readonly-requires : goal.call_type-has_readonly-requires
-call_type-has_readonly-requires t c = (freeze_ready c.args.tree.now c.args.mode c.args.levels c.args.at c.args.s.counter c.requires.1.0 c.requires.1.1 (is_found _ _ _ (sym c.in-At.is ∙ c.object_freeze_call_arg-found.ensures))).accepted
+call_type-has_readonly-requires t c = (freeze_ready c.args.tree.now c.args.mode c.args.levels c.args.at c.args.s.counter c.requires.0 c.requires.1 (is_found _ _ _ (sym c.in-At.is ∙ c.object_freeze_call_arg-found.ensures))).accepted
 
 pub call_type-returns-then-not-has_readonly : goal.call_type-returns-then-not-has_readonly
-call_type-returns-then-not-has_readonly t c = did-as (did_at c.back.ensures (kept_back _ c.expr_to_ts_type-inner_type.ensures (sym c.has_readonly.ensures ∙ not-true _ c.if-not-has_readonly.true-raw) (omega (arith, c.well_formed)) c.in-Some.is)) (freeze-is c.args.tree.now c.args.mode c.args.levels c.args.at c.args.s.counter c.requires.1.0.accepted c.requires.1.1 (is_found _ _ _ (sym c.in-At.is ∙ c.object_freeze_call_arg-found.ensures)))
+call_type-returns-then-not-has_readonly t c = did-as (did_at c.back.ensures (kept_back _ c.expr_to_ts_type-inner_type.ensures (sym c.has_readonly.ensures ∙ not-true _ c.if-not-has_readonly.true-raw) (omega (arith, c.well_formed)) c.in-Some.is)) (freeze-is c.args.tree.now c.args.mode c.args.levels c.args.at c.args.s.counter c.requires.0.accepted c.requires.1 (is_found _ _ _ (sym c.in-At.is ∙ c.object_freeze_call_arg-found.ensures)))
 
 pub call_type-shape_of-out-then-not-has_readonly : goal.call_type-shape_of-out-then-not-has_readonly
 call_type-shape_of-out-then-not-has_readonly t c = (call_type-returns-then-not-has_readonly t c).step.ran.out.same
@@ -103,7 +103,7 @@ pub call_type-shape_of-diagnostics-then-not-has_readonly : goal.call_type-shape_
 call_type-shape_of-diagnostics-then-not-has_readonly t c = (call_type-returns-then-not-has_readonly t c).step.ran.dia.same
 
 pub call_type-returns : goal.call_type-returns
-call_type-returns t c = did-as (kept-some _ c.expr_to_ts_type-inner_type.ensures (sym c.has_readonly.ensures ∙ not-false _ c.if-not-has_readonly.false-raw) c.in-Some.is) (freeze-is c.args.tree.now c.args.mode c.args.levels c.args.at c.args.s.counter c.requires.1.0.accepted c.requires.1.1 (is_found _ _ _ (sym c.in-At.is ∙ c.object_freeze_call_arg-found.ensures)))
+call_type-returns t c = did-as (kept-some _ c.expr_to_ts_type-inner_type.ensures (sym c.has_readonly.ensures ∙ not-false _ c.if-not-has_readonly.false-raw) c.in-Some.is) (freeze-is c.args.tree.now c.args.mode c.args.levels c.args.at c.args.s.counter c.requires.0.accepted c.requires.1 (is_found _ _ _ (sym c.in-At.is ∙ c.object_freeze_call_arg-found.ensures)))
 
 pub call_type-shape_of-out : goal.call_type-shape_of-out
 call_type-shape_of-out t c = (call_type-returns t c).step.ran.out.same
@@ -112,16 +112,16 @@ pub call_type-shape_of-diagnostics : goal.call_type-shape_of-diagnostics
 call_type-shape_of-diagnostics t c = (call_type-returns t c).step.ran.dia.same
 
 pub element_type-mark_at-requires : goal.element_type-mark_at-requires
-element_type-mark_at-requires t c = (itself _ _ _ c.requires.1.accepted).room
+element_type-mark_at-requires t c = (itself _ _ _ c.requires.accepted).room
 
 pub element_type-spread_type-requires : goal.element_type-spread_type-requires
-element_type-spread_type-requires t c = (omega (arith, c.requires.0), (c.requires.1, (sym c.mark_at.ensures.0 ∙ c.in-28755.is)))
+element_type-spread_type-requires t c = (omega (arith, c.decreases), (c.requires, (sym c.mark_at.ensures.0 ∙ c.in-28755.is)))
 
 pub element_type-expr_to_ts_type-t-requires : goal.element_type-expr_to_ts_type-t-requires
-element_type-expr_to_ts_type-t-requires t c = (omega (arith, c.requires.0), c.requires.1)
+element_type-expr_to_ts_type-t-requires t c = (omega (arith, c.decreases), c.requires)
 
 pub element_type-or_any-made-requires : goal.element_type-or_any-made-requires
-element_type-or_any-made-requires t c = (itself _ _ _ c.requires.1.accepted).room
+element_type-or_any-made-requires t c = (itself _ _ _ c.requires.accepted).room
 
 pub element_type-returns-in-28751 : goal.element_type-returns-in-28751
 element_type-returns-in-28751 t c = all-op _ _ c.args.s (omega (arith, c.well_formed)) (omega (arith, c.well_formed)) (element-op c.args.tree.now c.args.mode c.args.levels c.args.at c.args.s.counter (sym c.mark_at.ensures.0 ∙ c.in-28751.is))
@@ -152,53 +152,53 @@ pub element_type-shape_of-diagnostics-in_default : goal.element_type-shape_of-di
 element_type-shape_of-diagnostics-in_default t c = (element_type-returns-in_default t c).step.ran.dia.same
 
 pub expr_to_ts_type-mark_at-requires : goal.expr_to_ts_type-mark_at-requires
-expr_to_ts_type-mark_at-requires t c = (itself _ _ _ c.requires.1.accepted).room
+expr_to_ts_type-mark_at-requires t c = (itself _ _ _ c.requires.accepted).room
 
 pub expr_to_ts_type-array_type-requires : goal.expr_to_ts_type-array_type-requires
-expr_to_ts_type-array_type-requires t c = (omega (arith, c.requires.0), (c.requires.1, (sym c.mark_at.ensures.0 ∙ c.in-29249.is)))
+expr_to_ts_type-array_type-requires t c = (omega (arith, c.decreases), (c.requires, (sym c.mark_at.ensures.0 ∙ c.in-29249.is)))
 
 pub expr_to_ts_type-object_type-requires : goal.expr_to_ts_type-object_type-requires
-expr_to_ts_type-object_type-requires t c = (omega (arith, c.requires.0), (c.requires.1, (sym c.mark_at.ensures.0 ∙ c.in-25167.is)))
+expr_to_ts_type-object_type-requires t c = (omega (arith, c.decreases), (c.requires, (sym c.mark_at.ensures.0 ∙ c.in-25167.is)))
 
 pub expr_to_ts_type-body_at-expr-requires : goal.expr_to_ts_type-body_at-expr-requires
-expr_to_ts_type-body_at-expr-requires t c = (itself _ _ _ c.requires.1.accepted).room
+expr_to_ts_type-body_at-expr-requires t c = (itself _ _ _ c.requires.accepted).room
 
 pub expr_to_ts_type-overflow_sub-levels : goal.expr_to_ts_type-overflow_sub-levels
-expr_to_ts_type-overflow_sub-levels t c = omega (arith, some_left _ _ _ c.requires.1.accepted)
+expr_to_ts_type-overflow_sub-levels t c = omega (arith, some_left _ _ _ c.requires.accepted)
 
 pub expr_to_ts_type-expr_to_ts_type-requires : goal.expr_to_ts_type-expr_to_ts_type-requires
-expr_to_ts_type-expr_to_ts_type-requires t c = (omega (arith, c.requires.0, some_left _ _ _ c.requires.1.accepted), ready_first c.requires.1 (placed (tc_expr _ _ _ c.requires.1.accepted (sym c.mark_at.ensures.0 ∙ c.in-25428.is)) c.body_at-expr.ensures) c.body_at-expr.ensures)
+expr_to_ts_type-expr_to_ts_type-requires t c = (omega (arith, c.decreases, some_left _ _ _ c.requires.accepted), ready_first c.requires (placed (tc_expr _ _ _ c.requires.accepted (sym c.mark_at.ensures.0 ∙ c.in-25428.is)) c.body_at-expr.ensures) c.body_at-expr.ensures)
 
 pub expr_to_ts_type-body_at-expr-requires-in-29524 : goal.expr_to_ts_type-body_at-expr-requires-in-29524
-expr_to_ts_type-body_at-expr-requires-in-29524 t c = (itself _ _ _ c.requires.1.accepted).room
+expr_to_ts_type-body_at-expr-requires-in-29524 t c = (itself _ _ _ c.requires.accepted).room
 
 pub expr_to_ts_type-overflow_sub-levels-in-29524 : goal.expr_to_ts_type-overflow_sub-levels-in-29524
-expr_to_ts_type-overflow_sub-levels-in-29524 t c = omega (arith, some_left _ _ _ c.requires.1.accepted)
+expr_to_ts_type-overflow_sub-levels-in-29524 t c = omega (arith, some_left _ _ _ c.requires.accepted)
 
 pub expr_to_ts_type-expr_to_ts_type-requires-in-29524 : goal.expr_to_ts_type-expr_to_ts_type-requires-in-29524
-expr_to_ts_type-expr_to_ts_type-requires-in-29524 t c = (omega (arith, c.requires.0, some_left _ _ _ c.requires.1.accepted), ready_first c.requires.1 (placed (ts_expr _ _ _ c.requires.1.accepted (sym c.mark_at.ensures.0 ∙ c.in-29524.is)) c.body_at-expr-in-29524.ensures) c.body_at-expr-in-29524.ensures)
+expr_to_ts_type-expr_to_ts_type-requires-in-29524 t c = (omega (arith, c.decreases, some_left _ _ _ c.requires.accepted), ready_first c.requires (placed (ts_expr _ _ _ c.requires.accepted (sym c.mark_at.ensures.0 ∙ c.in-29524.is)) c.body_at-expr-in-29524.ensures) c.body_at-expr-in-29524.ensures)
 
 pub expr_to_ts_type-as_type-requires : goal.expr_to_ts_type-as_type-requires
-expr_to_ts_type-as_type-requires t c = (c.requires.1.accepted, (sym c.mark_at.ensures.0 ∙ c.in-29505.is))
+expr_to_ts_type-as_type-requires t c = (c.requires.accepted, (sym c.mark_at.ensures.0 ∙ c.in-29505.is))
 
 pub expr_to_ts_type-child_at-fu-requires : goal.expr_to_ts_type-child_at-fu-requires
-expr_to_ts_type-child_at-fu-requires t c = (c.requires.1.accepted, omega (arith, (fx_function _ _ _ c.requires.1.accepted (sym c.mark_at.ensures.0 ∙ c.in-30790.is)).there))
+expr_to_ts_type-child_at-fu-requires t c = (c.requires.accepted, omega (arith, (fx_function _ _ _ c.requires.accepted (sym c.mark_at.ensures.0 ∙ c.in-30790.is)).there))
 
 pub expr_to_ts_type-overflow_sub-levels-in-30790 : goal.expr_to_ts_type-overflow_sub-levels-in-30790
-expr_to_ts_type-overflow_sub-levels-in-30790 t c = omega (arith, some_left _ _ _ c.requires.1.accepted)
+expr_to_ts_type-overflow_sub-levels-in-30790 t c = omega (arith, some_left _ _ _ c.requires.accepted)
 
 pub expr_to_ts_type-function_type-requires : goal.expr_to_ts_type-function_type-requires
 unfolding marks
-expr_to_ts_type-function_type-requires t c = (omega (arith, c.requires.0, some_left _ _ _ c.requires.1.accepted), (ready_second c.requires.1 (fx_ident _ _ _ c.requires.1.accepted (sym c.mark_at.ensures.0 ∙ c.in-30790.is)) refl (placed (fx_function _ _ _ c.requires.1.accepted (sym c.mark_at.ensures.0 ∙ c.in-30790.is)) (second_at _ _ _ c.child_at-fu.ensures)) (second_at _ _ _ c.child_at-fu.ensures), member-one _ _ (placed (fx_function _ _ _ c.requires.1.accepted (sym c.mark_at.ensures.0 ∙ c.in-30790.is)) (second_at _ _ _ c.child_at-fu.ensures)).marks))
+expr_to_ts_type-function_type-requires t c = (omega (arith, c.decreases, some_left _ _ _ c.requires.accepted), (ready_second c.requires (fx_ident _ _ _ c.requires.accepted (sym c.mark_at.ensures.0 ∙ c.in-30790.is)) refl (placed (fx_function _ _ _ c.requires.accepted (sym c.mark_at.ensures.0 ∙ c.in-30790.is)) (second_at _ _ _ c.child_at-fu.ensures)) (second_at _ _ _ c.child_at-fu.ensures), member-one _ _ (placed (fx_function _ _ _ c.requires.accepted (sym c.mark_at.ensures.0 ∙ c.in-30790.is)) (second_at _ _ _ c.child_at-fu.ensures)).marks))
 
 pub expr_to_ts_type-function_type-requires-in-30529 : goal.expr_to_ts_type-function_type-requires-in-30529
-expr_to_ts_type-function_type-requires-in-30529 t c = (omega (arith, c.requires.0), (c.requires.1, (sym c.mark_at.ensures.0 ∙ c.in-30529.is)))
+expr_to_ts_type-function_type-requires-in-30529 t c = (omega (arith, c.decreases), (c.requires, (sym c.mark_at.ensures.0 ∙ c.in-30529.is)))
 
 pub expr_to_ts_type-call_type-requires : goal.expr_to_ts_type-call_type-requires
-expr_to_ts_type-call_type-requires t c = (omega (arith, c.requires.0), (c.requires.1, (sym c.mark_at.ensures.0 ∙ c.in-24899.is)))
+expr_to_ts_type-call_type-requires t c = (omega (arith, c.decreases), (c.requires, (sym c.mark_at.ensures.0 ∙ c.in-24899.is)))
 
 pub expr_to_ts_type-leaf_type-requires : goal.expr_to_ts_type-leaf_type-requires
-expr_to_ts_type-leaf_type-requires t c = (c.requires.1.accepted, c.requires.1.indexed)
+expr_to_ts_type-leaf_type-requires t c = record { accepted_at = c.requires.accepted; indexed = c.requires.indexed }
 
 pub expr_to_ts_type-returns-in-29249 : goal.expr_to_ts_type-returns-in-29249
 expr_to_ts_type-returns-in-29249 t c = c.array_type.ensures
@@ -219,7 +219,7 @@ pub expr_to_ts_type-shape_of-diagnostics-in-25167 : goal.expr_to_ts_type-shape_o
 expr_to_ts_type-shape_of-diagnostics-in-25167 t c = (expr_to_ts_type-returns-in-25167 t c).step.ran.dia.same
 
 pub expr_to_ts_type-returns-in-25428 : goal.expr_to_ts_type-returns-in-25428
-expr_to_ts_type-returns-in-25428 t c = did-as c.expr_to_ts_type.ensures (type-const c.args.tree.now c.args.mode c.args.levels c.args.at c.args.s.counter c.requires.1.accepted (sym c.mark_at.ensures.0 ∙ c.in-25428.is) (placed (tc_expr _ _ _ c.requires.1.accepted (sym c.mark_at.ensures.0 ∙ c.in-25428.is)) c.body_at-expr.ensures))
+expr_to_ts_type-returns-in-25428 t c = did-as c.expr_to_ts_type.ensures (type-const c.args.tree.now c.args.mode c.args.levels c.args.at c.args.s.counter c.requires.accepted (sym c.mark_at.ensures.0 ∙ c.in-25428.is) (placed (tc_expr _ _ _ c.requires.accepted (sym c.mark_at.ensures.0 ∙ c.in-25428.is)) c.body_at-expr.ensures))
 
 pub expr_to_ts_type-shape_of-out-in-25428 : goal.expr_to_ts_type-shape_of-out-in-25428
 expr_to_ts_type-shape_of-out-in-25428 t c = (expr_to_ts_type-returns-in-25428 t c).step.ran.out.same
@@ -228,7 +228,7 @@ pub expr_to_ts_type-shape_of-diagnostics-in-25428 : goal.expr_to_ts_type-shape_o
 expr_to_ts_type-shape_of-diagnostics-in-25428 t c = (expr_to_ts_type-returns-in-25428 t c).step.ran.dia.same
 
 pub expr_to_ts_type-returns-in-29524 : goal.expr_to_ts_type-returns-in-29524
-expr_to_ts_type-returns-in-29524 t c = did-as c.expr_to_ts_type-in-29524.ensures (type-satisfies c.args.tree.now c.args.mode c.args.levels c.args.at c.args.s.counter c.requires.1.accepted (sym c.mark_at.ensures.0 ∙ c.in-29524.is) (placed (ts_expr _ _ _ c.requires.1.accepted (sym c.mark_at.ensures.0 ∙ c.in-29524.is)) c.body_at-expr-in-29524.ensures))
+expr_to_ts_type-returns-in-29524 t c = did-as c.expr_to_ts_type-in-29524.ensures (type-satisfies c.args.tree.now c.args.mode c.args.levels c.args.at c.args.s.counter c.requires.accepted (sym c.mark_at.ensures.0 ∙ c.in-29524.is) (placed (ts_expr _ _ _ c.requires.accepted (sym c.mark_at.ensures.0 ∙ c.in-29524.is)) c.body_at-expr-in-29524.ensures))
 
 pub expr_to_ts_type-shape_of-out-in-29524 : goal.expr_to_ts_type-shape_of-out-in-29524
 expr_to_ts_type-shape_of-out-in-29524 t c = (expr_to_ts_type-returns-in-29524 t c).step.ran.out.same
@@ -237,13 +237,13 @@ pub expr_to_ts_type-shape_of-diagnostics-in-29524 : goal.expr_to_ts_type-shape_o
 expr_to_ts_type-shape_of-diagnostics-in-29524 t c = (expr_to_ts_type-returns-in-29524 t c).step.ran.dia.same
 
 pub expr_to_ts_type-returns-in-29505 : goal.expr_to_ts_type-returns-in-29505
-expr_to_ts_type-returns-in-29505 t c = let k = as-type-of _ _ _ c.requires.1.accepted (sym c.mark_at.ensures.0 ∙ c.in-29505.is) in did-as (did-put _ c.args.s (omega (arith, c.well_formed)) (as_fits c.args.mode.frozen _ (kid-fits 1 _ (kids-fit _ (tree-fits _ _ _ c.requires.1.accepted c.shared_slice_known-1.given)))) c.as_type.ensures) (sym (type-as c.args.tree.now c.args.mode c.args.levels c.args.at c.args.s.counter (sym c.mark_at.ensures.0 ∙ c.in-29505.is) k))
+expr_to_ts_type-returns-in-29505 t c = let k = as-type-of _ _ _ c.requires.accepted (sym c.mark_at.ensures.0 ∙ c.in-29505.is) in did-as (did-put _ c.args.s (omega (arith, c.well_formed)) (as_fits c.args.mode.frozen _ (kid-fits 1 _ (kids-fit _ (tree-fits _ _ _ c.requires.accepted c.shared_slice_known-1.given)))) c.as_type.ensures) (sym (type-as c.args.tree.now c.args.mode c.args.levels c.args.at c.args.s.counter (sym c.mark_at.ensures.0 ∙ c.in-29505.is) k))
 
 pub expr_to_ts_type-shape_of-out-in-29505 : goal.expr_to_ts_type-shape_of-out-in-29505
 expr_to_ts_type-shape_of-out-in-29505 t c = (expr_to_ts_type-returns-in-29505 t c).step.ran.out.same
 
 pub expr_to_ts_type-returns-in-30790 : goal.expr_to_ts_type-returns-in-30790
-expr_to_ts_type-returns-in-30790 t c = did-as c.function_type.ensures (type-fn c.args.tree.now c.args.mode c.args.levels c.args.at c.args.s.counter c.requires.1.accepted (sym c.mark_at.ensures.0 ∙ c.in-30790.is) (placed (fx_function _ _ _ c.requires.1.accepted (sym c.mark_at.ensures.0 ∙ c.in-30790.is)) (second_at _ _ _ c.child_at-fu.ensures)))
+expr_to_ts_type-returns-in-30790 t c = did-as c.function_type.ensures (type-fn c.args.tree.now c.args.mode c.args.levels c.args.at c.args.s.counter c.requires.accepted (sym c.mark_at.ensures.0 ∙ c.in-30790.is) (placed (fx_function _ _ _ c.requires.accepted (sym c.mark_at.ensures.0 ∙ c.in-30790.is)) (second_at _ _ _ c.child_at-fu.ensures)))
 
 pub expr_to_ts_type-shape_of-out-in-30790 : goal.expr_to_ts_type-shape_of-out-in-30790
 expr_to_ts_type-shape_of-out-in-30790 t c = (expr_to_ts_type-returns-in-30790 t c).step.ran.out.same
@@ -270,37 +270,37 @@ pub expr_to_ts_type-shape_of-diagnostics-in-24899 : goal.expr_to_ts_type-shape_o
 expr_to_ts_type-shape_of-diagnostics-in-24899 t c = (expr_to_ts_type-returns-in-24899 t c).step.ran.dia.same
 
 pub expr_to_ts_type-returns-in_default : goal.expr_to_ts_type-returns-in_default
-expr_to_ts_type-returns-in_default t c = did-as (did_maybe _ c.args.s _ (omega (arith, c.well_formed)) (omega (arith, c.well_formed)) (leaf-fits c.args.tree.now c.args.mode c.args.levels c.args.at (tree-fits _ _ _ c.requires.1.accepted c.shared_slice_known-1.given)) c.leaf_type.ensures c.answer_of.ensures) (sym (leaf-is c.args.tree.now c.args.mode c.args.levels c.args.at c.args.s.counter (λ e. c.in_default.in_default-own.rest.0.0.0.0.0.0.0.1 (c.mark_at.ensures.0 ∙ e)) (λ e. c.in_default.in_default-own.rest.0.0.0.0.0.0.1 (c.mark_at.ensures.0 ∙ e)) (λ e. c.in_default.in_default-own.rest.0.0.0.0.0.1 (c.mark_at.ensures.0 ∙ e)) (λ e. c.in_default.in_default-own.rest.0.0.0.0.1 (c.mark_at.ensures.0 ∙ e)) (λ e. c.in_default.in_default-own.rest.0.0.0.1 (c.mark_at.ensures.0 ∙ e)) (λ e. c.in_default.in_default-own.rest.0.0.1 (c.mark_at.ensures.0 ∙ e)) (λ e. c.in_default.in_default-own.rest.0.1 (c.mark_at.ensures.0 ∙ e)) (λ e. c.in_default.in_default-own.rest.1 (c.mark_at.ensures.0 ∙ e))))
+expr_to_ts_type-returns-in_default t c = did-as (did_maybe _ c.args.s _ (omega (arith, c.well_formed)) (omega (arith, c.well_formed)) (leaf-fits c.args.tree.now c.args.mode c.args.levels c.args.at (tree-fits _ _ _ c.requires.accepted c.shared_slice_known-1.given)) c.leaf_type.ensures c.answer_of.ensures) (sym (leaf-is c.args.tree.now c.args.mode c.args.levels c.args.at c.args.s.counter (λ e. c.in_default.in_default-own.rest.0.0.0.0.0.0.0.1 (c.mark_at.ensures.0 ∙ e)) (λ e. c.in_default.in_default-own.rest.0.0.0.0.0.0.1 (c.mark_at.ensures.0 ∙ e)) (λ e. c.in_default.in_default-own.rest.0.0.0.0.0.1 (c.mark_at.ensures.0 ∙ e)) (λ e. c.in_default.in_default-own.rest.0.0.0.0.1 (c.mark_at.ensures.0 ∙ e)) (λ e. c.in_default.in_default-own.rest.0.0.0.1 (c.mark_at.ensures.0 ∙ e)) (λ e. c.in_default.in_default-own.rest.0.0.1 (c.mark_at.ensures.0 ∙ e)) (λ e. c.in_default.in_default-own.rest.0.1 (c.mark_at.ensures.0 ∙ e)) (λ e. c.in_default.in_default-own.rest.1 (c.mark_at.ensures.0 ∙ e))))
 
 pub expr_to_ts_type-shape_of-out-in_default : goal.expr_to_ts_type-shape_of-out-in_default
 expr_to_ts_type-shape_of-out-in_default t c = (expr_to_ts_type-returns-in_default t c).step.ran.out.same
 
 pub function_type-read_head-head-requires : goal.function_type-read_head-head-requires
-function_type-read_head-head-requires t c = (itself _ _ _ c.requires.1.0.accepted).room
+function_type-read_head-head-requires t c = (itself _ _ _ c.requires.0.accepted).room
 
 pub function_type-overflow_sub-n : goal.function_type-overflow_sub-n
-function_type-overflow_sub-n t c = omega (arith, c.params_from-first.ensures, ap (λ (h : Head). h.count) c.read_head-head.ensures, params-there c.args.function _ _ _ c.requires.1.0.accepted c.requires.1.1)
+function_type-overflow_sub-n t c = omega (arith, c.params_from-first.ensures, ap (λ (h : Head). h.count) c.read_head-head.ensures, params-there c.args.function _ _ _ c.requires.0.accepted c.requires.1)
 
 pub function_type-child_at-child-requires : goal.function_type-child_at-child-requires
-function_type-child_at-child-requires t c = (c.requires.1.0.accepted, omega (arith, c.params_from-first.ensures, params-there c.args.function _ _ _ c.requires.1.0.accepted c.requires.1.1))
+function_type-child_at-child-requires t c = (c.requires.0.accepted, omega (arith, c.params_from-first.ensures, params-there c.args.function _ _ _ c.requires.0.accepted c.requires.1))
 
 pub function_type-put_fn_front-requires : goal.function_type-put_fn_front-requires
-function_type-put_fn_front-requires t c = (c.requires.1.0.accepted, omega (arith, params-there c.args.function _ _ _ c.requires.1.0.accepted c.requires.1.1, params-two c.args.function))
+function_type-put_fn_front-requires t c = (c.requires.0.accepted, omega (arith, params-there c.args.function _ _ _ c.requires.0.accepted c.requires.1, params-two c.args.function))
 
 pub function_type-loop-n-init : goal.function_type-loop-n-init
-function_type-loop-n-init t c = rw (c.read_head-head.ensures, c.child_at-child.ensures, c.params_from-first.ensures) (param-start c.args.tree.now c.args.scope.unresolved c.args.function c.args.levels c.args.at c.requires.1.0.accepted (params-there c.args.function _ _ _ c.requires.1.0.accepted c.requires.1.1) _ _ _ (omega (arith, c.requires.1.0.low, child-after c.args.levels c.args.tree.now c.args.at c.requires.1.0.accepted (params_from c.args.function) (params-there c.args.function _ _ _ c.requires.1.0.accepted c.requires.1.1))) (count_small c.args.tree.now c.args.at c.shared_slice_known-1.given) (omega (arith, c.put_fn_front.ensures.position)) (omega (arith, c.well_formed)))
+function_type-loop-n-init t c = rw (c.read_head-head.ensures, c.child_at-child.ensures, c.params_from-first.ensures) (param-start c.args.tree.now c.args.scope.unresolved c.args.function c.args.levels c.args.at c.requires.0.accepted (params-there c.args.function _ _ _ c.requires.0.accepted c.requires.1) _ _ _ (omega (arith, c.requires.0.low, child-after c.args.levels c.args.tree.now c.args.at c.requires.0.accepted (params_from c.args.function) (params-there c.args.function _ _ _ c.requires.0.accepted c.requires.1))) (count_small c.args.tree.now c.args.at c.shared_slice_known-1.given) (omega (arith, c.put_fn_front.ensures.position)) (omega (arith, c.well_formed)))
 
 pub function_type-overflow_sub-levels : goal.function_type-overflow_sub-levels
-function_type-overflow_sub-levels t c = omega (arith, some_left _ _ _ c.requires.1.0.accepted)
+function_type-overflow_sub-levels t c = omega (arith, some_left _ _ _ c.requires.0.accepted)
 
 pub function_type-param_type-made-requires : goal.function_type-param_type-made-requires
-function_type-param_type-made-requires t c = (omega (arith, c.requires.0, some_left _ _ _ c.requires.1.0.accepted), record { accepted = (left-first c.loop-n.invariant.left c.loop-n-test.true); low = c.loop-n.invariant.low; indexed = c.requires.1.0.indexed })
+function_type-param_type-made-requires t c = (omega (arith, c.decreases, some_left _ _ _ c.requires.0.accepted), record { accepted = (left-first c.loop-n.invariant.left c.loop-n-test.true); low = c.loop-n.invariant.low; indexed = c.requires.0.indexed })
 
 pub function_type-overflow_add-count : goal.function_type-overflow_add-count
 function_type-overflow_add-count t c = omega (arith, (param-turn c.args.tree.now c.args.scope.unresolved c.args.function c.args.levels c.args.at c.loop-n.invariant c.loop-n-test.true c.param_type-made.ensures).few)
 
 pub function_type-overflow_sub-levels-in-loop-n : goal.function_type-overflow_sub-levels-in-loop-n
-function_type-overflow_sub-levels-in-loop-n t c = omega (arith, some_left _ _ _ c.requires.1.0.accepted)
+function_type-overflow_sub-levels-in-loop-n t c = omega (arith, some_left _ _ _ c.requires.0.accepted)
 
 pub function_type-record_end-child-requires : goal.function_type-record_end-child-requires
 function_type-record_end-child-requires t c = is_whole _ _ _ (left-first c.loop-n.invariant.left c.loop-n-test.true)
@@ -318,7 +318,7 @@ pub function_type-overflow_add-count-2 : goal.function_type-overflow_add-count-2
 function_type-overflow_add-count-2 t c = omega (arith, c.loop-n.invariant.few)
 
 pub function_type-returns : goal.function_type-returns
-function_type-returns t c = function-done c.args.tree.now c.args.scope.unresolved c.args.function c.args.levels c.args.at c.loop-n.invariant c.args.s c.shared_slice_known-1.given c.requires.1.0.accepted (omega (arith, c.well_formed)) c.advance-q.ensures refl c.put_fn_front.ensures (omega (arith, c.loop-n-test.false)) c.read_head-head.ensures c.put_made_front.ensures
+function_type-returns t c = function-done c.args.tree.now c.args.scope.unresolved c.args.function c.args.levels c.args.at c.loop-n.invariant c.args.s c.shared_slice_known-1.given c.requires.0.accepted (omega (arith, c.well_formed)) c.advance-q.ensures refl c.put_fn_front.ensures (omega (arith, c.loop-n-test.false)) c.read_head-head.ensures c.put_made_front.ensures
 
 pub function_type-shape_of-out : goal.function_type-shape_of-out
 function_type-shape_of-out t c = (function_type-returns t c).step.ran.out.same
@@ -327,32 +327,32 @@ pub function_type-shape_of-diagnostics : goal.function_type-shape_of-diagnostics
 function_type-shape_of-diagnostics t c = (function_type-returns t c).step.ran.dia.same
 
 pub key_value-body_at-key-requires : goal.key_value-body_at-key-requires
-key_value-body_at-key-requires t c = (itself _ _ _ c.requires.1.0.accepted).room
+key_value-body_at-key-requires t c = (itself _ _ _ c.requires.0.accepted).room
 
 pub key_value-overflow_sub-levels : goal.key_value-overflow_sub-levels
-key_value-overflow_sub-levels t c = omega (arith, some_left _ _ _ c.requires.1.0.accepted)
+key_value-overflow_sub-levels t c = omega (arith, some_left _ _ _ c.requires.0.accepted)
 
 pub key_value-record_end-value-requires : goal.key_value-record_end-value-requires
-key_value-record_end-value-requires t c = is_whole _ _ _ (placed (kv-key _ _ _ c.requires.1.0.accepted c.requires.1.1) c.body_at-key.ensures).accepted
+key_value-record_end-value-requires t c = is_whole _ _ _ (placed (kv-key _ _ _ c.requires.0.accepted c.requires.1) c.body_at-key.ensures).accepted
 
 pub key_value-overflow_sub-levels-2 : goal.key_value-overflow_sub-levels-2
-key_value-overflow_sub-levels-2 t c = omega (arith, some_left _ _ _ c.requires.1.0.accepted)
+key_value-overflow_sub-levels-2 t c = omega (arith, some_left _ _ _ c.requires.0.accepted)
 
 pub key_value-put_keyed-next-requires : goal.key_value-put_keyed-next-requires
-key_value-put_keyed-next-requires t c = (placed (kv-key _ _ _ c.requires.1.0.accepted c.requires.1.1) c.body_at-key.ensures).accepted
+key_value-put_keyed-next-requires t c = (placed (kv-key _ _ _ c.requires.0.accepted c.requires.1) c.body_at-key.ensures).accepted
 
 pub key_value-overflow_sub-levels-3 : goal.key_value-overflow_sub-levels-3
-key_value-overflow_sub-levels-3 t c = omega (arith, some_left _ _ _ c.requires.1.0.accepted)
+key_value-overflow_sub-levels-3 t c = omega (arith, some_left _ _ _ c.requires.0.accepted)
 
 pub key_value-expr_to_ts_type-t-requires : goal.key_value-expr_to_ts_type-t-requires
-key_value-expr_to_ts_type-t-requires t c = (omega (arith, c.requires.0, some_left _ _ _ c.requires.1.0.accepted), ready_on (ready_second c.requires.1.0 (placed (kv-key _ _ _ c.requires.1.0.accepted c.requires.1.1) c.body_at-key.ensures) c.body_at-key.ensures (placed (kv-value _ _ _ c.requires.1.0.accepted c.requires.1.1) (c.record_end-value.ensures ∙ ap (end_at (c.args.levels - 1) c.args.tree.now) c.body_at-key.ensures)) c.record_end-value.ensures) (puts-counter c.put_keyed-next.ensures))
+key_value-expr_to_ts_type-t-requires t c = (omega (arith, c.decreases, some_left _ _ _ c.requires.0.accepted), ready_on (ready_second c.requires.0 (placed (kv-key _ _ _ c.requires.0.accepted c.requires.1) c.body_at-key.ensures) c.body_at-key.ensures (placed (kv-value _ _ _ c.requires.0.accepted c.requires.1) (c.record_end-value.ensures ∙ ap (end_at (c.args.levels - 1) c.args.tree.now) c.body_at-key.ensures)) c.record_end-value.ensures) (puts-counter c.put_keyed-next.ensures))
 
 pub key_value-or_any-made-requires : goal.key_value-or_any-made-requires
-key_value-or_any-made-requires t c = (itself _ _ _ (placed (kv-value _ _ _ c.requires.1.0.accepted c.requires.1.1) (c.record_end-value.ensures ∙ ap (end_at (c.args.levels - 1) c.args.tree.now) c.body_at-key.ensures)).accepted).room
+key_value-or_any-made-requires t c = (itself _ _ _ (placed (kv-value _ _ _ c.requires.0.accepted c.requires.1) (c.record_end-value.ensures ∙ ap (end_at (c.args.levels - 1) c.args.tree.now) c.body_at-key.ensures)).accepted).room
 
 pub key_value-returns : goal.key_value-returns
 unfolding type_of
-key_value-returns t c = gives-value c.args.s _ (c.args.mode.as_readonly || c.args.mode.frozen) _ (omega (arith, c.well_formed)) (rw c.is_readonly.ensures at c.put_keyed-next.ensures) c.expr_to_ts_type-t.ensures c.or_any-made.ensures (rw (puts-counter c.put_keyed-next.ensures) (member_key_value c.args.tree.now c.args.mode c.args.levels c.args.at c.args.s.counter c.requires.1.0.accepted c.requires.1.1 (placed (kv-key _ _ _ c.requires.1.0.accepted c.requires.1.1) c.body_at-key.ensures) (placed (kv-value _ _ _ c.requires.1.0.accepted c.requires.1.1) (c.record_end-value.ensures ∙ ap (end_at (c.args.levels - 1) c.args.tree.now) c.body_at-key.ensures))))
+key_value-returns t c = gives-value c.args.s _ (c.args.mode.as_readonly || c.args.mode.frozen) _ (omega (arith, c.well_formed)) (rw c.is_readonly.ensures at c.put_keyed-next.ensures) c.expr_to_ts_type-t.ensures c.or_any-made.ensures (rw (puts-counter c.put_keyed-next.ensures) (member_key_value c.args.tree.now c.args.mode c.args.levels c.args.at c.args.s.counter c.requires.0.accepted c.requires.1 (placed (kv-key _ _ _ c.requires.0.accepted c.requires.1) c.body_at-key.ensures) (placed (kv-value _ _ _ c.requires.0.accepted c.requires.1) (c.record_end-value.ensures ∙ ap (end_at (c.args.levels - 1) c.args.tree.now) c.body_at-key.ensures))))
 
 pub key_value-shape_of-out : goal.key_value-shape_of-out
 key_value-shape_of-out t c = (key_value-returns t c).step.ran.out.same
@@ -361,19 +361,19 @@ pub key_value-shape_of-diagnostics : goal.key_value-shape_of-diagnostics
 key_value-shape_of-diagnostics t c = (key_value-returns t c).step.ran.dia.same
 
 pub named_param-child_at-right-requires : goal.named_param-child_at-right-requires
-named_param-child_at-right-requires t c = (c.requires.1.0.0.accepted, omega (arith, (right_of _ _ _ c.requires.1.0.0.accepted c.requires.1.0.1).there))
+named_param-child_at-right-requires t c = (c.requires.ready.0.accepted, omega (arith, (right_of _ _ _ c.requires.ready.0.accepted c.requires.ready.1).there))
 
 pub named_param-put_named-requires : goal.named_param-put_named-requires
-named_param-put_named-requires t c = ((c.requires.1.0.0.accepted, c.requires.1.0.1), c.requires.1.1)
+named_param-put_named-requires t c = record { accepted_at = (c.requires.ready.0.accepted, c.requires.ready.1); at_value = c.requires.at_value }
 
 pub named_param-overflow_sub-levels : goal.named_param-overflow_sub-levels
-named_param-overflow_sub-levels t c = omega (arith, some_left _ _ _ c.requires.1.0.0.accepted)
+named_param-overflow_sub-levels t c = omega (arith, some_left _ _ _ c.requires.ready.0.accepted)
 
 pub named_param-expr_to_ts_type-requires : goal.named_param-expr_to_ts_type-requires
-named_param-expr_to_ts_type-requires t c = (omega (arith, c.requires.0, some_left _ _ _ c.requires.1.0.0.accepted), ready_second c.requires.1.0.0 (left_of_lem _ _ _ c.requires.1.0.0.accepted c.requires.1.0.1) refl (placed (right_of _ _ _ c.requires.1.0.0.accepted c.requires.1.0.1) (second_at _ _ _ c.child_at-right.ensures)) (second_at _ _ _ c.child_at-right.ensures))
+named_param-expr_to_ts_type-requires t c = (omega (arith, c.decreases, some_left _ _ _ c.requires.ready.0.accepted), ready_second c.requires.ready.0 (left_of_lem _ _ _ c.requires.ready.0.accepted c.requires.ready.1) refl (placed (right_of _ _ _ c.requires.ready.0.accepted c.requires.ready.1) (second_at _ _ _ c.child_at-right.ensures)) (second_at _ _ _ c.child_at-right.ensures))
 
 pub named_param-returns-in-Some : goal.named_param-returns-in-Some
-named_param-returns-in-Some t c = gave-named c.args.tree.now c.args.levels c.args.at c.args.s _ (omega (arith, c.well_formed)) (named-fits _ _ _ c.requires.1.0.0.accepted c.requires.1.0.1 c.requires.1.1 c.shared_slice_known-1.given) c.put_named.ensures (is_some (rw c.mutable.ensures at c.expr_to_ts_type.ensures) c.in-Some.is) (pat_named c.args.tree.now c.args.scope c.args.levels c.args.at c.args.s.counter c.requires.1.0.0.accepted c.requires.1.0.1 (left_of_lem _ _ _ c.requires.1.0.0.accepted c.requires.1.0.1) (placed (right_of _ _ _ c.requires.1.0.0.accepted c.requires.1.0.1) (second_at _ _ _ c.child_at-right.ensures)) c.requires.1.1)
+named_param-returns-in-Some t c = gave-named c.args.tree.now c.args.levels c.args.at c.args.s _ (omega (arith, c.well_formed)) (named-fits _ _ _ c.requires.ready.0.accepted c.requires.ready.1 c.requires.at_value c.shared_slice_known-1.given) c.put_named.ensures (is_some (rw c.mutable.ensures at c.expr_to_ts_type.ensures) c.in-Some.is) (pat_named c.args.tree.now c.args.scope c.args.levels c.args.at c.args.s.counter c.requires.ready.0.accepted c.requires.ready.1 (left_of_lem _ _ _ c.requires.ready.0.accepted c.requires.ready.1) (placed (right_of _ _ _ c.requires.ready.0.accepted c.requires.ready.1) (second_at _ _ _ c.child_at-right.ensures)) c.requires.at_value)
 
 pub named_param-shape_of-out-in-Some : goal.named_param-shape_of-out-in-Some
 named_param-shape_of-out-in-Some t c = (named_param-returns-in-Some t c).did.step.ran.out.same
@@ -382,7 +382,7 @@ pub named_param-shape_of-diagnostics-in-Some : goal.named_param-shape_of-diagnos
 named_param-shape_of-diagnostics-in-Some t c = (named_param-returns-in-Some t c).did.step.ran.dia.same
 
 pub named_param-returns-in-None : goal.named_param-returns-in-None
-named_param-returns-in-None t c = let n = is_none (rw c.mutable.ensures at c.expr_to_ts_type.ensures) c.in-None.is in gave_at c.back.ensures (gave_left_out c.args.s (omega (arith, c.well_formed)) (omega (arith, c.well_formed)) c.put_named.ensures n (rw n.same at (pat_named c.args.tree.now c.args.scope c.args.levels c.args.at c.args.s.counter c.requires.1.0.0.accepted c.requires.1.0.1 (left_of_lem _ _ _ c.requires.1.0.0.accepted c.requires.1.0.1) (placed (right_of _ _ _ c.requires.1.0.0.accepted c.requires.1.0.1) (second_at _ _ _ c.child_at-right.ensures)) c.requires.1.1)))
+named_param-returns-in-None t c = let n = is_none (rw c.mutable.ensures at c.expr_to_ts_type.ensures) c.in-None.is in gave_at c.back.ensures (gave_left_out c.args.s (omega (arith, c.well_formed)) (omega (arith, c.well_formed)) c.put_named.ensures n (rw n.same at (pat_named c.args.tree.now c.args.scope c.args.levels c.args.at c.args.s.counter c.requires.ready.0.accepted c.requires.ready.1 (left_of_lem _ _ _ c.requires.ready.0.accepted c.requires.ready.1) (placed (right_of _ _ _ c.requires.ready.0.accepted c.requires.ready.1) (second_at _ _ _ c.child_at-right.ensures)) c.requires.at_value)))
 
 pub named_param-shape_of-out-in-None : goal.named_param-shape_of-out-in-None
 named_param-shape_of-out-in-None t c = (named_param-returns-in-None t c).did.step.ran.out.same
@@ -391,25 +391,25 @@ pub named_param-shape_of-diagnostics-in-None : goal.named_param-shape_of-diagnos
 named_param-shape_of-diagnostics-in-None t c = (named_param-returns-in-None t c).did.step.ran.dia.same
 
 pub object_type-read_head-head-requires : goal.object_type-read_head-head-requires
-object_type-read_head-head-requires t c = (itself _ _ _ c.requires.1.0.accepted).room
+object_type-read_head-head-requires t c = (itself _ _ _ c.requires.0.accepted).room
 
 pub object_type-body_at-child-requires : goal.object_type-body_at-child-requires
-object_type-body_at-child-requires t c = (itself _ _ _ c.requires.1.0.accepted).room
+object_type-body_at-child-requires t c = (itself _ _ _ c.requires.0.accepted).room
 
 pub object_type-loop-n-init : goal.object_type-loop-n-init
-object_type-loop-n-init t c = rw (c.read_head-head.ensures, c.body_at-child.ensures, c.advance.ensures) (object_start c.args.tree.now c.args.mode c.args.levels c.args.at c.requires.1.0.accepted _ _ c.args.s (omega (arith, c.requires.1.0.low)) (count_small c.args.tree.now c.args.at c.shared_slice_known-1.given) (omega (arith, c.well_formed)))
+object_type-loop-n-init t c = rw (c.read_head-head.ensures, c.body_at-child.ensures, c.advance.ensures) (object_start c.args.tree.now c.args.mode c.args.levels c.args.at c.requires.0.accepted _ _ c.args.s (omega (arith, c.requires.0.low)) (count_small c.args.tree.now c.args.at c.shared_slice_known-1.given) (omega (arith, c.well_formed)))
 
 pub object_type-overflow_sub-levels : goal.object_type-overflow_sub-levels
-object_type-overflow_sub-levels t c = omega (arith, some_left _ _ _ c.requires.1.0.accepted)
+object_type-overflow_sub-levels t c = omega (arith, some_left _ _ _ c.requires.0.accepted)
 
 pub object_type-property_type-made-requires : goal.object_type-property_type-made-requires
-object_type-property_type-made-requires t c = (omega (arith, c.requires.0, some_left _ _ _ c.requires.1.0.accepted), record { accepted = (left-first c.loop-n.invariant.left c.loop-n-test.true); low = c.loop-n.invariant.low; indexed = c.requires.1.0.indexed })
+object_type-property_type-made-requires t c = (omega (arith, c.decreases, some_left _ _ _ c.requires.0.accepted), record { accepted = (left-first c.loop-n.invariant.left c.loop-n-test.true); low = c.loop-n.invariant.low; indexed = c.requires.0.indexed })
 
 pub object_type-overflow_add-count : goal.object_type-overflow_add-count
 object_type-overflow_add-count t c = omega (arith, (object_turn c.args.tree.now c.args.mode c.args.levels c.args.at c.args.s c.loop-n.invariant c.loop-n-test.true c.property_type-made.ensures).few)
 
 pub object_type-overflow_sub-levels-in-loop-n : goal.object_type-overflow_sub-levels-in-loop-n
-object_type-overflow_sub-levels-in-loop-n t c = omega (arith, some_left _ _ _ c.requires.1.0.accepted)
+object_type-overflow_sub-levels-in-loop-n t c = omega (arith, some_left _ _ _ c.requires.0.accepted)
 
 pub object_type-record_end-child-requires : goal.object_type-record_end-child-requires
 object_type-record_end-child-requires t c = is_whole _ _ _ (left-first c.loop-n.invariant.left c.loop-n-test.true)
@@ -424,7 +424,7 @@ pub object_type-loop-n-preserved : goal.object_type-loop-n-preserved
 object_type-loop-n-preserved t c = rw c.record_end-child.ensures (object_turn c.args.tree.now c.args.mode c.args.levels c.args.at c.args.s c.loop-n.invariant c.loop-n-test.true c.property_type-made.ensures)
 
 pub object_type-returns : goal.object_type-returns
-object_type-returns t c = object_done c.args.tree.now c.args.mode c.args.levels c.args.at c.args.s c.loop-n.invariant (omega (arith, c.loop-n-test.false)) c.requires.1.1 c.read_head-head.ensures c.put_made_front.ensures
+object_type-returns t c = object_done c.args.tree.now c.args.mode c.args.levels c.args.at c.args.s c.loop-n.invariant (omega (arith, c.loop-n-test.false)) c.requires.1 c.read_head-head.ensures c.put_made_front.ensures
 
 pub object_type-shape_of-out : goal.object_type-shape_of-out
 object_type-shape_of-out t c = (object_type-returns t c).step.ran.out.same
@@ -433,7 +433,7 @@ pub object_type-shape_of-diagnostics : goal.object_type-shape_of-diagnostics
 object_type-shape_of-diagnostics t c = (object_type-returns t c).step.ran.dia.same
 
 pub param_type-pat_to_ts_fn_param-requires : goal.param_type-pat_to_ts_fn_param-requires
-param_type-pat_to_ts_fn_param-requires t c = (omega (arith, c.requires.0), c.requires.1)
+param_type-pat_to_ts_fn_param-requires t c = (omega (arith, c.decreases), c.requires)
 
 pub param_type-returns-then-not-function : goal.param_type-returns-then-not-function
 param_type-returns-then-not-function t c = gives_as (gave_counted c.pat_to_ts_fn_param.ensures c.one_or_none.ensures) (rw (not-true c.args.function c.if-not-function.true-raw) (param-arrow c.args.tree.now c.args.scope.unresolved c.args.levels c.args.at c.args.s.counter))
@@ -445,22 +445,22 @@ pub param_type-shape_of-diagnostics-then-not-function : goal.param_type-shape_of
 param_type-shape_of-diagnostics-then-not-function t c = (param_type-returns-then-not-function t c).step.ran.dia.same
 
 pub param_type-mark_at-requires : goal.param_type-mark_at-requires
-param_type-mark_at-requires t c = (itself _ _ _ c.requires.1.accepted).room
+param_type-mark_at-requires t c = (itself _ _ _ c.requires.accepted).room
 
 pub param_type-returns-then-mark_at-ne-PA : goal.param_type-returns-then-mark_at-ne-PA
 param_type-returns-then-mark_at-ne-PA t c = gives_none _ _ c.args.s (omega (arith, c.well_formed)) (omega (arith, c.well_formed)) (rw (not-false c.args.function c.if-not-function.false-raw) (param-other c.args.tree.now c.args.scope.unresolved c.args.levels c.args.at c.args.s.counter (λ e. c.if-mark_at-ne-PA.true (c.mark_at.ensures.0 ∙ e))))
 
 pub param_type-body_at-pattern-requires : goal.param_type-body_at-pattern-requires
-param_type-body_at-pattern-requires t c = (itself _ _ _ c.requires.1.accepted).room
+param_type-body_at-pattern-requires t c = (itself _ _ _ c.requires.accepted).room
 
 pub param_type-overflow_sub-levels : goal.param_type-overflow_sub-levels
-param_type-overflow_sub-levels t c = omega (arith, some_left _ _ _ c.requires.1.accepted)
+param_type-overflow_sub-levels t c = omega (arith, some_left _ _ _ c.requires.accepted)
 
 pub param_type-pat_to_ts_fn_param-requires-2 : goal.param_type-pat_to_ts_fn_param-requires-2
-param_type-pat_to_ts_fn_param-requires-2 t c = (omega (arith, c.requires.0, some_left _ _ _ c.requires.1.accepted), ready_first c.requires.1 (placed (pa_pattern_lem _ _ _ c.requires.1.accepted (sym c.mark_at.ensures.0 ∙ c.if-mark_at-ne-PA.false)) c.body_at-pattern.ensures) c.body_at-pattern.ensures)
+param_type-pat_to_ts_fn_param-requires-2 t c = (omega (arith, c.decreases, some_left _ _ _ c.requires.accepted), ready_first c.requires (placed (pa_pattern_lem _ _ _ c.requires.accepted (sym c.mark_at.ensures.0 ∙ c.if-mark_at-ne-PA.false)) c.body_at-pattern.ensures) c.body_at-pattern.ensures)
 
 pub param_type-returns : goal.param_type-returns
-param_type-returns t c = gives_as (gave_counted c.pat_to_ts_fn_param-2.ensures c.one_or_none-2.ensures) (rw (not-false c.args.function c.if-not-function.false-raw) (param_pa c.args.tree.now c.args.scope.unresolved c.args.levels c.args.at c.args.s.counter c.requires.1.accepted (sym c.mark_at.ensures.0 ∙ c.if-mark_at-ne-PA.false) (placed (pa_pattern_lem _ _ _ c.requires.1.accepted (sym c.mark_at.ensures.0 ∙ c.if-mark_at-ne-PA.false)) c.body_at-pattern.ensures)))
+param_type-returns t c = gives_as (gave_counted c.pat_to_ts_fn_param-2.ensures c.one_or_none-2.ensures) (rw (not-false c.args.function c.if-not-function.false-raw) (param_pa c.args.tree.now c.args.scope.unresolved c.args.levels c.args.at c.args.s.counter c.requires.accepted (sym c.mark_at.ensures.0 ∙ c.if-mark_at-ne-PA.false) (placed (pa_pattern_lem _ _ _ c.requires.accepted (sym c.mark_at.ensures.0 ∙ c.if-mark_at-ne-PA.false)) c.body_at-pattern.ensures)))
 
 pub param_type-shape_of-out : goal.param_type-shape_of-out
 param_type-shape_of-out t c = (param_type-returns t c).step.ran.out.same
@@ -469,19 +469,19 @@ pub param_type-shape_of-diagnostics : goal.param_type-shape_of-diagnostics
 param_type-shape_of-diagnostics t c = (param_type-returns t c).step.ran.dia.same
 
 pub pat_to_ts_fn_param-mark_at-requires : goal.pat_to_ts_fn_param-mark_at-requires
-pat_to_ts_fn_param-mark_at-requires t c = (itself _ _ _ c.requires.1.accepted).room
+pat_to_ts_fn_param-mark_at-requires t c = (itself _ _ _ c.requires.accepted).room
 
 pub pat_to_ts_fn_param-put_record-requires : goal.pat_to_ts_fn_param-put_record-requires
-pat_to_ts_fn_param-put_record-requires t c = is_whole _ _ _ c.requires.1.accepted
+pat_to_ts_fn_param-put_record-requires t c = is_whole _ _ _ c.requires.accepted
 
 pub pat_to_ts_fn_param-body_at-pattern-requires : goal.pat_to_ts_fn_param-body_at-pattern-requires
-pat_to_ts_fn_param-body_at-pattern-requires t c = (itself _ _ _ c.requires.1.accepted).room
+pat_to_ts_fn_param-body_at-pattern-requires t c = (itself _ _ _ c.requires.accepted).room
 
 pub pat_to_ts_fn_param-mark_at-requires-in-26433 : goal.pat_to_ts_fn_param-mark_at-requires-in-26433
-pat_to_ts_fn_param-mark_at-requires-in-26433 t c = (itself _ _ _ (placed (left_of_lem _ _ _ c.requires.1.accepted (sym c.mark_at.ensures.0 ∙ c.in-26433.is)) c.body_at-pattern.ensures).accepted).room
+pat_to_ts_fn_param-mark_at-requires-in-26433 t c = (itself _ _ _ (placed (left_of_lem _ _ _ c.requires.accepted (sym c.mark_at.ensures.0 ∙ c.in-26433.is)) c.body_at-pattern.ensures).accepted).room
 
 pub pat_to_ts_fn_param-named_param-requires : goal.pat_to_ts_fn_param-named_param-requires
-pat_to_ts_fn_param-named_param-requires t c = (omega (arith, c.requires.0), ((c.requires.1, (sym c.mark_at.ensures.0 ∙ c.in-26433.is)), ap (mark_at c.args.tree.now) (sym c.body_at-pattern.ensures) ∙ (sym c.mark_at-in-26433.ensures.0 ∙ c.if-mark_at-eq-BD.true)))
+pat_to_ts_fn_param-named_param-requires t c = (omega (arith, c.decreases), record { ready = (c.requires, (sym c.mark_at.ensures.0 ∙ c.in-26433.is)); at_value = ap (mark_at c.args.tree.now) (sym c.body_at-pattern.ensures) ∙ (sym c.mark_at-in-26433.ensures.0 ∙ c.if-mark_at-eq-BD.true) })
 
 pub pat_to_ts_fn_param-returns-then-mark_at-eq-BD : goal.pat_to_ts_fn_param-returns-then-mark_at-eq-BD
 pat_to_ts_fn_param-returns-then-mark_at-eq-BD t c = c.named_param.ensures
@@ -493,16 +493,16 @@ pub pat_to_ts_fn_param-shape_of-diagnostics-then-mark_at-eq-BD : goal.pat_to_ts_
 pat_to_ts_fn_param-shape_of-diagnostics-then-mark_at-eq-BD t c = (pat_to_ts_fn_param-returns-then-mark_at-eq-BD t c).did.step.ran.dia.same
 
 pub pat_to_ts_fn_param-unnamed_param-requires : goal.pat_to_ts_fn_param-unnamed_param-requires
-pat_to_ts_fn_param-unnamed_param-requires t c = (omega (arith, c.requires.0), ((c.requires.1, (sym c.mark_at.ensures.0 ∙ c.in-26433.is)), λ e. c.if-mark_at-eq-BD.false (c.mark_at-in-26433.ensures.0 ∙ (ap (mark_at c.args.tree.now) c.body_at-pattern.ensures ∙ e))))
+pat_to_ts_fn_param-unnamed_param-requires t c = (omega (arith, c.decreases), record { ready = (c.requires, (sym c.mark_at.ensures.0 ∙ c.in-26433.is)); fact = λ e. c.if-mark_at-eq-BD.false (c.mark_at-in-26433.ensures.0 ∙ (ap (mark_at c.args.tree.now) c.body_at-pattern.ensures ∙ e)) })
 
 pub pat_to_ts_fn_param-body_at-expr-requires : goal.pat_to_ts_fn_param-body_at-expr-requires
-pat_to_ts_fn_param-body_at-expr-requires t c = (itself _ _ _ c.requires.1.accepted).room
+pat_to_ts_fn_param-body_at-expr-requires t c = (itself _ _ _ c.requires.accepted).room
 
 pub pat_to_ts_fn_param-mark_diagnostic-requires : goal.pat_to_ts_fn_param-mark_diagnostic-requires
-pat_to_ts_fn_param-mark_diagnostic-requires t c = (itself _ _ _ (placed (pe_expr _ _ _ c.requires.1.accepted (sym c.mark_at.ensures.0 ∙ c.in-25936.is)) c.body_at-expr.ensures).accepted).room
+pat_to_ts_fn_param-mark_diagnostic-requires t c = (itself _ _ _ (placed (pe_expr _ _ _ c.requires.accepted (sym c.mark_at.ensures.0 ∙ c.in-25936.is)) c.body_at-expr.ensures).accepted).room
 
 pub pat_to_ts_fn_param-returns-in-25666 : goal.pat_to_ts_fn_param-returns-in-25666
-pat_to_ts_fn_param-returns-in-25666 t c = gave-keep _ c.args.s (omega (arith, c.well_formed)) (tree-fits _ _ _ c.requires.1.accepted c.shared_slice_known-1.given) (copied _ _ _ c.requires.1.accepted c.shared_slice_known-1.given c.put_record.ensures) (pat_keep c.args.tree.now c.args.scope c.args.levels c.args.at c.args.s.counter (rw c.mark_at.ensures.0 at c.in-25666.is))
+pat_to_ts_fn_param-returns-in-25666 t c = gave-keep _ c.args.s (omega (arith, c.well_formed)) (tree-fits _ _ _ c.requires.accepted c.shared_slice_known-1.given) (copied _ _ _ c.requires.accepted c.shared_slice_known-1.given c.put_record.ensures) (pat_keep c.args.tree.now c.args.scope c.args.levels c.args.at c.args.s.counter (rw c.mark_at.ensures.0 at c.in-25666.is))
 
 pub pat_to_ts_fn_param-shape_of-out-in-25666 : goal.pat_to_ts_fn_param-shape_of-out-in-25666
 pat_to_ts_fn_param-shape_of-out-in-25666 t c = (pat_to_ts_fn_param-returns-in-25666 t c).did.step.ran.out.same
@@ -517,7 +517,7 @@ pub pat_to_ts_fn_param-shape_of-diagnostics-else-mark_at-eq-BD : goal.pat_to_ts_
 pat_to_ts_fn_param-shape_of-diagnostics-else-mark_at-eq-BD t c = (pat_to_ts_fn_param-returns-else-mark_at-eq-BD t c).did.step.ran.dia.same
 
 pub pat_to_ts_fn_param-returns-in-25936 : goal.pat_to_ts_fn_param-returns-in-25936
-pat_to_ts_fn_param-returns-in-25936 t c = gave-mark _ c.args.s (omega (arith, c.well_formed)) c.mark_diagnostic.ensures (pat_expr c.args.tree.now c.args.scope c.args.levels c.args.at c.args.s.counter (sym c.mark_at.ensures.0 ∙ c.in-25936.is) (placed (pe_expr _ _ _ c.requires.1.accepted (sym c.mark_at.ensures.0 ∙ c.in-25936.is)) c.body_at-expr.ensures))
+pat_to_ts_fn_param-returns-in-25936 t c = gave-mark _ c.args.s (omega (arith, c.well_formed)) c.mark_diagnostic.ensures (pat_expr c.args.tree.now c.args.scope c.args.levels c.args.at c.args.s.counter (sym c.mark_at.ensures.0 ∙ c.in-25936.is) (placed (pe_expr _ _ _ c.requires.accepted (sym c.mark_at.ensures.0 ∙ c.in-25936.is)) c.body_at-expr.ensures))
 
 pub pat_to_ts_fn_param-shape_of-diagnostics-in-25936 : goal.pat_to_ts_fn_param-shape_of-diagnostics-in-25936
 pat_to_ts_fn_param-shape_of-diagnostics-in-25936 t c = (pat_to_ts_fn_param-returns-in-25936 t c).did.step.ran.dia.same
@@ -526,19 +526,19 @@ pub pat_to_ts_fn_param-returns-in_default : goal.pat_to_ts_fn_param-returns-in_d
 pat_to_ts_fn_param-returns-in_default t c = gave-none _ _ c.args.s (omega (arith, c.well_formed)) (omega (arith, c.well_formed)) (pat_other c.args.tree.now c.args.scope c.args.levels c.args.at c.args.s.counter (rw c.mark_at.ensures.0 at c.in_default.in_default-own.rest.0.0.1) (λ e. c.in_default.in_default-own.rest.0.1 (c.mark_at.ensures.0 ∙ e)) (λ e. c.in_default.in_default-own.rest.1 (c.mark_at.ensures.0 ∙ e)))
 
 pub property_type-mark_at-requires : goal.property_type-mark_at-requires
-property_type-mark_at-requires t c = (itself _ _ _ c.requires.1.accepted).room
+property_type-mark_at-requires t c = (itself _ _ _ c.requires.accepted).room
 
 pub property_type-key_value-requires : goal.property_type-key_value-requires
-property_type-key_value-requires t c = (omega (arith, c.requires.0), (c.requires.1, (sym c.mark_at.ensures.0 ∙ c.in-30283.is)))
+property_type-key_value-requires t c = (omega (arith, c.decreases), (c.requires, (sym c.mark_at.ensures.0 ∙ c.in-30283.is)))
 
 pub property_type-shorthand-requires : goal.property_type-shorthand-requires
-property_type-shorthand-requires t c = (c.requires.1, (sym c.mark_at.ensures.0 ∙ c.in-26707.is))
+property_type-shorthand-requires t c = (c.requires, (sym c.mark_at.ensures.0 ∙ c.in-26707.is))
 
 pub property_type-skipped-requires : goal.property_type-skipped-requires
-property_type-skipped-requires t c = (itself _ _ _ c.requires.1.accepted).room
+property_type-skipped-requires t c = (itself _ _ _ c.requires.accepted).room
 
 pub property_type-skipped-requires-in_default : goal.property_type-skipped-requires-in_default
-property_type-skipped-requires-in_default t c = (itself _ _ _ c.requires.1.accepted).room
+property_type-skipped-requires-in_default t c = (itself _ _ _ c.requires.accepted).room
 
 pub property_type-returns-in-30283 : goal.property_type-returns-in-30283
 property_type-returns-in-30283 t c = c.key_value.ensures
@@ -574,16 +574,16 @@ pub property_type-shape_of-diagnostics-in_default : goal.property_type-shape_of-
 property_type-shape_of-diagnostics-in_default t c = (property_type-returns-in_default t c).step.ran.dia.same
 
 pub rest_type-mark_at-requires : goal.rest_type-mark_at-requires
-rest_type-mark_at-requires t c = (itself _ _ _ c.requires.1.accepted).room
+rest_type-mark_at-requires t c = (itself _ _ _ c.requires.accepted).room
 
 pub rest_type-array_ident-requires : goal.rest_type-array_ident-requires
-rest_type-array_ident-requires t c = (c.requires.1.accepted, c.requires.1.indexed)
+rest_type-array_ident-requires t c = record { accepted_at = c.requires.accepted; indexed = c.requires.indexed }
 
 pub rest_type-expr_to_ts_type-requires : goal.rest_type-expr_to_ts_type-requires
-rest_type-expr_to_ts_type-requires t c = (omega (arith, c.requires.0), c.requires.1)
+rest_type-expr_to_ts_type-requires t c = (omega (arith, c.decreases), c.requires)
 
 pub rest_type-returns-in-25673 : goal.rest_type-returns-in-25673
-rest_type-returns-in-25673 t c = did-as (did_maybe _ c.args.s _ (omega (arith, c.well_formed)) (omega (arith, c.well_formed)) (query_fits_if ((ids_of c.args.tree.now).array_typed (text_at c.args.tree.now c.args.at)) _ (tree-fits _ _ _ c.requires.1.accepted c.shared_slice_known-1.given)) c.array_ident.ensures c.answer_of.ensures) (sym (rest-ident c.args.tree.now c.args.mode c.args.levels c.args.at c.args.s.counter (sym c.mark_at.ensures.0 ∙ c.in-25673.is)))
+rest_type-returns-in-25673 t c = did-as (did_maybe _ c.args.s _ (omega (arith, c.well_formed)) (omega (arith, c.well_formed)) (query_fits_if ((ids_of c.args.tree.now).array_typed (text_at c.args.tree.now c.args.at)) _ (tree-fits _ _ _ c.requires.accepted c.shared_slice_known-1.given)) c.array_ident.ensures c.answer_of.ensures) (sym (rest-ident c.args.tree.now c.args.mode c.args.levels c.args.at c.args.s.counter (sym c.mark_at.ensures.0 ∙ c.in-25673.is)))
 
 pub rest_type-shape_of-out-in-25673 : goal.rest_type-shape_of-out-in-25673
 rest_type-shape_of-out-in-25673 t c = (rest_type-returns-in-25673 t c).step.ran.out.same
@@ -601,19 +601,19 @@ pub rest_type-returns-in_default : goal.rest_type-returns-in_default
 rest_type-returns-in_default t c = did-as (did_none (step-none _ _ c.args.s (omega (arith, c.well_formed)) (omega (arith, c.well_formed)))) (sym (rest-other c.args.tree.now c.args.mode c.args.levels c.args.at c.args.s.counter (λ e. c.in_default.in_default-own.rest.0.1 (c.mark_at.ensures.0 ∙ e)) (λ e. c.in_default.in_default-own.rest.1 (c.mark_at.ensures.0 ∙ e))))
 
 pub spread_type-body_at-expr-requires : goal.spread_type-body_at-expr-requires
-spread_type-body_at-expr-requires t c = (itself _ _ _ c.requires.1.0.accepted).room
+spread_type-body_at-expr-requires t c = (itself _ _ _ c.requires.0.accepted).room
 
 pub spread_type-overflow_sub-levels : goal.spread_type-overflow_sub-levels
-spread_type-overflow_sub-levels t c = omega (arith, some_left _ _ _ c.requires.1.0.accepted)
+spread_type-overflow_sub-levels t c = omega (arith, some_left _ _ _ c.requires.0.accepted)
 
 pub spread_type-rest_type-requires : goal.spread_type-rest_type-requires
-spread_type-rest_type-requires t c = (omega (arith, c.requires.0, some_left _ _ _ c.requires.1.0.accepted), ready_first c.requires.1.0 (placed (sp_expr _ _ _ c.requires.1.0.accepted c.requires.1.1) c.body_at-expr.ensures) c.body_at-expr.ensures)
+spread_type-rest_type-requires t c = (omega (arith, c.decreases, some_left _ _ _ c.requires.0.accepted), ready_first c.requires.0 (placed (sp_expr _ _ _ c.requires.0.accepted c.requires.1) c.body_at-expr.ensures) c.body_at-expr.ensures)
 
 pub spread_type-mark_diagnostic-requires : goal.spread_type-mark_diagnostic-requires
-spread_type-mark_diagnostic-requires t c = (itself _ _ _ c.requires.1.0.accepted).room
+spread_type-mark_diagnostic-requires t c = (itself _ _ _ c.requires.0.accepted).room
 
 pub spread_type-returns-in-Some : goal.spread_type-returns-in-Some
-spread_type-returns-in-Some t c = all-spread c.args.s (omega (arith, c.well_formed)) (omega (arith, c.well_formed)) c.ts_tuple_element-q.ensures c.ts_rest_type.ensures c.args.tree.now c.args.at c.args.mode c.args.levels c.args.s.counter (is_some c.rest_type.ensures c.in-Some.is) (element_spread c.args.tree.now c.args.mode c.args.levels c.args.at c.args.s.counter c.requires.1.0.accepted c.requires.1.1 (placed (sp_expr _ _ _ c.requires.1.0.accepted c.requires.1.1) c.body_at-expr.ensures))
+spread_type-returns-in-Some t c = all-spread c.args.s (omega (arith, c.well_formed)) (omega (arith, c.well_formed)) c.ts_tuple_element-q.ensures c.ts_rest_type.ensures c.args.tree.now c.args.at c.args.mode c.args.levels c.args.s.counter (is_some c.rest_type.ensures c.in-Some.is) (element_spread c.args.tree.now c.args.mode c.args.levels c.args.at c.args.s.counter c.requires.0.accepted c.requires.1 (placed (sp_expr _ _ _ c.requires.0.accepted c.requires.1) c.body_at-expr.ensures))
 
 pub spread_type-shape_of-out-in-Some : goal.spread_type-shape_of-out-in-Some
 spread_type-shape_of-out-in-Some t c = (spread_type-returns-in-Some t c).step.ran.out.same
@@ -622,7 +622,7 @@ pub spread_type-shape_of-diagnostics-in-Some : goal.spread_type-shape_of-diagnos
 spread_type-shape_of-diagnostics-in-Some t c = (spread_type-returns-in-Some t c).step.ran.dia.same
 
 pub spread_type-returns-in-None : goal.spread_type-returns-in-None
-spread_type-returns-in-None t c = all_fail c.args.s (omega (arith, c.well_formed)) (omega (arith, c.well_formed)) c.ts_tuple_element-q.ensures c.ts_rest_type.ensures c.args.tree.now c.args.at c.args.mode c.args.levels c.args.s.counter (omega (arith, c.well_formed)) (is_none c.rest_type.ensures c.in-None.is) (rw c.back-given_up.ensures at c.mark_diagnostic.ensures) (element_spread c.args.tree.now c.args.mode c.args.levels c.args.at c.args.s.counter c.requires.1.0.accepted c.requires.1.1 (placed (sp_expr _ _ _ c.requires.1.0.accepted c.requires.1.1) c.body_at-expr.ensures))
+spread_type-returns-in-None t c = all_fail c.args.s (omega (arith, c.well_formed)) (omega (arith, c.well_formed)) c.ts_tuple_element-q.ensures c.ts_rest_type.ensures c.args.tree.now c.args.at c.args.mode c.args.levels c.args.s.counter (omega (arith, c.well_formed)) (is_none c.rest_type.ensures c.in-None.is) (rw c.back-given_up.ensures at c.mark_diagnostic.ensures) (element_spread c.args.tree.now c.args.mode c.args.levels c.args.at c.args.s.counter c.requires.0.accepted c.requires.1 (placed (sp_expr _ _ _ c.requires.0.accepted c.requires.1) c.body_at-expr.ensures))
 
 pub spread_type-shape_of-out-in-None : goal.spread_type-shape_of-out-in-None
 spread_type-shape_of-out-in-None t c = (spread_type-returns-in-None t c).step.ran.out.same
@@ -631,19 +631,19 @@ pub spread_type-shape_of-diagnostics-in-None : goal.spread_type-shape_of-diagnos
 spread_type-shape_of-diagnostics-in-None t c = (spread_type-returns-in-None t c).step.ran.dia.same
 
 pub tuple_type-read_head-head-requires : goal.tuple_type-read_head-head-requires
-tuple_type-read_head-head-requires t c = (itself _ _ _ c.requires.1.accepted).room
+tuple_type-read_head-head-requires t c = (itself _ _ _ c.requires.accepted).room
 
 pub tuple_type-body_at-child-requires : goal.tuple_type-body_at-child-requires
-tuple_type-body_at-child-requires t c = (itself _ _ _ c.requires.1.accepted).room
+tuple_type-body_at-child-requires t c = (itself _ _ _ c.requires.accepted).room
 
 pub tuple_type-loop-n-init : goal.tuple_type-loop-n-init
-tuple_type-loop-n-init t c = rw (c.read_head-head.ensures, c.body_at-child.ensures, c.advance.ensures) (tuple-start c.args.tree.now c.args.mode c.args.levels c.args.at c.requires.1.accepted _ _ c.args.s (omega (arith, c.requires.1.low)) (count_small c.args.tree.now c.args.at c.shared_slice_known-1.given) (omega (arith, c.well_formed)))
+tuple_type-loop-n-init t c = rw (c.read_head-head.ensures, c.body_at-child.ensures, c.advance.ensures) (tuple-start c.args.tree.now c.args.mode c.args.levels c.args.at c.requires.accepted _ _ c.args.s (omega (arith, c.requires.low)) (count_small c.args.tree.now c.args.at c.shared_slice_known-1.given) (omega (arith, c.well_formed)))
 
 pub tuple_type-overflow_sub-levels : goal.tuple_type-overflow_sub-levels
-tuple_type-overflow_sub-levels t c = omega (arith, some_left _ _ _ c.requires.1.accepted)
+tuple_type-overflow_sub-levels t c = omega (arith, some_left _ _ _ c.requires.accepted)
 
 pub tuple_type-element_type-requires : goal.tuple_type-element_type-requires
-tuple_type-element_type-requires t c = (omega (arith, c.requires.0, some_left _ _ _ c.requires.1.accepted), record { accepted = (left-first c.loop-n.invariant.left c.loop-n-test.true); low = c.loop-n.invariant.low; indexed = c.requires.1.indexed })
+tuple_type-element_type-requires t c = (omega (arith, c.decreases, some_left _ _ _ c.requires.accepted), record { accepted = (left-first c.loop-n.invariant.left c.loop-n-test.true); low = c.loop-n.invariant.low; indexed = c.requires.indexed })
 
 pub tuple_type-overflow_add-count : goal.tuple_type-overflow_add-count
 tuple_type-overflow_add-count t c = omega (arith, (tuple-turn c.args.tree.now c.args.mode c.args.levels c.args.at c.args.s c.loop-n.invariant c.loop-n-test.true c.element_type.ensures c.in-All.is).few)
@@ -658,7 +658,7 @@ pub tuple_type-shape_of-diagnostics-in-Failed : goal.tuple_type-shape_of-diagnos
 tuple_type-shape_of-diagnostics-in-Failed t c = (tuple_type-returns-in-Failed t c).step.ran.dia.same
 
 pub tuple_type-overflow_sub-levels-in-loop-n : goal.tuple_type-overflow_sub-levels-in-loop-n
-tuple_type-overflow_sub-levels-in-loop-n t c = omega (arith, some_left _ _ _ c.requires.1.accepted)
+tuple_type-overflow_sub-levels-in-loop-n t c = omega (arith, some_left _ _ _ c.requires.accepted)
 
 pub tuple_type-record_end-child-requires : goal.tuple_type-record_end-child-requires
 tuple_type-record_end-child-requires t c = is_whole _ _ _ (left-first c.loop-n.invariant.left c.loop-n-test.true)
@@ -682,22 +682,22 @@ pub tuple_type-shape_of-diagnostics : goal.tuple_type-shape_of-diagnostics
 tuple_type-shape_of-diagnostics t c = (tuple_type-returns t c).step.ran.dia.same
 
 pub unnamed_param-child_at-right-requires : goal.unnamed_param-child_at-right-requires
-unnamed_param-child_at-right-requires t c = (c.requires.1.0.0.accepted, omega (arith, (right_of _ _ _ c.requires.1.0.0.accepted c.requires.1.0.1).there))
+unnamed_param-child_at-right-requires t c = (c.requires.ready.0.accepted, omega (arith, (right_of _ _ _ c.requires.ready.0.accepted c.requires.ready.1).there))
 
 pub unnamed_param-overflow_add-s : goal.unnamed_param-overflow_add-s
-unnamed_param-overflow_add-s t c = omega (arith, c.requires.1.0.0.low, (itself _ _ _ c.requires.1.0.0.accepted).room, c.well_formed)
+unnamed_param-overflow_add-s t c = omega (arith, c.requires.ready.0.low, (itself _ _ _ c.requires.ready.0.accepted).room, c.well_formed)
 
 pub unnamed_param-overflow_sub-levels : goal.unnamed_param-overflow_sub-levels
-unnamed_param-overflow_sub-levels t c = omega (arith, some_left _ _ _ c.requires.1.0.0.accepted)
+unnamed_param-overflow_sub-levels t c = omega (arith, some_left _ _ _ c.requires.ready.0.accepted)
 
 pub unnamed_param-expr_to_ts_type-requires : goal.unnamed_param-expr_to_ts_type-requires
-unnamed_param-expr_to_ts_type-requires t c = (omega (arith, c.requires.0, some_left _ _ _ c.requires.1.0.0.accepted), ready_second c.requires.1.0.0 (left_of_lem _ _ _ c.requires.1.0.0.accepted c.requires.1.0.1) refl (placed (right_of _ _ _ c.requires.1.0.0.accepted c.requires.1.0.1) (second_at _ _ _ c.child_at-right.ensures)) (second_at _ _ _ c.child_at-right.ensures))
+unnamed_param-expr_to_ts_type-requires t c = (omega (arith, c.decreases, some_left _ _ _ c.requires.ready.0.accepted), ready_second c.requires.ready.0 (left_of_lem _ _ _ c.requires.ready.0.accepted c.requires.ready.1) refl (placed (right_of _ _ _ c.requires.ready.0.accepted c.requires.ready.1) (second_at _ _ _ c.child_at-right.ensures)) (second_at _ _ _ c.child_at-right.ensures))
 
 pub unnamed_param-put_unnamed-requires : goal.unnamed_param-put_unnamed-requires
-unnamed_param-put_unnamed-requires t c = unnamed_ready c.args.tree.now c.args.scope c.args.levels c.args.at c.args.s c.requires.1.0.0 (left_of_lem _ _ _ c.requires.1.0.0.accepted c.requires.1.0.1) (placed (right_of _ _ _ c.requires.1.0.0.accepted c.requires.1.0.1) (second_at _ _ _ c.child_at-right.ensures)) (second_at _ _ _ c.child_at-right.ensures) (rw c.unique_binding_size.ensures.0 at c.advance.ensures) (is_some (rw c.mutable.ensures at c.expr_to_ts_type.ensures) c.in-Some.is)
+unnamed_param-put_unnamed-requires t c = unnamed_ready c.args.tree.now c.args.scope c.args.levels c.args.at c.args.s c.requires.ready.0 (left_of_lem _ _ _ c.requires.ready.0.accepted c.requires.ready.1) (placed (right_of _ _ _ c.requires.ready.0.accepted c.requires.ready.1) (second_at _ _ _ c.child_at-right.ensures)) (second_at _ _ _ c.child_at-right.ensures) (rw c.unique_binding_size.ensures.0 at c.advance.ensures) (is_some (rw c.mutable.ensures at c.expr_to_ts_type.ensures) c.in-Some.is)
 
 pub unnamed_param-returns-in-Some : goal.unnamed_param-returns-in-Some
-unnamed_param-returns-in-Some t c = gave-unnamed c.args.tree.now c.args.levels c.args.at c.args.s (rw c.unique_binding_size.ensures.0 at c.advance.ensures) (is_some (rw c.mutable.ensures at c.expr_to_ts_type.ensures) c.in-Some.is) c.put_unnamed.ensures (pat_unnamed c.args.tree.now c.args.scope c.args.levels c.args.at c.args.s.counter c.requires.1.0.0.accepted c.requires.1.0.1 (left_of_lem _ _ _ c.requires.1.0.0.accepted c.requires.1.0.1) (placed (right_of _ _ _ c.requires.1.0.0.accepted c.requires.1.0.1) (second_at _ _ _ c.child_at-right.ensures)) c.requires.1.1)
+unnamed_param-returns-in-Some t c = gave-unnamed c.args.tree.now c.args.levels c.args.at c.args.s (rw c.unique_binding_size.ensures.0 at c.advance.ensures) (is_some (rw c.mutable.ensures at c.expr_to_ts_type.ensures) c.in-Some.is) c.put_unnamed.ensures (pat_unnamed c.args.tree.now c.args.scope c.args.levels c.args.at c.args.s.counter c.requires.ready.0.accepted c.requires.ready.1 (left_of_lem _ _ _ c.requires.ready.0.accepted c.requires.ready.1) (placed (right_of _ _ _ c.requires.ready.0.accepted c.requires.ready.1) (second_at _ _ _ c.child_at-right.ensures)) c.requires.fact)
 
 pub unnamed_param-shape_of-out-in-Some : goal.unnamed_param-shape_of-out-in-Some
 unnamed_param-shape_of-out-in-Some t c = (unnamed_param-returns-in-Some t c).did.step.ran.out.same
@@ -706,7 +706,7 @@ pub unnamed_param-shape_of-diagnostics-in-Some : goal.unnamed_param-shape_of-dia
 unnamed_param-shape_of-diagnostics-in-Some t c = (unnamed_param-returns-in-Some t c).did.step.ran.dia.same
 
 pub unnamed_param-returns-in-None : goal.unnamed_param-returns-in-None
-unnamed_param-returns-in-None t c = let n = is_none (rw c.mutable.ensures at c.expr_to_ts_type.ensures) c.in-None.is in gave_at c.back.ensures (gave_skipped c.args.s _ (omega (arith, c.well_formed)) c.advance.ensures n (rw n.same at (pat_unnamed c.args.tree.now c.args.scope c.args.levels c.args.at c.args.s.counter c.requires.1.0.0.accepted c.requires.1.0.1 (left_of_lem _ _ _ c.requires.1.0.0.accepted c.requires.1.0.1) (placed (right_of _ _ _ c.requires.1.0.0.accepted c.requires.1.0.1) (second_at _ _ _ c.child_at-right.ensures)) c.requires.1.1)))
+unnamed_param-returns-in-None t c = let n = is_none (rw c.mutable.ensures at c.expr_to_ts_type.ensures) c.in-None.is in gave_at c.back.ensures (gave_skipped c.args.s _ (omega (arith, c.well_formed)) c.advance.ensures n (rw n.same at (pat_unnamed c.args.tree.now c.args.scope c.args.levels c.args.at c.args.s.counter c.requires.ready.0.accepted c.requires.ready.1 (left_of_lem _ _ _ c.requires.ready.0.accepted c.requires.ready.1) (placed (right_of _ _ _ c.requires.ready.0.accepted c.requires.ready.1) (second_at _ _ _ c.child_at-right.ensures)) c.requires.fact)))
 
 pub unnamed_param-shape_of-out-in-None : goal.unnamed_param-shape_of-out-in-None
 unnamed_param-shape_of-out-in-None t c = (unnamed_param-returns-in-None t c).did.step.ran.out.same

@@ -30,7 +30,7 @@ pub with_flag-flags-requires : goal.with_flag-flags-requires
 with_flag-flags-requires c = inl refl
 
 pub type_or_infer-typed-requires : goal.type_or_infer-typed-requires
-type_or_infer-typed-requires c = ((kids-one _ _ _ c.requires.accepted_at (box-one _ _ _ c.requires.accepted_at c.requires.fact) c.body_at-type_ann.ensures refl).first, ready_on c.requires.ready (puts-counter c.put_front-front.ensures))
+type_or_infer-typed-requires c = record { accepted_at = (kids-one _ _ _ c.requires.accepted_at (box-one _ _ _ c.requires.accepted_at c.requires.fact) c.body_at-type_ann.ensures refl).first; ready = ready_on c.requires.ready (puts-counter c.put_front-front.ensures) }
 
 pub overflow_sub-head : goal.overflow_sub-head
 overflow_sub-head c = omega (arith, box-one _ _ _ c.requires.accepted_at c.requires.fact, count-as c.args.tree.now c.args.at c.read_head-head.ensures)

@@ -39,7 +39,7 @@ pub put_flagged-named-requires : goal.put_flagged-named-requires
 put_flagged-named-requires c = (kids-two _ _ _ c.requires.accepted_at.0 (has (mark "Bd") _ _ _ c.requires.accepted_at.0 c.requires.accepted_at.1) c.body_at-ident.ensures refl refl).first
 
 pub type_or_infer-typed-requires : goal.type_or_infer-typed-requires
-type_or_infer-typed-requires c = ((kids-two _ _ _ c.requires.accepted_at.0 (has (mark "Bd") _ _ _ c.requires.accepted_at.0 c.requires.accepted_at.1) c.body_at-ident.ensures c.record_end-type_ann.ensures refl).second, ready_on c.requires.ready (puts-counter c.put_flagged-named.ensures ∙ puts-counter c.put_front-front.ensures))
+type_or_infer-typed-requires c = record { accepted_at = (kids-two _ _ _ c.requires.accepted_at.0 (has (mark "Bd") _ _ _ c.requires.accepted_at.0 c.requires.accepted_at.1) c.body_at-ident.ensures c.record_end-type_ann.ensures refl).second; ready = ready_on c.requires.ready (puts-counter c.put_flagged-named.ensures ∙ puts-counter c.put_front-front.ensures) }
 
 pub overflow_sub-head : goal.overflow_sub-head
 overflow_sub-head c = omega (arith, has (mark "Bd") _ _ _ c.requires.accepted_at.0 c.requires.accepted_at.1, count-as c.args.tree.now c.args.at c.read_head-head.ensures)

@@ -25,7 +25,7 @@ abbrev items-calls : ℕ → put-items-lts.Claims
 items-calls t = (put_item_below t, put_item.Post, record-end-reads.Asked, record-end-reads.Learnt)
 
 pub put_item-mark_at-mark-requires : goal.put_item-mark_at-mark-requires
-put_item-mark_at-mark-requires t c = room c.requires.1.1
+put_item-mark_at-mark-requires t c = room c.requires.1
 
 pub put_item-returns-then-mark-eq-ST : goal.put_item-returns-then-mark-eq-ST
 put_item-returns-then-mark-eq-ST t c = lines-as (lines_none _ _ (omega (arith, c.well_formed))) (item_star c.args.levels c.args.tree.now c.args.at c.args.depth c.mark_at-mark.ensures.0 c.if-mark-eq-ST.true)
@@ -34,10 +34,10 @@ pub put_item-returns-then-mark-eq-OP : goal.put_item-returns-then-mark-eq-OP
 put_item-returns-then-mark-eq-OP t c = lines-as (lines_none _ _ (omega (arith, c.well_formed))) (item-op c.args.levels c.args.tree.now c.args.at c.args.depth c.mark_at-mark.ensures.0 c.if-mark-eq-ST.false c.if-mark-eq-OP.true)
 
 pub put_item-put_line-next-requires : goal.put_item-put_line-next-requires
-put_item-put_line-next-requires t c = (c.requires.1.0, c.requires.1.1)
+put_item-put_line-next-requires t c = (c.requires.0, c.requires.1)
 
 pub put_item-block_at-found-requires : goal.put_item-block_at-found-requires
-put_item-block_at-found-requires t c = c.requires.1.1
+put_item-block_at-found-requires t c = c.requires.1
 
 pub put_item-body_at-requires : goal.put_item-body_at-requires
 put_item-body_at-requires t c = room (found c.args.levels c.args.tree.now c.args.at c.in-At.is c.block_at-found.ensures).accepted
@@ -49,10 +49,10 @@ pub put_item-overflow_sub-left : goal.put_item-overflow_sub-left
 put_item-overflow_sub-left t c = omega (arith, level (found c.args.levels c.args.tree.now c.args.at c.in-At.is c.block_at-found.ensures).accepted)
 
 pub put_item-overflow_add-depth : goal.put_item-overflow_add-depth
-put_item-overflow_add-depth t c = omega (arith, c.requires.1.2)
+put_item-overflow_add-depth t c = omega (arith, c.requires.2)
 
 pub put_item-put_items-inner-requires : goal.put_item-put_items-inner-requires
-put_item-put_items-inner-requires t c = (omega (arith, c.requires.0, (found c.args.levels c.args.tree.now c.args.at c.in-At.is c.block_at-found.ensures).lower, level (found c.args.levels c.args.tree.now c.args.at c.in-At.is c.block_at-found.ensures).accepted, level c.requires.1.1), (c.requires.1.0, block-items (found c.args.levels c.args.tree.now c.args.at c.in-At.is c.block_at-found.ensures) c.body_at.ensures c.count_at.ensures.0, omega (arith, c.requires.1.2, (found c.args.levels c.args.tree.now c.args.at c.in-At.is c.block_at-found.ensures).lower, level (found c.args.levels c.args.tree.now c.args.at c.in-At.is c.block_at-found.ensures).accepted)))
+put_item-put_items-inner-requires t c = (omega (arith, c.decreases, (found c.args.levels c.args.tree.now c.args.at c.in-At.is c.block_at-found.ensures).lower, level (found c.args.levels c.args.tree.now c.args.at c.in-At.is c.block_at-found.ensures).accepted, level c.requires.1), (c.requires.0, block-items (found c.args.levels c.args.tree.now c.args.at c.in-At.is c.block_at-found.ensures) c.body_at.ensures c.count_at.ensures.0, omega (arith, c.requires.2, (found c.args.levels c.args.tree.now c.args.at c.in-At.is c.block_at-found.ensures).lower, level (found c.args.levels c.args.tree.now c.args.at c.in-At.is c.block_at-found.ensures).accepted)))
 
 pub put_item-returns-in-At : goal.put_item-returns-in-At
 put_item-returns-in-At t c = item-block c.args.levels c.args.tree.now c.args.at c.args.depth c.mark_at-mark.ensures.0 c.if-mark-eq-ST.false c.if-mark-eq-OP.false c.put_line-next.ensures (found c.args.levels c.args.tree.now c.args.at c.in-At.is c.block_at-found.ensures) c.body_at.ensures c.count_at.ensures.0 refl (omega (arith, c.well_formed)) c.put_items-inner.ensures c.put_closing.ensures
@@ -61,10 +61,10 @@ pub put_item-returns-in-Nothing : goal.put_item-returns-in-Nothing
 put_item-returns-in-Nothing t c = item_line_lem c.args.levels c.args.tree.now c.args.at c.args.depth c.mark_at-mark.ensures.0 c.if-mark-eq-ST.false c.if-mark-eq-OP.false c.put_line-next.ensures (found c.args.levels c.args.tree.now c.args.at c.in-Nothing.is c.block_at-found.ensures)
 
 pub put_items-loop-k-init : goal.put_items-loop-k-init
-put_items-loop-k-init t c = listing_start _ _ _ _ _ c.requires.1.1 _ _ (omega (arith, c.well_formed))
+put_items-loop-k-init t c = listing_start _ _ _ _ _ c.requires.1 _ _ (omega (arith, c.well_formed))
 
 pub put_items-put_item-next-requires : goal.put_items-put_item-next-requires
-put_items-put_item-next-requires t c = (omega (arith, c.requires.0), (c.requires.1.0, listing-first c.loop-k.invariant c.loop-k-test.true, c.requires.1.2))
+put_items-put_item-next-requires t c = (omega (arith, c.decreases), (c.requires.0, listing-first c.loop-k.invariant c.loop-k-test.true, c.requires.2))
 
 pub put_items-record_end-item-requires : goal.put_items-record_end-item-requires
 put_items-record_end-item-requires t c = lies (listing-first c.loop-k.invariant c.loop-k-test.true)

@@ -19,28 +19,28 @@ use Rattle.declaration_text.specs.Steps.{children_at, children_of}
 use Rattle.declaration_text.proofs.record.+written.Goals as goal
 
 pub behind-count_at-n-requires : goal.behind-count_at-n-requires
-behind-count_at-n-requires t c = room c.requires.1.1
+behind-count_at-n-requires t c = room c.requires.1
 
 pub behind-returns-then-n-slots : goal.behind-returns-then-n-slots
-behind-returns-then-n-slots t c = writes_nothing _ _ (omega (arith, c.well_formed)) (none-behind _ _ _ c.requires.1.1 c.shared_slice_known-2-1.given (each_by c.args.what) c.args.slots (omega (arith, c.count_at-n.ensures.0, c.if-n-slots.true)))
+behind-returns-then-n-slots t c = writes_nothing _ _ (omega (arith, c.well_formed)) (none-behind _ _ _ c.requires.1 c.shared_slice_known-2-1.given (each_by c.args.what) c.args.slots (omega (arith, c.count_at-n.ensures.0, c.if-n-slots.true)))
 
 pub behind-mark_at-under-requires : goal.behind-mark_at-under-requires
-behind-mark_at-under-requires t c = room c.requires.1.1
+behind-mark_at-under-requires t c = room c.requires.1
 
 pub behind-child_place-first-requires : goal.behind-child_place-first-requires
-behind-child_place-first-requires t c = (c.requires.1.1, (omega (arith, c.count_at-n.ensures.0, c.if-n-slots.false)))
+behind-child_place-first-requires t c = (c.requires.1, (omega (arith, c.count_at-n.ensures.0, c.if-n-slots.false)))
 
 pub behind-overflow_sub-n : goal.behind-overflow_sub-n
 behind-overflow_sub-n t c = omega (arith, c.if-n-slots.false)
 
 pub behind-overflow_sub-levels : goal.behind-overflow_sub-levels
-behind-overflow_sub-levels t c = omega (arith, level c.requires.1.1)
+behind-overflow_sub-levels t c = omega (arith, level c.requires.1)
 
 pub behind-siblings-requires : goal.behind-siblings-requires
-behind-siblings-requires t c = (omega (arith, c.requires.0, level c.requires.1.1), (c.requires.1.0, rw (c.count_at-n.ensures.0, c.child_place-first.ensures) (rest-accepted _ _ _ c.requires.1.1 _ (omega (arith, c.count_at-n.ensures.0, c.if-n-slots.false)))))
+behind-siblings-requires t c = (omega (arith, c.decreases, level c.requires.1), (c.requires.0, rw (c.count_at-n.ensures.0, c.child_place-first.ensures) (rest-accepted _ _ _ c.requires.1 _ (omega (arith, c.count_at-n.ensures.0, c.if-n-slots.false)))))
 
 pub behind-returns : goal.behind-returns
-behind-returns t c = writes_as c.siblings.ensures (some-behind _ _ _ c.requires.1.1 c.shared_slice_known-2-1.given _ _ (omega (arith, c.count_at-n.ensures.0, c.if-n-slots.false)) c.child_place-first.ensures (ap (λ (m : ℕ). eqb m (mark "Oc")) c.mark_at-under.ensures.0) (omega (arith, c.count_at-n.ensures.0)))
+behind-returns t c = writes_as c.siblings.ensures (some-behind _ _ _ c.requires.1 c.shared_slice_known-2-1.given _ _ (omega (arith, c.count_at-n.ensures.0, c.if-n-slots.false)) c.child_place-first.ensures (ap (λ (m : ℕ). eqb m (mark "Oc")) c.mark_at-under.ensures.0) (omega (arith, c.count_at-n.ensures.0)))
 
 pub behind-shape_of-out : goal.behind-shape_of-out
 behind-shape_of-out t c = writes-same (behind-returns t c)
@@ -49,7 +49,7 @@ pub braces-returns-then-n-eq0 : goal.braces-returns-then-n-eq0
 braces-returns-then-n-eq0 t c = writes_nothing _ _ (omega (arith, c.well_formed)) (braces_none _ _ c.if-n-eq0.true)
 
 pub braces-write-next-requires : goal.braces-write-next-requires
-braces-write-next-requires t c = (omega (arith, c.requires.0), (c.requires.1.0, c.requires.1.1 (omega (arith, c.if-n-eq0.false))))
+braces-write-next-requires t c = (omega (arith, c.decreases), (c.requires.0, c.requires.1 (omega (arith, c.if-n-eq0.false))))
 
 pub braces-returns-then-next : goal.braces-returns-then-next
 braces-returns-then-next t c = writes_as (braced-some (omega (arith, c.well_formed)) c.put_own-opened.ensures c.cleared.ensures c.write-next.ensures c.if-next.true c.put_token.ensures) (braces_some _ _ c.if-n-eq0.false)
@@ -64,43 +64,43 @@ pub braces-shape_of-out : goal.braces-shape_of-out
 braces-shape_of-out t c = writes-same (braces-returns t c)
 
 pub child-count_at-requires : goal.child-count_at-requires
-child-count_at-requires t c = room c.requires.1.1
+child-count_at-requires t c = room c.requires.1
 
 pub child-returns-then-count_at-i : goal.child-returns-then-count_at-i
-child-returns-then-count_at-i t c = writes_nothing _ _ (omega (arith, c.well_formed)) (no_child_lem _ _ _ c.requires.1.1 c.shared_slice_known-2-1.given _ (omega (arith, c.count_at.ensures.0, c.if-count_at-i.true)))
+child-returns-then-count_at-i t c = writes_nothing _ _ (omega (arith, c.well_formed)) (no_child_lem _ _ _ c.requires.1 c.shared_slice_known-2-1.given _ (omega (arith, c.count_at.ensures.0, c.if-count_at-i.true)))
 
 pub child-mark_at-under-requires : goal.child-mark_at-under-requires
-child-mark_at-under-requires t c = room c.requires.1.1
+child-mark_at-under-requires t c = room c.requires.1
 
 pub child-child_place-place-requires : goal.child-child_place-place-requires
-child-child_place-place-requires t c = (c.requires.1.1, (omega (arith, c.count_at.ensures.0, c.if-count_at-i.false)))
+child-child_place-place-requires t c = (c.requires.1, (omega (arith, c.count_at.ensures.0, c.if-count_at-i.false)))
 
 pub child-overflow_sub-levels : goal.child-overflow_sub-levels
-child-overflow_sub-levels t c = omega (arith, level c.requires.1.1)
+child-overflow_sub-levels t c = omega (arith, level c.requires.1)
 
 pub child-write-requires : goal.child-write-requires
-child-write-requires t c = (omega (arith, c.requires.0, level c.requires.1.1), (c.requires.1.0, rw c.child_place-place.ensures (kid-accepted _ _ _ c.requires.1.1 c.shared_slice_known-2-1.given _ (omega (arith, c.count_at.ensures.0, c.if-count_at-i.false)))))
+child-write-requires t c = (omega (arith, c.decreases, level c.requires.1), (c.requires.0, rw c.child_place-place.ensures (kid-accepted _ _ _ c.requires.1 c.shared_slice_known-2-1.given _ (omega (arith, c.count_at.ensures.0, c.if-count_at-i.false)))))
 
 pub child-returns : goal.child-returns
-child-returns t c = writes_as c.write.ensures (child-tokens _ _ _ c.requires.1.1 c.shared_slice_known-2-1.given _ (omega (arith, c.count_at.ensures.0, c.if-count_at-i.false)) c.child_place-place.ensures (ap (λ (m : ℕ). eqb m (mark "Oc")) c.mark_at-under.ensures.0))
+child-returns t c = writes_as c.write.ensures (child-tokens _ _ _ c.requires.1 c.shared_slice_known-2-1.given _ (omega (arith, c.count_at.ensures.0, c.if-count_at-i.false)) c.child_place-place.ensures (ap (λ (m : ℕ). eqb m (mark "Oc")) c.mark_at-under.ensures.0))
 
 pub child-shape_of-out : goal.child-shape_of-out
 child-shape_of-out t c = writes-same (child-returns t c)
 
 pub number-count_at-requires : goal.number-count_at-requires
-number-count_at-requires t c = room c.requires.1.1
+number-count_at-requires t c = room c.requires.1
 
 pub number-text_at-requires : goal.number-text_at-requires
-number-text_at-requires t c = fits c.requires.1.1
+number-text_at-requires t c = fits c.requires.1
 
 pub number-returns-then-count_at-eq0 : goal.number-returns-then-count_at-eq0
-number-returns-then-count_at-eq0 t c = writes_as c.put_number.ensures (number-alone _ _ _ c.requires.1.1 c.shared_slice_known-2-1.given (omega (arith, c.count_at.ensures.0, c.if-count_at-eq0.true)) c.text_at.ensures)
+number-returns-then-count_at-eq0 t c = writes_as c.put_number.ensures (number-alone _ _ _ c.requires.1 c.shared_slice_known-2-1.given (omega (arith, c.count_at.ensures.0, c.if-count_at-eq0.true)) c.text_at.ensures)
 
 pub number-child-requires : goal.number-child-requires
-number-child-requires t c = (omega (arith, c.requires.0), c.requires.1)
+number-child-requires t c = (omega (arith, c.decreases), c.requires)
 
 pub number-returns : goal.number-returns
-number-returns t c = writes_as c.child.ensures (number-spelt _ _ _ c.requires.1.1 c.shared_slice_known-2-1.given (omega (arith, c.count_at.ensures.0, c.if-count_at-eq0.false)))
+number-returns t c = writes_as c.child.ensures (number-spelt _ _ _ c.requires.1 c.shared_slice_known-2-1.given (omega (arith, c.count_at.ensures.0, c.if-count_at-eq0.false)))
 
 pub number-shape_of-out-then-count_at-eq0 : goal.number-shape_of-out-then-count_at-eq0
 number-shape_of-out-then-count_at-eq0 t c = writes-same (number-returns-then-count_at-eq0 t c)
@@ -109,82 +109,82 @@ pub number-shape_of-out : goal.number-shape_of-out
 number-shape_of-out t c = writes-same (number-returns t c)
 
 pub piece-piece_holds-requires : goal.piece-piece_holds-requires
-piece-piece_holds-requires t c = ((c.requires.1.0.rows_are, c.requires.1.2), c.requires.1.1)
+piece-piece_holds-requires t c = record { rows_value = (c.requires.0.rows_are, c.requires.2); accepted_at = c.requires.1 }
 
 pub piece-returns-then-not-piece_holds : goal.piece-returns-then-not-piece_holds
 piece-returns-then-not-piece_holds t c = writes_nothing _ _ (omega (arith, c.well_formed)) (piece-not _ _ _ _ _ _ c.piece_holds.ensures (not-true _ c.if-not-piece_holds.true-raw))
 
 pub piece-overflow_add-i : goal.piece-overflow_add-i
-piece-overflow_add-i t c = omega (arith, c.requires.1.2)
+piece-overflow_add-i t c = omega (arith, c.requires.2)
 
 pub piece-cell-what-requires : goal.piece-cell-what-requires
-piece-cell-what-requires t c = (c.requires.1.0.rows_are, omega (arith, c.requires.1.2))
+piece-cell-what-requires t c = (c.requires.0.rows_are, omega (arith, c.requires.2))
 
 pub piece-overflow_add-i-2 : goal.piece-overflow_add-i-2
-piece-overflow_add-i-2 t c = omega (arith, c.requires.1.2)
+piece-overflow_add-i-2 t c = omega (arith, c.requires.2)
 
 pub piece-cell-a-requires : goal.piece-cell-a-requires
-piece-cell-a-requires t c = (c.requires.1.0.rows_are, omega (arith, c.requires.1.2))
+piece-cell-a-requires t c = (c.requires.0.rows_are, omega (arith, c.requires.2))
 
 pub piece-overflow_add-i-in-1 : goal.piece-overflow_add-i-in-1
-piece-overflow_add-i-in-1 t c = omega (arith, c.requires.1.2)
+piece-overflow_add-i-in-1 t c = omega (arith, c.requires.2)
 
 pub piece-cell-requires : goal.piece-cell-requires
-piece-cell-requires t c = (c.requires.1.0.rows_are, omega (arith, c.requires.1.2))
+piece-cell-requires t c = (c.requires.0.rows_are, omega (arith, c.requires.2))
 
 pub piece-put_word-requires : goal.piece-put_word-requires
-piece-put_word-requires t c = c.requires.1.0.words_are
+piece-put_word-requires t c = c.requires.0.words_are
 
 pub piece-child-requires : goal.piece-child-requires
-piece-child-requires t c = (omega (arith, c.requires.0), (c.requires.1.0, c.requires.1.1))
+piece-child-requires t c = (omega (arith, c.decreases), (c.requires.0, c.requires.1))
 
 pub piece-cell-requires-in-3 : goal.piece-cell-requires-in-3
-piece-cell-requires-in-3 t c = (c.requires.1.0.rows_are, omega arith)
+piece-cell-requires-in-3 t c = (c.requires.0.rows_are, omega arith)
 
 pub piece-behind-requires : goal.piece-behind-requires
-piece-behind-requires t c = (omega (arith, c.requires.0), (c.requires.1.0, c.requires.1.1))
+piece-behind-requires t c = (omega (arith, c.decreases), (c.requires.0, c.requires.1))
 
 pub piece-cell-requires-in-4 : goal.piece-cell-requires-in-4
-piece-cell-requires-in-4 t c = (c.requires.1.0.rows_are, omega arith)
+piece-cell-requires-in-4 t c = (c.requires.0.rows_are, omega arith)
 
 pub piece-behind-requires-in-4 : goal.piece-behind-requires-in-4
-piece-behind-requires-in-4 t c = (omega (arith, c.requires.0), (c.requires.1.0, c.requires.1.1))
+piece-behind-requires-in-4 t c = (omega (arith, c.decreases), (c.requires.0, c.requires.1))
 
 pub piece-cell-requires-in-5 : goal.piece-cell-requires-in-5
-piece-cell-requires-in-5 t c = (c.requires.1.0.rows_are, omega arith)
+piece-cell-requires-in-5 t c = (c.requires.0.rows_are, omega arith)
 
 pub piece-behind-requires-in-5 : goal.piece-behind-requires-in-5
-piece-behind-requires-in-5 t c = (omega (arith, c.requires.0), (c.requires.1.0, c.requires.1.1))
+piece-behind-requires-in-5 t c = (omega (arith, c.decreases), (c.requires.0, c.requires.1))
 
 pub piece-body_at-requires : goal.piece-body_at-requires
-piece-body_at-requires t c = room c.requires.1.1
+piece-body_at-requires t c = room c.requires.1
 
 pub piece-count_at-requires : goal.piece-count_at-requires
-piece-count_at-requires t c = room c.requires.1.1
+piece-count_at-requires t c = room c.requires.1
 
 pub piece-overflow_sub-levels : goal.piece-overflow_sub-levels
-piece-overflow_sub-levels t c = omega (arith, level c.requires.1.1)
+piece-overflow_sub-levels t c = omega (arith, level c.requires.1)
 
 pub piece-mark_at-requires : goal.piece-mark_at-requires
-piece-mark_at-requires t c = room c.requires.1.1
+piece-mark_at-requires t c = room c.requires.1
 
 pub piece-template-requires : goal.piece-template-requires
-piece-template-requires t c = (omega (arith, c.requires.0, level c.requires.1.1), (c.requires.1.0, rw (c.body_at.ensures, c.count_at.ensures.0) (children _ _ _ c.requires.1.1)))
+piece-template-requires t c = (omega (arith, c.decreases, level c.requires.1), (c.requires.0, rw (c.body_at.ensures, c.count_at.ensures.0) (children _ _ _ c.requires.1)))
 
 pub piece-text_at-requires : goal.piece-text_at-requires
-piece-text_at-requires t c = fits c.requires.1.1
+piece-text_at-requires t c = fits c.requires.1
 
 pub piece-put_symbol-requires : goal.piece-put_symbol-requires
-piece-put_symbol-requires t c = c.requires.1.1
+piece-put_symbol-requires t c = c.requires.1
 
 pub piece-text_at-requires-in-9 : goal.piece-text_at-requires-in-9
-piece-text_at-requires-in-9 t c = fits c.requires.1.1
+piece-text_at-requires-in-9 t c = fits c.requires.1
 
 pub piece-number-requires : goal.piece-number-requires
-piece-number-requires t c = (omega (arith, c.requires.0), (c.requires.1.0, c.requires.1.1))
+piece-number-requires t c = (omega (arith, c.decreases), (c.requires.0, c.requires.1))
 
 pub piece-text_at-requires-in_default : goal.piece-text_at-requires-in_default
-piece-text_at-requires-in_default t c = fits c.requires.1.1
+piece-text_at-requires-in_default t c = fits c.requires.1
 
 pub piece-returns-in-1 : goal.piece-returns-in-1
 piece-returns-in-1 t c = writes_as c.put_word.ensures (piece-token _ _ _ _ _ _ c.piece_holds.ensures (not-false _ c.if-not-piece_holds.false-raw) c.cell-what.ensures c.in-1.is c.cell-a.ensures c.cell.ensures)
@@ -258,10 +258,10 @@ pub piece-shape_of-out-in_default : goal.piece-shape_of-out-in_default
 piece-shape_of-out-in_default t c = writes-same (piece-returns-in_default t c)
 
 pub sibling-mark_at-mark-requires : goal.sibling-mark_at-mark-requires
-sibling-mark_at-mark-requires t c = room (first_one _ _ _ _ c.requires.1.1 c.requires.1.2)
+sibling-mark_at-mark-requires t c = room (first_one _ _ _ _ c.requires.1 c.requires.2)
 
 pub sibling-write-requires : goal.sibling-write-requires
-sibling-write-requires t c = (omega (arith, c.requires.0), (c.requires.1.0, (first_one _ _ _ _ c.requires.1.1 c.requires.1.2)))
+sibling-write-requires t c = (omega (arith, c.decreases), (c.requires.0, (first_one _ _ _ _ c.requires.1 c.requires.2)))
 
 pub sibling-returns-then-mark-eq-OP : goal.sibling-returns-then-mark-eq-OP
 sibling-returns-then-mark-eq-OP t c = writes_as c.write.ensures (op-written _ _ _ _ _ c.if-what-eq-OPS.true (sym c.mark_at-mark.ensures.0 ∙ c.if-mark-eq-OP.true))
@@ -273,10 +273,10 @@ pub sibling-returns-then-mark-eq-OP-2 : goal.sibling-returns-then-mark-eq-OP-2
 sibling-returns-then-mark-eq-OP-2 t c = writes_nothing _ _ (omega (arith, c.well_formed)) (op_left_out _ _ _ _ _ c.if-what-eq-OPS.false (sym c.mark_at-mark.ensures.0 ∙ c.if-mark-eq-OP-2.true))
 
 pub sibling-write-next-requires : goal.sibling-write-next-requires
-sibling-write-next-requires t c = (omega (arith, c.requires.0), (c.requires.1.0, (first_one _ _ _ _ c.requires.1.1 c.requires.1.2)))
+sibling-write-next-requires t c = (omega (arith, c.decreases), (c.requires.0, (first_one _ _ _ _ c.requires.1 c.requires.2)))
 
 pub sibling-comma_follows-requires : goal.sibling-comma_follows-requires
-sibling-comma_follows-requires t c = (c.requires.1.1, c.requires.1.2)
+sibling-comma_follows-requires t c = (c.requires.1, c.requires.2)
 
 pub sibling-returns-then-comma_follows : goal.sibling-returns-then-comma_follows
 sibling-returns-then-comma_follows t c = writes_as (writes_then (omega (arith, c.well_formed)) c.write-next.ensures c.put_token.ensures) (element-comma _ _ _ _ _ c.if-what-eq-OPS.false (λ q. c.if-mark-eq-OP-2.false (c.mark_at-mark.ensures.0 ∙ q)) c.if-what-eq-LIST.true (c.comma_follows.ensures _) c.if-comma_follows.true)
@@ -288,7 +288,7 @@ pub sibling-returns-then-mark-eq-DM : goal.sibling-returns-then-mark-eq-DM
 sibling-returns-then-mark-eq-DM t c = writes_nothing _ _ (omega (arith, c.well_formed)) (no_member _ _ _ _ _ c.if-what-eq-OPS.false (λ q. c.if-mark-eq-OP-2.false (c.mark_at-mark.ensures.0 ∙ q)) c.if-what-eq-LIST.false (sym c.mark_at-mark.ensures.0 ∙ c.if-mark-eq-DM.true))
 
 pub sibling-write-next-requires-2 : goal.sibling-write-next-requires-2
-sibling-write-next-requires-2 t c = (omega (arith, c.requires.0), (c.requires.1.0, (first_one _ _ _ _ c.requires.1.1 c.requires.1.2)))
+sibling-write-next-requires-2 t c = (omega (arith, c.decreases), (c.requires.0, (first_one _ _ _ _ c.requires.1 c.requires.2)))
 
 pub sibling-returns-then-ends_in_semicolon : goal.sibling-returns-then-ends_in_semicolon
 sibling-returns-then-ends_in_semicolon t c = writes_as (member-ends _ c.cleared.ensures c.write-next-2.ensures c.ends_in_semicolon.ensures c.if-ends_in_semicolon.true) (member-closed _ _ _ _ _ c.if-what-eq-OPS.false (λ q. c.if-mark-eq-OP-2.false (c.mark_at-mark.ensures.0 ∙ q)) c.if-what-eq-LIST.false (λ q. c.if-mark-eq-DM.false (c.mark_at-mark.ensures.0 ∙ q)))
@@ -312,10 +312,10 @@ pub sibling-shape_of-out : goal.sibling-shape_of-out
 sibling-shape_of-out t c = writes-same (sibling-returns t c)
 
 pub siblings-loop-k-init : goal.siblings-loop-k-init
-siblings-loop-k-init t c = telling_start _ _ _ _ _ _ c.requires.1.1 _ _ (omega (arith, c.well_formed))
+siblings-loop-k-init t c = telling_start _ _ _ _ _ _ c.requires.1 _ _ (omega (arith, c.well_formed))
 
 pub siblings-sibling-next-requires : goal.siblings-sibling-next-requires
-siblings-sibling-next-requires t c = (omega (arith, c.requires.0), (c.requires.1.0, c.loop-k.invariant.kids, c.loop-k-test.true))
+siblings-sibling-next-requires t c = (omega (arith, c.decreases), (c.requires.0, c.loop-k.invariant.kids, c.loop-k-test.true))
 
 pub siblings-record_end-child-requires : goal.siblings-record_end-child-requires
 siblings-record_end-child-requires t c = lies (telling_first c.loop-k.invariant c.loop-k-test.true)
@@ -336,19 +336,19 @@ pub siblings-shape_of-out : goal.siblings-shape_of-out
 siblings-shape_of-out t c = writes-same c.loop-k.invariant.wrote
 
 pub template-count_quasis-quasis-requires : goal.template-count_quasis-quasis-requires
-template-count_quasis-quasis-requires t c = c.requires.1.1
+template-count_quasis-quasis-requires t c = c.requires.1
 
 pub template-skip-expression-requires : goal.template-skip-expression-requires
-template-skip-expression-requires t c = (c.requires.1.1, c.count_quasis-quasis.ensures.few)
+template-skip-expression-requires t c = (c.requires.1, c.count_quasis-quasis.ensures.few)
 
 pub template-overflow_sub-n : goal.template-overflow_sub-n
 template-overflow_sub-n t c = omega (arith, c.count_quasis-quasis.ensures.few)
 
 pub template-count_expressions-expressions-requires : goal.template-count_expressions-expressions-requires
-template-count_expressions-expressions-requires t c = rw c.skip-expression.ensures (all_others _ _ _ _ c.requires.1.1 _ c.count_quasis-quasis.ensures.few)
+template-count_expressions-expressions-requires t c = rw c.skip-expression.ensures (all_others _ _ _ _ c.requires.1 _ c.count_quasis-quasis.ensures.few)
 
 pub template-loop-turns-init : goal.template-loop-turns-init
-template-loop-turns-init t c = turning_start _ _ _ _ _ c.requires.1.1 c.count_quasis-quasis.ensures c.skip-expression.ensures c.count_expressions-expressions.ensures c.larger-turns.ensures _ _ (omega (arith, c.put_token-next.type-inv))
+template-loop-turns-init t c = turning_start _ _ _ _ _ c.requires.1 c.count_quasis-quasis.ensures c.skip-expression.ensures c.count_expressions-expressions.ensures c.larger-turns.ensures _ _ (omega (arith, c.put_token-next.type-inv))
 
 pub template-put_quasi-next-requires : goal.template-put_quasi-next-requires
 template-put_quasi-next-requires t c = λ h. turning_quasi c.loop-turns.invariant h
@@ -357,7 +357,7 @@ pub template-pass-quasi-requires : goal.template-pass-quasi-requires
 template-pass-quasi-requires t c = λ h. turning_quasi c.loop-turns.invariant h
 
 pub template-braces-next-requires : goal.template-braces-next-requires
-template-braces-next-requires t c = (omega (arith, c.requires.0), (c.requires.1.0, λ h. turning_expression c.loop-turns.invariant h))
+template-braces-next-requires t c = (omega (arith, c.decreases), (c.requires.0, λ h. turning_expression c.loop-turns.invariant h))
 
 pub template-pass-expression-requires : goal.template-pass-expression-requires
 template-pass-expression-requires t c = λ h. turning_expression c.loop-turns.invariant h
@@ -378,40 +378,40 @@ pub template-shape_of-out : goal.template-shape_of-out
 template-shape_of-out t c = writes-same (template-returns t c)
 
 pub write-mark_at-mark-requires : goal.write-mark_at-mark-requires
-write-mark_at-mark-requires t c = room c.requires.1.1
+write-mark_at-mark-requires t c = room c.requires.1
 
 pub write-is_plain-requires : goal.write-is_plain-requires
-write-is_plain-requires t c = room c.requires.1.1
+write-is_plain-requires t c = room c.requires.1
 
 pub write-text_at-requires : goal.write-text_at-requires
-write-text_at-requires t c = fits c.requires.1.1
+write-text_at-requires t c = fits c.requires.1
 
 pub write-returns-then-is_plain : goal.write-returns-then-is_plain
-write-returns-then-is_plain t c = writes_as c.put_token.ensures (plain-token _ _ _ _ c.requires.1.1 c.shared_slice_known-2-1.given c.mark_at-mark.ensures.0 (c.is_plain.ensures c.if-is_plain.true) c.text_at.ensures)
+write-returns-then-is_plain t c = writes_as c.put_token.ensures (plain-token _ _ _ _ c.requires.1 c.shared_slice_known-2-1.given c.mark_at-mark.ensures.0 (c.is_plain.ensures c.if-is_plain.true) c.text_at.ensures)
 
 pub write-is_name-requires : goal.write-is_name-requires
-write-is_name-requires t c = room c.requires.1.1
+write-is_name-requires t c = room c.requires.1
 
 pub write-put_symbol-requires : goal.write-put_symbol-requires
-write-put_symbol-requires t c = c.requires.1.1
+write-put_symbol-requires t c = c.requires.1
 
 pub write-returns-then-is_name : goal.write-returns-then-is_name
-write-returns-then-is_name t c = writes_as c.put_symbol.ensures (name-token _ _ _ _ c.requires.1.1 c.shared_slice_known-2-1.given c.mark_at-mark.ensures.0 (c.is_name.ensures c.if-is_name.true))
+write-returns-then-is_name t c = writes_as c.put_symbol.ensures (name-token _ _ _ _ c.requires.1 c.shared_slice_known-2-1.given c.mark_at-mark.ensures.0 (c.is_name.ensures c.if-is_name.true))
 
 pub write-loop-n-init : goal.write-loop-n-init
-write-loop-n-init t c = reading-start _ _ _ _ c.requires.1.1 c.mark_at-mark.ensures.0 c.mark_number-row.ensures _ _ (omega (arith, c.well_formed))
+write-loop-n-init t c = reading-start _ _ _ _ c.requires.1 c.mark_at-mark.ensures.0 c.mark_number-row.ensures _ _ (omega (arith, c.well_formed))
 
 pub write-overflow_add-i : goal.write-overflow_add-i
 write-overflow_add-i t c = let b = c.loop-n.invariant.bound in omega (arith, c.loop-n-test.true)
 
 pub write-cell-requires : goal.write-cell-requires
-write-cell-requires t c = (c.requires.1.0.rows_are, let b = c.loop-n.invariant.bound in omega (arith, c.loop-n-test.true))
+write-cell-requires t c = (c.requires.0.rows_are, let b = c.loop-n.invariant.bound in omega (arith, c.loop-n-test.true))
 
 pub write-returns-then-cell-eq0 : goal.write-returns-then-cell-eq0
 write-returns-then-cell-eq0 t c = reading-end c.loop-n.invariant c.cell.ensures c.if-cell-eq0.true
 
 pub write-piece-next-requires : goal.write-piece-next-requires
-write-piece-next-requires t c = (omega (arith, c.requires.0), (c.requires.1.0, c.requires.1.1, let b = c.loop-n.invariant.bound in omega (arith, c.loop-n-test.true)))
+write-piece-next-requires t c = (omega (arith, c.decreases), (c.requires.0, c.requires.1, let b = c.loop-n.invariant.bound in omega (arith, c.loop-n-test.true)))
 
 pub write-overflow_add-i-in-loop-n : goal.write-overflow_add-i-in-loop-n
 write-overflow_add-i-in-loop-n t c = let b = c.loop-n.invariant.bound in omega (arith, c.loop-n-test.true)

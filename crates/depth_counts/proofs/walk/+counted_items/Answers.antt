@@ -22,7 +22,7 @@ abbrev loop-calls : ℕ → count-items-lts.Claims
 loop-calls t = (count_item_below t, count-item.Post, next-at-reads.Asked, next-at-reads.Learnt)
 
 pub count_item-space_of-requires : goal.count_item-space_of-requires
-count_item-space_of-requires t c = c.requires.1.0.0.accepted
+count_item-space_of-requires t c = c.requires.ready.0.accepted
 
 pub count_item-body_at-requires : goal.count_item-body_at-requires
 count_item-body_at-requires t c = room (found c.args.levels c.args.tree.now c.args.at c.in-Block.is c.space_of.ensures).0.accepted
@@ -34,28 +34,28 @@ pub count_item-overflow_sub-left : goal.count_item-overflow_sub-left
 count_item-overflow_sub-left t c = omega (arith, level (found c.args.levels c.args.tree.now c.args.at c.in-Block.is c.space_of.ensures).0.accepted)
 
 pub count_item-overflow_add-depth : goal.count_item-overflow_add-depth
-count_item-overflow_add-depth t c = omega (arith, c.requires.1.0.1)
+count_item-overflow_add-depth t c = omega (arith, c.requires.ready.1)
 
 pub count_item-count_items-requires : goal.count_item-count_items-requires
-count_item-count_items-requires t c = (omega (arith, c.requires.0, (found c.args.levels c.args.tree.now c.args.at c.in-Block.is c.space_of.ensures).0.lower, level (found c.args.levels c.args.tree.now c.args.at c.in-Block.is c.space_of.ensures).0.accepted, level c.requires.1.0.0.accepted), ((block_ready c.args.list.now c.args.tree.now c.args.scope (tree_at c.args.levels c.args.tree.now c.args.at) c.args.top c.args.depth c.args.s.counter c.args.levels (found c.args.levels c.args.tree.now c.args.at c.in-Block.is c.space_of.ensures).0 (found c.args.levels c.args.tree.now c.args.at c.in-Block.is c.space_of.ensures).1 c.body_at.ensures c.count_at.ensures.0 refl c.requires.1.0.0.low c.requires.1.0.0.indexed, block-deep c.args.list.now c.args.tree.now c.args.scope (tree_at c.args.levels c.args.tree.now c.args.at) c.args.top c.args.depth c.args.s.counter c.args.levels (found c.args.levels c.args.tree.now c.args.at c.in-Block.is c.space_of.ensures).0 (found c.args.levels c.args.tree.now c.args.at c.in-Block.is c.space_of.ensures).1 c.body_at.ensures c.count_at.ensures.0 refl c.requires.1.0.1), (c.requires.1.1.0, block-holds c.args.list.now c.args.tree.now c.args.scope (tree_at c.args.levels c.args.tree.now c.args.at) c.args.top c.args.depth c.args.s.counter c.args.levels (found c.args.levels c.args.tree.now c.args.at c.in-Block.is c.space_of.ensures).0 (found c.args.levels c.args.tree.now c.args.at c.in-Block.is c.space_of.ensures).1 c.body_at.ensures c.count_at.ensures.0 refl c.requires.1.1.1)))
+count_item-count_items-requires t c = (omega (arith, c.decreases, (found c.args.levels c.args.tree.now c.args.at c.in-Block.is c.space_of.ensures).0.lower, level (found c.args.levels c.args.tree.now c.args.at c.in-Block.is c.space_of.ensures).0.accepted, level c.requires.ready.0.accepted), record { ready_all = (block_ready c.args.list.now c.args.tree.now c.args.scope (tree_at c.args.levels c.args.tree.now c.args.at) c.args.top c.args.depth c.args.s.counter c.args.levels (found c.args.levels c.args.tree.now c.args.at c.in-Block.is c.space_of.ensures).0 (found c.args.levels c.args.tree.now c.args.at c.in-Block.is c.space_of.ensures).1 c.body_at.ensures c.count_at.ensures.0 refl c.requires.ready.0.low c.requires.ready.0.indexed, block-deep c.args.list.now c.args.tree.now c.args.scope (tree_at c.args.levels c.args.tree.now c.args.at) c.args.top c.args.depth c.args.s.counter c.args.levels (found c.args.levels c.args.tree.now c.args.at c.in-Block.is c.space_of.ensures).0 (found c.args.levels c.args.tree.now c.args.at c.in-Block.is c.space_of.ensures).1 c.body_at.ensures c.count_at.ensures.0 refl c.requires.ready.1); small = c.requires.small; holds = block-holds c.args.list.now c.args.tree.now c.args.scope (tree_at c.args.levels c.args.tree.now c.args.at) c.args.top c.args.depth c.args.s.counter c.args.levels (found c.args.levels c.args.tree.now c.args.at c.in-Block.is c.space_of.ensures).0 (found c.args.levels c.args.tree.now c.args.at c.in-Block.is c.space_of.ensures).1 c.body_at.ensures c.count_at.ensures.0 refl c.requires.holds })
 
 pub count_item-count_plain-requires : goal.count_item-count_plain-requires
-count_item-count_plain-requires t c = ((c.requires.1.0.0, omega (arith, c.requires.1.0.1, level c.requires.1.0.0.accepted)), (c.requires.1.1.0, plain-holds c.args.list.now c.args.tree.now c.args.scope (tree_at c.args.levels c.args.tree.now c.args.at) c.args.top c.args.depth c.args.s.counter (found c.args.levels c.args.tree.now c.args.at c.in-Other.is c.space_of.ensures) c.requires.1.1.1))
+count_item-count_plain-requires t c = record { ready = (c.requires.ready.0, omega (arith, c.requires.ready.1, level c.requires.ready.0.accepted)); small = c.requires.small; holds = plain-holds c.args.list.now c.args.tree.now c.args.scope (tree_at c.args.levels c.args.tree.now c.args.at) c.args.top c.args.depth c.args.s.counter (found c.args.levels c.args.tree.now c.args.at c.in-Other.is c.space_of.ensures) c.requires.holds }
 
 pub count_item-returns-in-Block : goal.count_item-returns-in-Block
 count_item-returns-in-Block t c = block-counts c.args.list.now c.args.tree.now c.args.scope (tree_at c.args.levels c.args.tree.now c.args.at) c.args.top c.args.depth c.args.s.counter c.args.levels (found c.args.levels c.args.tree.now c.args.at c.in-Block.is c.space_of.ensures).0 (found c.args.levels c.args.tree.now c.args.at c.in-Block.is c.space_of.ensures).1 c.body_at.ensures c.count_at.ensures.0 refl c.count_items.ensures
 
 pub count_item-returns-in-Empty : goal.count_item-returns-in-Empty
-count_item-returns-in-Empty t c = empty_counts c.args.list.now c.args.tree.now c.args.scope (tree_at c.args.levels c.args.tree.now c.args.at) c.args.top c.args.depth c.args.s.counter (found c.args.levels c.args.tree.now c.args.at c.in-Empty.is c.space_of.ensures) c.args.s refl c.requires.1.1.0.shape
+count_item-returns-in-Empty t c = empty_counts c.args.list.now c.args.tree.now c.args.scope (tree_at c.args.levels c.args.tree.now c.args.at) c.args.top c.args.depth c.args.s.counter (found c.args.levels c.args.tree.now c.args.at c.in-Empty.is c.space_of.ensures) c.args.s refl c.requires.small.shape
 
 pub count_item-returns-in-Other : goal.count_item-returns-in-Other
 count_item-returns-in-Other t c = plain-counts c.args.list.now c.args.tree.now c.args.scope (tree_at c.args.levels c.args.tree.now c.args.at) c.args.top c.args.depth c.args.s.counter (found c.args.levels c.args.tree.now c.args.at c.in-Other.is c.space_of.ensures) c.count_plain.ensures
 
 pub count_items-loop-k-init : goal.count_items-loop-k-init
-count_items-loop-k-init t c = walking_start _ _ _ _ _ _ _ c.requires.1.0.0 c.requires.1.1.0 c.requires.1.1.1
+count_items-loop-k-init t c = walking_start _ _ _ _ _ _ _ c.requires.ready_all.0 c.requires.small c.requires.holds
 
 pub count_items-count_item-next-requires : goal.count_items-count_item-next-requires
-count_items-count_item-next-requires t c = (omega (arith, c.requires.0), ((record { accepted = walking_first _ _ _ _ _ _ c.loop-k.invariant c.loop-k-test.true; low = c.loop-k.invariant.low; indexed = c.requires.1.0.0.indexed }, c.requires.1.0.1), (c.loop-k.invariant.small, walking_holds _ _ _ _ _ _ c.loop-k.invariant c.loop-k-test.true)))
+count_items-count_item-next-requires t c = (omega (arith, c.decreases), record { ready = (record { accepted = walking_first _ _ _ _ _ _ c.loop-k.invariant c.loop-k-test.true; low = c.loop-k.invariant.low; indexed = c.requires.ready_all.0.indexed }, c.requires.ready_all.1); small = c.loop-k.invariant.small; holds = walking_holds _ _ _ _ _ _ c.loop-k.invariant c.loop-k-test.true })
 
 pub count_items-next_at-item-requires : goal.count_items-next_at-item-requires
 count_items-next_at-item-requires t c = lies (walking_first _ _ _ _ _ _ c.loop-k.invariant c.loop-k-test.true)

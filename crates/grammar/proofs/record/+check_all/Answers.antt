@@ -16,7 +16,7 @@ use Rattle.grammar.proofs.Children.{body-inside, Passed, passed-all, no_level, s
 use Rattle.grammar.proofs.record.+check_all.Goals as goal
 
 pub loop-n-init : goal.loop-n-init
-loop-n-init t c = record { inside = c.requires.1.0; same = refl }
+loop-n-init t c = record { inside = c.requires.0; same = refl }
 
 pub returns-then-levels-eq0 : goal.returns-then-levels-eq0
 returns-then-levels-eq0 t c = let a = c.args in
@@ -24,7 +24,7 @@ returns-then-levels-eq0 t c = let a = c.args in
     no_level a.levels a.tree.now _ l.n l.p (parts_from l.slot) l.invariant c.loop-n-test.true c.if-levels-eq0.true
 
 pub open_record-requires : goal.open_record-requires
-open_record-requires t c = (c.loop-n.invariant.inside, c.requires.1.1, c.requires.1.2, c.requires.1.3)
+open_record-requires t c = (c.loop-n.invariant.inside, c.requires.1, c.requires.2, c.requires.3)
 
 pub returns-in-Stopped : goal.returns-in-Stopped
 returns-in-Stopped t c = let a = c.args in
@@ -37,16 +37,13 @@ overflow_sub-levels t c = omega (arith, c.if-levels-eq0.false)
 pub check_all-found-requires : goal.check_all-found-requires
 check_all-found-requires t c = let a = c.args in
     let l = c.loop-n in
-    let g = c.in-Opened.given in
-    let e = sym (ap opening g.1) ∙ c.open_record.ensures.0 in
-    let z = c.requires in
-    (omega (arith, z.0, c.if-levels-eq0.false), (body-inside a.tree.now l.p (parts_from l.slot) _ _ _ e, z.1.1, z.1.2, z.1.3))
+    let e = sym (ap opening c.in-Opened.is) ∙ c.open_record.ensures.0 in
+    (omega (arith, c.decreases, c.if-levels-eq0.false), (body-inside a.tree.now l.p (parts_from l.slot) _ _ _ e, c.requires.1, c.requires.2, c.requires.3))
 
 pub returns-in_default : goal.returns-in_default
 returns-in_default t c = let a = c.args in
     let l = c.loop-n in
-    let g = c.in-Opened.given in
-    let e = sym (ap opening g.1) ∙ c.open_record.ensures.0 in
+    let e = sym (ap opening c.in-Opened.is) ∙ c.open_record.ensures.0 in
     let r = ap checked c.in_default.is in
     r ∙ passed-refused a.levels a.tree.now _ l.n l.p (parts_from l.slot) l.invariant c.loop-n-test.true c.if-levels-eq0.false _ _ _ e _ _ (sym r ∙ c.check_all-found.ensures)
 
@@ -59,14 +56,10 @@ loop-n-smaller t c = omega arith
 pub loop-n-preserved : goal.loop-n-preserved
 loop-n-preserved t c = let a = c.args in
     let l = c.loop-n in
-    let g = c.in-Opened.given in
-    let e = sym (ap opening g.1) ∙ c.open_record.ensures.0 in
-    let q : parts_from g.0.1.1.1.0 ≡ after (parts_from l.slot) (mark_at a.tree.now l.p) =
-    subst (λ (o : Opening). Before o (after (parts_from l.slot) (mark_at a.tree.now l.p))) g.1 c.open_record.ensures.1 in
-    ⊎_elim
-    (λ w. rw (w.1, w.2, q) (passed-leaf a.levels a.tree.now _ l.n l.p (parts_from l.slot) l.invariant c.loop-n-test.true c.if-levels-eq0.false _ _ _ e w.0.taken))
-    (λ w. rw (w.5, w.6, q) (passed-turn a.levels a.tree.now _ l.n l.p (parts_from l.slot) l.invariant c.loop-n-test.true c.if-levels-eq0.false _ _ _ e _ (sym (ap checked w.3.given.1) ∙ w.1.ensures)))
-    c.if-kids-eq0.branch
+    let e = sym (ap opening c.in-Opened.is) ∙ c.open_record.ensures.0 in
+    let q : parts_from c.in-Opened.next ≡ after (parts_from l.slot) (mark_at a.tree.now l.p) =
+    subst (λ (o : Opening). Before o (after (parts_from l.slot) (mark_at a.tree.now l.p))) c.in-Opened.is c.open_record.ensures.1 in
+    elim c.if-kids-eq0.branch [ then-kids-eq0 w ↦ ? | else-kids-eq0 w ↦ ? ]
 
 pub returns : goal.returns
 returns t c = let a = c.args in

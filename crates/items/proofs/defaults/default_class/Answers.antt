@@ -17,7 +17,7 @@ pub read_head-flags-requires : goal.read_head-flags-requires
 read_head-flags-requires c = (itself _ _ _ (begun_first c.begin-class.ensures (omega (arith, has (mark "Xd") _ _ _ c.requires.ready.0.accepted c.requires.ready.1)))).room
 
 pub with_class-made-requires : goal.with_class-made-requires
-with_class-made-requires c = (ready_first c.begin-class.ensures c.requires.ready.0 (omega (arith, has (mark "Xd") _ _ _ c.requires.ready.0.accepted c.requires.ready.1)), inr (mark-there c.args.tree.now c.args.at c.begin-class.ensures.place c.requires.at_value))
+with_class-made-requires c = record { ready = ready_first c.begin-class.ensures c.requires.ready.0 (omega (arith, has (mark "Xd") _ _ _ c.requires.ready.0.accepted c.requires.ready.1)); fact = inr (mark-there c.args.tree.now c.args.at c.begin-class.ensures.place c.requires.at_value) }
 
 pub passed-requires : goal.passed-requires
 passed-requires c = record { left = c.begin-class.ensures.left; more = omega (arith, has (mark "Xd") _ _ _ c.requires.ready.0.accepted c.requires.ready.1) }

@@ -28,7 +28,7 @@ pub returns-then-mark_at-ne-NO : goal.returns-then-mark_at-ne-NO
 returns-then-mark_at-ne-NO c = binding_kept _ c.args.scope _ _ _ c.begin-ident.ensures c.keep_next-type_ann.ensures _ (told-not c.mark_at.ensures.0 c.if-mark_at-ne-NO.true) (omega (arith, has (mark "Bd") _ _ _ c.requires.accepted_at.0 c.requires.accepted_at.1)) c.finish.ensures
 
 pub declarator_type-typed-requires : goal.declarator_type-typed-requires
-declarator_type-typed-requires c = (c.requires.accepted_at.0, ready_on c.requires.ready (puts-counter c.keep_next-type_ann.ensures.put ∙ puts-counter c.begin-ident.ensures.front))
+declarator_type-typed-requires c = record { accepted_at = c.requires.accepted_at.0; ready = ready_on c.requires.ready (puts-counter c.keep_next-type_ann.ensures.put ∙ puts-counter c.begin-ident.ensures.front) }
 
 pub passed-requires : goal.passed-requires
 passed-requires c = record { left = c.keep_next-type_ann.ensures.passed.left; more = omega (arith, has (mark "Bd") _ _ _ c.requires.accepted_at.0 c.requires.accepted_at.1) }

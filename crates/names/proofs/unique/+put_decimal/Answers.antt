@@ -17,7 +17,7 @@ pub returns-then-n-lt10 : goal.returns-then-n-lt10
 returns-then-n-lt10 t c = rw (decimal-one c.args.n c.if-n-lt10.true) (put_byte c.args.p (digit c.args.n) c.put.ensures c.advance.ensures)
 
 pub put_decimal-q-requires : goal.put_decimal-q-requires
-put_decimal-q-requires t c = (omega (arith, c.requires.0), tt)
+put_decimal-q-requires t c = (omega (arith, c.decreases), tt)
 
 pub overflow_cast-n-2 : goal.overflow_cast-n-2
 overflow_cast-n-2 t c = omega arith

@@ -17,7 +17,7 @@ pub returns-then-context_at-scope : goal.returns-then-context_at-scope
 returns-then-context_at-scope c = as-type c.global_type.ensures (ident-global _ _ c.args.levels c.args.tree.now c.args.at _ c.context_at.ensures c.if-context_at-scope.true)
 
 pub look_up-requires : goal.look_up-requires
-look_up-requires c = (c.requires.accepted_at.0, c.requires.indexed)
+look_up-requires c = record { accepted_at = c.requires.accepted_at.0; indexed = c.requires.indexed }
 
 pub ts_type_query-requires : goal.ts_type_query-requires
 ts_type_query-requires c = c.requires.accepted_at.0

@@ -40,7 +40,7 @@ pub overflow_sub-levels-2 : goal.overflow_sub-levels-2
 overflow_sub-levels-2 c = omega (arith, some_left _ _ _ c.requires.accepted_at.0)
 
 pub look_up-requires : goal.look_up-requires
-look_up-requires c = ((placed (ne_callee _ _ _ c.requires.accepted_at.0 c.requires.accepted_at.1) c.body_at-ident.ensures).accepted, c.requires.indexed)
+look_up-requires c = record { accepted_at = (placed (ne_callee _ _ _ c.requires.accepted_at.0 c.requires.accepted_at.1) c.body_at-ident.ensures).accepted; indexed = c.requires.indexed }
 
 pub overflow_sub-levels-then-look_up : goal.overflow_sub-levels-then-look_up
 overflow_sub-levels-then-look_up c = omega (arith, some_left _ _ _ c.requires.accepted_at.0)
