@@ -60,7 +60,9 @@ loop-n-preserved t c = let a = c.args in
     let e = sym (ap opening c.in-Opened.is) ∙ c.open_record.ensures.0 in
     let q : parts_from c.in-Opened.next ≡ after (parts_from l.slot) (mark_at a.tree.now l.p) =
     subst (λ (o : Opening). Before o (after (parts_from l.slot) (mark_at a.tree.now l.p))) c.in-Opened.is c.open_record.ensures.1 in
-    elim c.if-kids-eq0.branch [ then-kids-eq0 w ↦ ? | else-kids-eq0+in-Fine w ↦ ? ]
+    elim c.if-kids-eq0.branch [
+      then-kids-eq0 w ↦ rw (w.p-is, w.slot-is, q) (passed-leaf a.levels a.tree.now _ l.n l.p (parts_from l.slot) l.invariant c.loop-n-test.true c.if-levels-eq0.false _ _ _ e w.if-kids-eq0.true)
+    | else-kids-eq0+in-Fine w ↦ rw (w.p-is, w.slot-is, q) (passed-turn a.levels a.tree.now _ l.n l.p (parts_from l.slot) l.invariant c.loop-n-test.true c.if-levels-eq0.false _ _ _ e _ (sym (ap checked w.in-Fine.is) ∙ w.check_all-found.ensures)) ]
 
 pub returns : goal.returns
 returns t c = let a = c.args in
