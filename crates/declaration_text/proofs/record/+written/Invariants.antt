@@ -1,5 +1,5 @@
 -- The cycle of `write`: each member meets its contract, and the levels that are left fall.
-use Prim.Native.Nat.{ℕ}
+use Prim.Native.Nat.{ℕ, ◌+◌, ◌*◌, suc}
 use native.Mathlib.Omega.{arith}
 use mathlib.Core.Path.{ap, ◌∙◌, sym}
 use lib.Dec.{eqb}
