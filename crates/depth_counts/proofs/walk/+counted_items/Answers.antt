@@ -18,9 +18,6 @@ use Rattle.depth_counts.proofs.walk.+counted_items.Goals as goal
 found : (levels : ℕ) (tree : List ℕ) (at : ℕ) {f g : Space} → f ≡ g → FoundItem (levels - 1) tree at (tree_at levels tree at) f → FoundItem (levels - 1) tree at (tree_at levels tree at) g
 found levels tree at e x = subst (FoundItem (levels - 1) tree at (tree_at levels tree at)) e x
 
-abbrev loop-calls : ℕ → count-items-lts.Claims
-loop-calls t = (count_item_below t, count-item.Post, next-at-reads.Asked, next-at-reads.Learnt)
-
 pub count_item-space_of-requires : goal.count_item-space_of-requires
 count_item-space_of-requires t c = c.requires.ready.0.accepted
 
