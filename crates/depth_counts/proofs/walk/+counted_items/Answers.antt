@@ -52,7 +52,7 @@ pub count_items-loop-k-init : goal.count_items-loop-k-init
 count_items-loop-k-init t c = walking_start _ _ _ _ _ _ _ c.requires.ready_all.0 c.requires.small c.requires.holds
 
 pub count_items-count_item-next-requires : goal.count_items-count_item-next-requires
-count_items-count_item-next-requires t c = (omega (arith, c.decreases), record { ready = (record { accepted = walking_first _ _ _ _ _ _ c.loop-k.invariant c.loop-k-test.true; low = c.loop-k.invariant.low; indexed = c.requires.ready_all.0.indexed }, c.requires.ready_all.1); small = c.loop-k.invariant.small; holds = walking_holds _ _ _ _ _ _ c.loop-k.invariant c.loop-k-test.true })
+count_items-count_item-next-requires t c = (omega (arith, c.decreases), ((record { accepted = walking_first _ _ _ _ _ _ c.loop-k.invariant c.loop-k-test.true; low = c.loop-k.invariant.low; indexed = c.requires.ready_all.0.indexed }, c.requires.ready_all.1), (c.loop-k.invariant.small, walking_holds _ _ _ _ _ _ c.loop-k.invariant c.loop-k-test.true)))
 
 pub count_items-next_at-item-requires : goal.count_items-next_at-item-requires
 count_items-next_at-item-requires t c = lies (walking_first _ _ _ _ _ _ c.loop-k.invariant c.loop-k-test.true)
