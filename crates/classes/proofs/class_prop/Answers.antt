@@ -52,7 +52,7 @@ pub overflow_sub-levels-5 : goal.overflow_sub-levels-5
 overflow_sub-levels-5 c = omega (arith, level c.requires.0.accepted)
 
 pub prop_type-typed-requires : goal.prop_type-typed-requires
-prop_type-typed-requires c = let k = cp_kids c.requires.0.accepted c.requires.1 c.body_at-key.ensures c.record_end-type_ann.ensures c.record_end-value.ensures c.record_end-rest.ensures in (k.second, ready_kid c.requires.0 k.third k.low2 (named-counter c.put_front-front.ensures (is-named c.put_prop_name.ensures c.in-Some.is)))
+prop_type-typed-requires c = let k = cp_kids c.requires.0.accepted c.requires.1 c.body_at-key.ensures c.record_end-type_ann.ensures c.record_end-value.ensures c.record_end-rest.ensures in record { accepted_at = k.second; ready = ready_kid c.requires.0 k.third k.low2 (named-counter c.put_front-front.ensures (is-named c.put_prop_name.ensures c.in-Some.is)) }
 
 pub overflow_sub-levels-6 : goal.overflow_sub-levels-6
 overflow_sub-levels-6 c = omega (arith, level c.requires.0.accepted)

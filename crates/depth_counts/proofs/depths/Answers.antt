@@ -4,7 +4,7 @@ use borrow.Author.Rules.{rules}
 use Rattle.depth_counts.proofs.depths.Goals as goal
 
 pub counted-requires : goal.counted-requires
-counted-requires c = ((done-accepted _ _ _ _ _ c.transform-made.ensures c.in-Done.is, done-holds _ _ _ _ _ c.transform-made.ensures c.in-Done.is), done-short _ _ _ _ _ c.transform-made.ensures c.in-Done.is)
+counted-requires c = record { accepted_at = (done-accepted _ _ _ _ _ c.transform-made.ensures c.in-Done.is, done-holds _ _ _ _ _ c.transform-made.ensures c.in-Done.is); tree_len_bound = done-short _ _ _ _ _ c.transform-made.ensures c.in-Done.is }
 
 pub returns-in-Refused : goal.returns-in-Refused
 returns-in-Refused c = refused_counted _ _ _ _ _ c.transform-made.ensures c.args.table.now c.in-Refused.is

@@ -4,4 +4,4 @@ use borrow.Author.Rules.{rules}
 use Rattle.depth_counts.proofs.with_large_table.Goals as goal
 
 pub with_names-requires : goal.with_names-requires
-with_names-requires c = (c.requires.0, (c.requires.1, omega (arith, c.requires.1)))
+with_names-requires c = record { accepted_at = c.requires.accepted_at; tree_len_bound = c.requires.tree_len_bound; tree_len_bound_2 = omega (arith, c.requires.tree_len_bound) }

@@ -9,13 +9,13 @@ use borrow.Author.Rules.{rules}
 use Rattle.depth_counts.proofs.with_names.Goals as goal
 
 pub body_at-first-requires : goal.body_at-first-requires
-body_at-first-requires c = room c.requires.0.0
+body_at-first-requires c = room c.requires.accepted_at.0
 
 pub count_at-n-requires : goal.count_at-n-requires
-count_at-n-requires c = room c.requires.0.0
+count_at-n-requires c = room c.requires.accepted_at.0
 
 pub count_items-requires : goal.count_items-requires
-count_items-requires c = let e = c.index-found.result in let z : e.from + e.count - e.from ≡ e.count = omega arith in ((module_ready _ c.requires.0.0 c.count_at-n.ensures.0 c.body_at-first.ensures (rw z c.index-found.ensures.0), omega arith), (blank-small, module_holds _ c.requires.0.0 c.count_at-n.ensures.0 c.body_at-first.ensures _ _ c.requires.0.1))
+count_items-requires c = let e = c.index-found.result in let z : e.from + e.count - e.from ≡ e.count = omega arith in record { ready_all = (module_ready _ c.requires.accepted_at.0 c.count_at-n.ensures.0 c.body_at-first.ensures (rw z c.index-found.ensures.0), omega arith); small = blank-small; holds = module_holds _ c.requires.accepted_at.0 c.count_at-n.ensures.0 c.body_at-first.ensures _ _ c.requires.accepted_at.1 }
 
 pub returns : goal.returns
-returns c = table_is _ blank-cells c.count_items.ensures.adds ∙ ap table_of (sym (module_placed _ c.requires.0.0 c.count_at-n.ensures.0 c.body_at-first.ensures _ _))
+returns c = table_is _ blank-cells c.count_items.ensures.adds ∙ ap table_of (sym (module_placed _ c.requires.accepted_at.0 c.count_at-n.ensures.0 c.body_at-first.ensures _ _))

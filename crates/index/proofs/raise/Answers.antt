@@ -4,7 +4,7 @@ use Rattle.index.proofs.Laws.{Shifting, shifting_start, shifting_turn, shifting_
 use Rattle.index.proofs.raise.Goals as goal
 
 pub loop-i-init : goal.loop-i-init
-loop-i-init c = shifting_start _ _ _ c.requires.0 c.requires.1
+loop-i-init c = shifting_start _ _ _ c.requires.n_in_bounds c.requires.p_le_n
 
 pub overflow_sub-table : goal.overflow_sub-table
 overflow_sub-table c = omega arith

@@ -6,10 +6,10 @@ use Rattle.prescan.proofs.Laws.{params-child, class-plain}
 use Rattle.prescan.proofs.add_class.Goals as goal
 
 pub body_at-requires : goal.body_at-requires
-body_at-requires c = room c.requires.0
+body_at-requires c = room c.requires.accepted_at
 
 pub mark_at-requires : goal.mark_at-requires
-mark_at-requires c = room (params-child c.requires.0 c.requires.1 c.body_at.ensures).accepted
+mark_at-requires c = room (params-child c.requires.accepted_at c.requires.at_value c.body_at.ensures).accepted
 
 pub returns-in-NonGenericClass : goal.returns-in-NonGenericClass
-returns-in-NonGenericClass c = rw c.in-NonGenericClass.is (sym (class-plain c.requires.0 c.requires.1 c.body_at.ensures c.mark_at.ensures.0))
+returns-in-NonGenericClass c = rw c.in-NonGenericClass.is (sym (class-plain c.requires.accepted_at c.requires.at_value c.body_at.ensures c.mark_at.ensures.0))

@@ -8,46 +8,46 @@ use Rattle.prescan.proofs.Tables.{room-one, filled_none, filled-one, declarator-
 use Rattle.prescan.proofs.enter_declarator.Goals as goal
 
 pub mark_at-requires : goal.mark_at-requires
-mark_at-requires c = room c.requires.0
+mark_at-requires c = room c.requires.accepted_at
 
 pub returns-then-mark_at-ne-VR : goal.returns-then-mark_at-ne-VR
-returns-then-mark_at-ne-VR c = filled_none c.requires.1 (omega (arith, end_after _ _ _ c.requires.0)) (λ q t. declarator-other c.requires.0 c.mark_at.ensures.0 q t c.if-mark_at-ne-VR.true)
+returns-then-mark_at-ne-VR c = filled_none c.requires.room (omega (arith, end_after _ _ _ c.requires.accepted_at)) (λ q t. declarator-other c.requires.accepted_at c.mark_at.ensures.0 q t c.if-mark_at-ne-VR.true)
 
 pub body_at-pattern-requires : goal.body_at-pattern-requires
-body_at-pattern-requires c = room c.requires.0
+body_at-pattern-requires c = room c.requires.accepted_at
 
 pub mark_at-requires-2 : goal.mark_at-requires-2
-mark_at-requires-2 c = room (pattern-child c.requires.0 c.mark_at.ensures.0 c.if-mark_at-ne-VR.false c.body_at-pattern.ensures).accepted
+mark_at-requires-2 c = room (pattern-child c.requires.accepted_at c.mark_at.ensures.0 c.if-mark_at-ne-VR.false c.body_at-pattern.ensures).accepted
 
 pub returns-then-mark_at-ne-BD : goal.returns-then-mark_at-ne-BD
-returns-then-mark_at-ne-BD c = filled_none c.requires.1 (omega (arith, end_after _ _ _ c.requires.0)) (λ q t. declarator-pattern c.requires.0 c.mark_at.ensures.0 c.if-mark_at-ne-VR.false c.body_at-pattern.ensures c.mark_at-2.ensures.0 q t c.if-mark_at-ne-BD.true)
+returns-then-mark_at-ne-BD c = filled_none c.requires.room (omega (arith, end_after _ _ _ c.requires.accepted_at)) (λ q t. declarator-pattern c.requires.accepted_at c.mark_at.ensures.0 c.if-mark_at-ne-VR.false c.body_at-pattern.ensures c.mark_at-2.ensures.0 q t c.if-mark_at-ne-BD.true)
 
 pub body_at-ident-requires : goal.body_at-ident-requires
-body_at-ident-requires c = room (pattern-child c.requires.0 c.mark_at.ensures.0 c.if-mark_at-ne-VR.false c.body_at-pattern.ensures).accepted
+body_at-ident-requires c = room (pattern-child c.requires.accepted_at c.mark_at.ensures.0 c.if-mark_at-ne-VR.false c.body_at-pattern.ensures).accepted
 
 pub overflow_sub-below : goal.overflow_sub-below
-overflow_sub-below c = omega (arith, level c.requires.0)
+overflow_sub-below c = omega (arith, level c.requires.accepted_at)
 
 pub overflow_sub-below-2 : goal.overflow_sub-below-2
-overflow_sub-below-2 c = omega (arith, level c.requires.0, level (pattern-child c.requires.0 c.mark_at.ensures.0 c.if-mark_at-ne-VR.false c.body_at-pattern.ensures).accepted)
+overflow_sub-below-2 c = omega (arith, level c.requires.accepted_at, level (pattern-child c.requires.accepted_at c.mark_at.ensures.0 c.if-mark_at-ne-VR.false c.body_at-pattern.ensures).accepted)
 
 pub record_end-ty-requires : goal.record_end-ty-requires
-record_end-ty-requires c = lies (ident-child c.requires.0 c.mark_at.ensures.0 c.if-mark_at-ne-VR.false c.body_at-pattern.ensures c.mark_at-2.ensures.0 c.if-mark_at-ne-BD.false c.body_at-ident.ensures).accepted
+record_end-ty-requires c = lies (ident-child c.requires.accepted_at c.mark_at.ensures.0 c.if-mark_at-ne-VR.false c.body_at-pattern.ensures c.mark_at-2.ensures.0 c.if-mark_at-ne-BD.false c.body_at-ident.ensures).accepted
 
 pub record_end-init-requires : goal.record_end-init-requires
-record_end-init-requires c = lies (pattern-child c.requires.0 c.mark_at.ensures.0 c.if-mark_at-ne-VR.false c.body_at-pattern.ensures).accepted
+record_end-init-requires c = lies (pattern-child c.requires.accepted_at c.mark_at.ensures.0 c.if-mark_at-ne-VR.false c.body_at-pattern.ensures).accepted
 
 pub add_const-safe-requires : goal.add_const-safe-requires
-add_const-safe-requires c = ((init-child c.requires.0 c.mark_at.ensures.0 c.if-mark_at-ne-VR.false c.body_at-pattern.ensures c.record_end-init.ensures).accepted, (type-child c.requires.0 c.mark_at.ensures.0 c.if-mark_at-ne-VR.false c.body_at-pattern.ensures c.mark_at-2.ensures.0 c.if-mark_at-ne-BD.false c.body_at-ident.ensures c.record_end-ty.ensures).accepted)
+add_const-safe-requires c = record { accepted_at = (init-child c.requires.accepted_at c.mark_at.ensures.0 c.if-mark_at-ne-VR.false c.body_at-pattern.ensures c.record_end-init.ensures).accepted; accepted_at_2 = (type-child c.requires.accepted_at c.mark_at.ensures.0 c.if-mark_at-ne-VR.false c.body_at-pattern.ensures c.mark_at-2.ensures.0 c.if-mark_at-ne-BD.false c.body_at-ident.ensures c.record_end-ty.ensures).accepted }
 
 pub add_const-array-requires : goal.add_const-array-requires
-add_const-array-requires c = ((init-child c.requires.0 c.mark_at.ensures.0 c.if-mark_at-ne-VR.false c.body_at-pattern.ensures c.record_end-init.ensures).accepted, (type-child c.requires.0 c.mark_at.ensures.0 c.if-mark_at-ne-VR.false c.body_at-pattern.ensures c.mark_at-2.ensures.0 c.if-mark_at-ne-BD.false c.body_at-ident.ensures c.record_end-ty.ensures).accepted)
+add_const-array-requires c = record { accepted_at = (init-child c.requires.accepted_at c.mark_at.ensures.0 c.if-mark_at-ne-VR.false c.body_at-pattern.ensures c.record_end-init.ensures).accepted; accepted_at_2 = (type-child c.requires.accepted_at c.mark_at.ensures.0 c.if-mark_at-ne-VR.false c.body_at-pattern.ensures c.mark_at-2.ensures.0 c.if-mark_at-ne-BD.false c.body_at-ident.ensures c.record_end-ty.ensures).accepted }
 
 pub insert-requires : goal.insert-requires
-insert-requires c = (c.requires.1.sorted, (room-one c.requires.1 (omega (arith, declarator-long c.requires.0 c.mark_at.ensures.0 c.if-mark_at-ne-VR.false c.body_at-pattern.ensures c.mark_at-2.ensures.0 c.if-mark_at-ne-BD.false c.body_at-ident.ensures c.record_end-ty.ensures c.record_end-init.ensures, end-inside _ _ _ c.requires.0)), (fits (ident-child c.requires.0 c.mark_at.ensures.0 c.if-mark_at-ne-VR.false c.body_at-pattern.ensures c.mark_at-2.ensures.0 c.if-mark_at-ne-BD.false c.body_at-ident.ensures).accepted, c.requires.1.short)))
+insert-requires c = record { sorted = c.requires.room.sorted; from_nonzero = room-one c.requires.room (omega (arith, declarator-long c.requires.accepted_at c.mark_at.ensures.0 c.if-mark_at-ne-VR.false c.body_at-pattern.ensures c.mark_at-2.ensures.0 c.if-mark_at-ne-BD.false c.body_at-ident.ensures c.record_end-ty.ensures c.record_end-init.ensures, end-inside _ _ _ c.requires.accepted_at)); id_in_bounds = fits (ident-child c.requires.accepted_at c.mark_at.ensures.0 c.if-mark_at-ne-VR.false c.body_at-pattern.ensures c.mark_at-2.ensures.0 c.if-mark_at-ne-BD.false c.body_at-ident.ensures).accepted; tree_len_bound = c.requires.room.short }
 
 pub shape_of-table : goal.shape_of-table
-shape_of-table c = c.insert.ensures.1.same
+shape_of-table c = c.insert.ensures.grown.same
 
 pub returns : goal.returns
-returns c = filled-one c.requires.1 c.insert.ensures.0 c.insert.ensures.1 (declarator-long c.requires.0 c.mark_at.ensures.0 c.if-mark_at-ne-VR.false c.body_at-pattern.ensures c.mark_at-2.ensures.0 c.if-mark_at-ne-BD.false c.body_at-ident.ensures c.record_end-ty.ensures c.record_end-init.ensures) (λ q t. declarator-one c.requires.0 c.mark_at.ensures.0 c.if-mark_at-ne-VR.false c.body_at-pattern.ensures c.mark_at-2.ensures.0 c.if-mark_at-ne-BD.false c.body_at-ident.ensures c.record_end-ty.ensures c.record_end-init.ensures c.add_const-safe.ensures c.add_const-array.ensures q t)
+returns c = filled-one c.requires.room c.insert.ensures.enters c.insert.ensures.grown (declarator-long c.requires.accepted_at c.mark_at.ensures.0 c.if-mark_at-ne-VR.false c.body_at-pattern.ensures c.mark_at-2.ensures.0 c.if-mark_at-ne-BD.false c.body_at-ident.ensures c.record_end-ty.ensures c.record_end-init.ensures) (λ q t. declarator-one c.requires.accepted_at c.mark_at.ensures.0 c.if-mark_at-ne-VR.false c.body_at-pattern.ensures c.mark_at-2.ensures.0 c.if-mark_at-ne-BD.false c.body_at-ident.ensures c.record_end-ty.ensures c.record_end-init.ensures c.add_const-safe.ensures c.add_const-array.ensures q t)

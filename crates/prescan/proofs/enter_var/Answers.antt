@@ -15,25 +15,25 @@ use Rattle.prescan.proofs.Tables.{Vars, Filling, filling_start, filling_turn, fi
 use Rattle.prescan.proofs.enter_var.Goals as goal
 
 pub read_head-head-requires : goal.read_head-head-requires
-read_head-head-requires c = room c.requires.0
+read_head-head-requires c = room c.requires.accepted_at
 
 pub returns-then-not-has_flag : goal.returns-then-not-has_flag
-returns-then-not-has_flag c = filled_none c.requires.1 (omega (arith, end_after _ _ _ c.requires.0)) (λ q t. var-other c.requires.0 (ap (λ h. h.flags) c.read_head-head.ensures) q t (sym c.has_flag.ensures ∙ not-true _ c.if-not-has_flag.true-raw))
+returns-then-not-has_flag c = filled_none c.requires.room (omega (arith, end_after _ _ _ c.requires.accepted_at)) (λ q t. var-other c.requires.accepted_at (ap (λ h. h.flags) c.read_head-head.ensures) q t (sym c.has_flag.ensures ∙ not-true _ c.if-not-has_flag.true-raw))
 
 pub body_at-declarator-requires : goal.body_at-declarator-requires
-body_at-declarator-requires c = room c.requires.0
+body_at-declarator-requires c = room c.requires.accepted_at
 
 pub loop-rest-init : goal.loop-rest-init
-loop-rest-init c = filling_start Vars c.requires.0 c.requires.1 (ap (λ h. h.count) c.read_head-head.ensures) c.body_at-declarator.ensures
+loop-rest-init c = filling_start Vars c.requires.accepted_at c.requires.room (ap (λ h. h.count) c.read_head-head.ensures) c.body_at-declarator.ensures
 
 pub overflow_sub-levels : goal.overflow_sub-levels
-overflow_sub-levels c = omega (arith, level c.requires.0)
+overflow_sub-levels c = omega (arith, level c.requires.accepted_at)
 
 pub enter_declarator-filled-requires : goal.enter_declarator-filled-requires
-enter_declarator-filled-requires c = (left-first c.loop-rest.invariant.left c.loop-rest-test.true, c.loop-rest.invariant.room)
+enter_declarator-filled-requires c = record { accepted_at = left-first c.loop-rest.invariant.left c.loop-rest-test.true; room = c.loop-rest.invariant.room }
 
 pub overflow_sub-levels-in-loop-rest : goal.overflow_sub-levels-in-loop-rest
-overflow_sub-levels-in-loop-rest c = omega (arith, level c.requires.0)
+overflow_sub-levels-in-loop-rest c = omega (arith, level c.requires.accepted_at)
 
 pub record_end-declarator-requires : goal.record_end-declarator-requires
 record_end-declarator-requires c = lies (left-first c.loop-rest.invariant.left c.loop-rest-test.true)
@@ -51,4 +51,4 @@ pub shape_of-table : goal.shape_of-table
 shape_of-table c = c.loop-rest.invariant.filled.same
 
 pub returns : goal.returns
-returns c = filled_eq (omega arith) (λ q t. var-const c.requires.0 (ap (λ h. h.flags) c.read_head-head.ensures) q t (sym c.has_flag.ensures ∙ not-false _ c.if-not-has_flag.false-raw)) (filling_done c.loop-rest.invariant declares-none c.loop-rest-test.false)
+returns c = filled_eq (omega arith) (λ q t. var-const c.requires.accepted_at (ap (λ h. h.flags) c.read_head-head.ensures) q t (sym c.has_flag.ensures ∙ not-false _ c.if-not-has_flag.false-raw)) (filling_done c.loop-rest.invariant declares-none c.loop-rest-test.false)

@@ -13,19 +13,19 @@ use Rattle.prescan.proofs.Tables.{Items, Filling, room-start, filling_start, fil
 use Rattle.prescan.proofs.index.Goals as goal
 
 pub count_at-rest-requires : goal.count_at-rest-requires
-count_at-rest-requires c = room c.requires.0
+count_at-rest-requires c = room c.requires.accepted_at
 
 pub body_at-item-requires : goal.body_at-item-requires
-body_at-item-requires c = room c.requires.0
+body_at-item-requires c = room c.requires.accepted_at
 
 pub loop-rest-init : goal.loop-rest-init
-loop-rest-init c = filling_start Items c.requires.0 (room-start c.requires.1.0 c.requires.1.1 refl) c.count_at-rest.ensures.0 c.body_at-item.ensures
+loop-rest-init c = filling_start Items c.requires.accepted_at (room-start c.requires.tree_len_bound c.requires.tree_len_bound_2 refl) c.count_at-rest.ensures.0 c.body_at-item.ensures
 
 pub overflow_sub-enter_item : goal.overflow_sub-enter_item
 overflow_sub-enter_item c = omega arith
 
 pub enter_item-filled-requires : goal.enter_item-filled-requires
-enter_item-filled-requires c = (left-first c.loop-rest.invariant.left c.loop-rest-test.true, c.loop-rest.invariant.room)
+enter_item-filled-requires c = record { accepted_at = left-first c.loop-rest.invariant.left c.loop-rest-test.true; room = c.loop-rest.invariant.room }
 
 pub overflow_sub-record_end : goal.overflow_sub-record_end
 overflow_sub-record_end c = omega arith

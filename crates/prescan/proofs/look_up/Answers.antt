@@ -10,7 +10,7 @@ use borrow.Author.Rules.{rules}
 use Rattle.prescan.proofs.look_up.Goals as goal
 
 pub text_at-name-requires : goal.text_at-name-requires
-text_at-name-requires c = fits c.requires.0
+text_at-name-requires c = fits c.requires.accepted_at
 
 pub bounds-index-p : goal.bounds-index-p
 bounds-index-p c = omega (arith, hit-within c.place-p.ensures (sym c.stands.ensures ∙ c.if-stands.true))
@@ -22,13 +22,13 @@ pub bounds-index-p-in-ArrayTyped : goal.bounds-index-p-in-ArrayTyped
 bounds-index-p-in-ArrayTyped c = omega (arith, hit-within c.place-p.ensures (sym c.stands.ensures ∙ c.if-stands.true))
 
 pub returns-in-TypeofSafe : goal.returns-in-TypeofSafe
-returns-in-TypeofSafe c = rw c.in-TypeofSafe.is (c.bit.ensures ∙ sym (look_hit c.requires.1 c.place-p.ensures c.text_at-name.ensures typeof_safe (sym c.stands.ensures ∙ c.if-stands.true)))
+returns-in-TypeofSafe c = rw c.in-TypeofSafe.is (c.bit.ensures ∙ sym (look_hit c.requires.indexed c.place-p.ensures c.text_at-name.ensures typeof_safe (sym c.stands.ensures ∙ c.if-stands.true)))
 
 pub returns-in-NonGenericClass : goal.returns-in-NonGenericClass
-returns-in-NonGenericClass c = rw c.in-NonGenericClass.is (c.bit-in-NonGenericClass.ensures ∙ sym (look_hit c.requires.1 c.place-p.ensures c.text_at-name.ensures non_generic_class (sym c.stands.ensures ∙ c.if-stands.true)))
+returns-in-NonGenericClass c = rw c.in-NonGenericClass.is (c.bit-in-NonGenericClass.ensures ∙ sym (look_hit c.requires.indexed c.place-p.ensures c.text_at-name.ensures non_generic_class (sym c.stands.ensures ∙ c.if-stands.true)))
 
 pub returns-in-ArrayTyped : goal.returns-in-ArrayTyped
-returns-in-ArrayTyped c = rw c.in-ArrayTyped.is (c.bit-in-ArrayTyped.ensures ∙ sym (look_hit c.requires.1 c.place-p.ensures c.text_at-name.ensures array_typed (sym c.stands.ensures ∙ c.if-stands.true)))
+returns-in-ArrayTyped c = rw c.in-ArrayTyped.is (c.bit-in-ArrayTyped.ensures ∙ sym (look_hit c.requires.indexed c.place-p.ensures c.text_at-name.ensures array_typed (sym c.stands.ensures ∙ c.if-stands.true)))
 
 pub returns : goal.returns
-returns c = sym (look-miss c.requires.1 c.place-p.ensures c.text_at-name.ensures (meant c.args.question) (sym c.stands.ensures ∙ c.if-stands.false))
+returns c = sym (look-miss c.requires.indexed c.place-p.ensures c.text_at-name.ensures (meant c.args.question) (sym c.stands.ensures ∙ c.if-stands.false))

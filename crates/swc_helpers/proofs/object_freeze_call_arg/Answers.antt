@@ -4,7 +4,7 @@ use Rattle.std.proofs.Common.{sym, ◌∙◌, inl, inr, arith}
 use borrow.Author.Tests.{not-true, not-false}
 use Rattle.definition.proofs.Children.{itself}
 use Rattle.swc_helpers.proofs.Made.{is_whole}
-use Rattle.swc_helpers.proofs.Calls.{
+use Rattle.swc_helpers.proofs.Calls.{ level, Call, Freeze, Plain, Followed, callee_accepted, other_callee, no_argument, arg-accepted, op_or_spread, last_one, next-accepted, then_ops, more_args, }
 use Rattle.swc_helpers.proofs.object_freeze_call_arg.Goals as goal
 
 call : (c : tie.After-body-at) → Call c.before.before.args.levels c.before.before.args.tree.now c.before.before.args.at c.body_at.result

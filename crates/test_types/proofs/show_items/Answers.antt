@@ -20,7 +20,7 @@ pub overflow_sub-show_item : goal.overflow_sub-show_item
 overflow_sub-show_item c = omega arith
 
 pub show_item-requires : goal.show_item-requires
-show_item-requires c = (first_one (deepest - 1) c.args.tree.now c.loop-n.n c.loop-n.item c.loop-n.invariant c.loop-n-test.true, c.requires.1)
+show_item-requires c = record { accepted_at = first_one (deepest - 1) c.args.tree.now c.loop-n.n c.loop-n.item c.loop-n.invariant c.loop-n-test.true; indexed = c.requires.1 }
 
 pub overflow_sub-record_end : goal.overflow_sub-record_end
 overflow_sub-record_end c = omega arith

@@ -4,4 +4,4 @@ use borrow.Author.Rules.{rules}
 use Rattle.transform_dts.proofs.with_large_table.Goals as goal
 
 pub with_table-requires : goal.with_table-requires
-with_table-requires c = (c.requires.0, (c.requires.1, omega (arith, c.requires.1)))
+with_table-requires c = record { accepted_at = c.requires.0; tree_len_bound = c.requires.1; tree_len_bound_2 = omega (arith, c.requires.1) }

@@ -6,4 +6,4 @@ use borrow.Author.Rules.{rules}
 use Rattle.transform_dts.proofs.with_table.Goals as goal
 
 pub dry_run_and_run-requires : goal.dry_run_and_run-requires
-dry_run_and_run-requires c = let e = c.index-names.result in let z : e.from + e.count - e.from ≡ e.count = omega arith in (c.requires.0, rw z c.index-names.ensures.0)
+dry_run_and_run-requires c = let e = c.index-names.result in let z : e.from + e.count - e.from ≡ e.count = omega arith in (c.requires.accepted_at, rw z c.index-names.ensures.0)

@@ -32,7 +32,7 @@ overflow_sub-levels-2 c = omega (arith, some_left _ _ _ c.requires.0.accepted)
 
 pub ident_to_ts_type-made-requires : goal.ident_to_ts_type-made-requires
 unfolding marks
-ident_to_ts_type-made-requires c = let k = placed (sh-ident _ _ _ c.requires.0.accepted c.requires.1) c.body_at-ident.ensures in ((k.accepted, member-one _ _ k.marks), c.requires.0.indexed)
+ident_to_ts_type-made-requires c = let k = placed (sh-ident _ _ _ c.requires.0.accepted c.requires.1) c.body_at-ident.ensures in record { accepted_at = (k.accepted, member-one _ _ k.marks); indexed = c.requires.0.indexed }
 
 pub skipped-requires : goal.skipped-requires
 skipped-requires c = (itself _ _ _ c.requires.0.accepted).room

@@ -29,13 +29,13 @@ pub overflow_sub-levels-in-25666 : goal.overflow_sub-levels-in-25666
 overflow_sub-levels-in-25666 c = omega (arith, some_left _ _ _ c.requires.0.accepted)
 
 pub optional_ident-requires : goal.optional_ident-requires
-optional_ident-requires c = let k = kids-two _ _ _ c.requires.0.accepted (has (mark "Ag") _ _ _ c.requires.0.accepted c.requires.1) c.body_at-pattern.ensures c.record_end-right.ensures refl in ((k.first, sym c.mark_at.ensures.0 ∙ c.in-25666.is), ready_kid c.requires.0 k.second k.low1 refl)
+optional_ident-requires c = let k = kids-two _ _ _ c.requires.0.accepted (has (mark "Ag") _ _ _ c.requires.0.accepted c.requires.1) c.body_at-pattern.ensures c.record_end-right.ensures refl in record { accepted_at = (k.first, sym c.mark_at.ensures.0 ∙ c.in-25666.is); ready = ready_kid c.requires.0 k.second k.low1 refl }
 
 pub overflow_sub-levels-in-25168 : goal.overflow_sub-levels-in-25168
 overflow_sub-levels-in-25168 c = omega (arith, some_left _ _ _ c.requires.0.accepted)
 
 pub optional_box-requires : goal.optional_box-requires
-optional_box-requires c = let k = kids-two _ _ _ c.requires.0.accepted (has (mark "Ag") _ _ _ c.requires.0.accepted c.requires.1) c.body_at-pattern.ensures c.record_end-right.ensures refl in (k.first, (either-mark c.mark_at.ensures.0 c.in-25168.is, ready_kid c.requires.0 k.second k.low1 refl))
+optional_box-requires c = let k = kids-two _ _ _ c.requires.0.accepted (has (mark "Ag") _ _ _ c.requires.0.accepted c.requires.1) c.body_at-pattern.ensures c.record_end-right.ensures refl in record { accepted_at = k.first; fact = either-mark c.mark_at.ensures.0 c.in-25168.is; ready = ready_kid c.requires.0 k.second k.low1 refl }
 
 pub returns-in-25666 : goal.returns-in-25666
 returns-in-25666 c = makes-as c.optional_ident.ensures (assign_ident (typing_of c.args.tree.now c.args.scope) _ _ _ _ (kids-two _ _ _ c.requires.0.accepted (has (mark "Ag") _ _ _ c.requires.0.accepted c.requires.1) c.body_at-pattern.ensures c.record_end-right.ensures refl) (sym c.mark_at.ensures.0 ∙ c.in-25666.is))

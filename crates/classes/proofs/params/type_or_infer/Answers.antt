@@ -8,10 +8,10 @@ use borrow.Author.Rules.{rules}
 use Rattle.classes.proofs.params.type_or_infer.Goals as goal
 
 pub mark_at-requires : goal.mark_at-requires
-mark_at-requires c = (itself _ _ _ c.requires.0).room
+mark_at-requires c = (itself _ _ _ c.requires.accepted_at).room
 
 pub overflow_sub-levels : goal.overflow_sub-levels
-overflow_sub-levels c = omega (arith, some_left _ _ _ c.requires.1.accepted)
+overflow_sub-levels c = omega (arith, some_left _ _ _ c.requires.ready.accepted)
 
 pub returns-then-mark_at-ne-NO : goal.returns-then-mark_at-ne-NO
 returns-then-mark_at-ne-NO c = makes-as (makes-keeps _ c.keep.ensures (omega (arith, c.well_formed))) (or_given _ _ _ _ _ (λ e. c.if-mark_at-ne-NO.true (c.mark_at.ensures.0 ∙ e)))

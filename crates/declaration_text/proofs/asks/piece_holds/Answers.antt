@@ -7,26 +7,26 @@ use borrow.Author.Rules.{rules}
 use Rattle.declaration_text.proofs.asks.piece_holds.Goals as goal
 
 pub cell-number-requires : goal.cell-number-requires
-cell-number-requires c = (c.requires.0.0, omega (arith, c.requires.0.1))
+cell-number-requires c = (c.requires.rows_value.0, omega (arith, c.requires.rows_value.1))
 
 pub cell-requires : goal.cell-requires
-cell-requires c = (c.requires.0.0, omega (arith, c.requires.0.1))
+cell-requires c = (c.requires.rows_value.0, omega (arith, c.requires.rows_value.1))
 
 pub flag_is_set-requires : goal.flag_is_set-requires
-flag_is_set-requires c = room c.requires.1
+flag_is_set-requires c = room c.requires.accepted_at
 
 pub flag_is_set-requires-in-2 : goal.flag_is_set-requires-in-2
-flag_is_set-requires-in-2 c = room c.requires.1
+flag_is_set-requires-in-2 c = room c.requires.accepted_at
 
 pub flag_is_set-requires-in-3 : goal.flag_is_set-requires-in-3
-flag_is_set-requires-in-3 c = room c.requires.1
+flag_is_set-requires-in-3 c = room c.requires.accepted_at
 
 pub returns-then-flag_is_set : goal.returns-then-flag_is_set
 unfolding head_at
 returns-then-flag_is_set c = held_setter _ _ _ c.cell.ensures c.cell-number.ensures c.in-3.is c.flag_is_set-in-3.ensures c.if-flag_is_set.true
 
 pub flag_is_set-requires-in-3-2 : goal.flag_is_set-requires-in-3-2
-flag_is_set-requires-in-3-2 c = room c.requires.1
+flag_is_set-requires-in-3-2 c = room c.requires.accepted_at
 
 pub returns-then-under : goal.returns-then-under
 returns-then-under c = held_under _ _ _ c.cell.ensures c.cell-number.ensures c.in_default.in_default-own.rest.0.0.0.0.0.0.0.0.1 c.in_default.in_default-own.rest.0.0.0.0.0.0.0.1 c.in_default.in_default-own.rest.0.0.0.0.0.0.1 c.in_default.in_default-own.rest.0.0.0.0.0.1 c.in_default.in_default-own.rest.0.0.0.0.1 c.in_default.in_default-own.rest.0.0.0.1 c.in_default.in_default-own.rest.0.0.1 c.in_default.in_default-own.rest.0.1 c.in_default.in_default-own.rest.1 c.if-under.true

@@ -7,7 +7,7 @@ use borrow.Author.Rules.{rules}
 use Rattle.depth_counts.proofs.walk.count_plain.Goals as goal
 
 pub count_marks-requires : goal.count_marks-requires
-count_marks-requires c = dry_asked c.args.s _ c.transform_module_item-made.ensures c.requires.1.1 (omega (arith, c.well_formed)) (item-kinds _ _ _ _ _ _) refl _ c.requires.0.1 c.requires.1.0
+count_marks-requires c = dry_asked c.args.s _ c.transform_module_item-made.ensures c.requires.holds (omega (arith, c.well_formed)) (item-kinds _ _ _ _ _ _) refl _ c.requires.ready.1 c.requires.small
 
 pub returns : goal.returns
-returns c = dry_done c.args.s _ c.transform_module_item-made.ensures c.requires.1.1 (omega (arith, c.well_formed)) (item-kinds _ _ _ _ _ _) refl _ c.count_marks.ensures
+returns c = dry_done c.args.s _ c.transform_module_item-made.ensures c.requires.holds (omega (arith, c.well_formed)) (item-kinds _ _ _ _ _ _) refl _ c.count_marks.ensures

@@ -8,16 +8,16 @@ use borrow.Author.Rules.{rules}
 use Rattle.items.proofs.decls.with_class.Goals as goal
 
 pub begin_with-ident-requires : goal.begin_with-ident-requires
-begin_with-ident-requires c = c.requires.0.accepted
+begin_with-ident-requires c = c.requires.ready.accepted
 
 pub keep_next-class-requires : goal.keep_next-class-requires
-keep_next-class-requires c = record { left = c.begin_with-ident.ensures.left; more = omega (arith, class-two _ _ _ c.requires.0.accepted c.requires.1) }
+keep_next-class-requires c = record { left = c.begin_with-ident.ensures.left; more = omega (arith, class-two _ _ _ c.requires.ready.accepted c.requires.fact) }
 
 pub class_body_to_type-next-requires : goal.class_body_to_type-next-requires
-class_body_to_type-next-requires c = (ready_second c.begin_with-ident.ensures c.requires.0 c.keep_next-class.ensures (omega (arith, class-two _ _ _ c.requires.0.accepted c.requires.1)), class_cl _ _ _ c.requires.0.accepted c.requires.1 (second-place c.begin_with-ident.ensures c.keep_next-class.ensures.passed))
+class_body_to_type-next-requires c = (ready_second c.begin_with-ident.ensures c.requires.ready c.keep_next-class.ensures (omega (arith, class-two _ _ _ c.requires.ready.accepted c.requires.fact)), class_cl _ _ _ c.requires.ready.accepted c.requires.fact (second-place c.begin_with-ident.ensures c.keep_next-class.ensures.passed))
 
 pub passed-requires : goal.passed-requires
-passed-requires c = record { left = c.keep_next-class.ensures.passed.left; more = omega (arith, class-two _ _ _ c.requires.0.accepted c.requires.1) }
+passed-requires c = record { left = c.keep_next-class.ensures.passed.left; more = omega (arith, class-two _ _ _ c.requires.ready.accepted c.requires.fact) }
 
 pub finish-requires : goal.finish-requires
 finish-requires c = c.passed.ensures.left

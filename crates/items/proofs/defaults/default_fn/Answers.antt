@@ -10,13 +10,13 @@ use Rattle.items.proofs.Exports.{mark-there}
 use Rattle.items.proofs.defaults.default_fn.Goals as goal
 
 pub begin-function-requires : goal.begin-function-requires
-begin-function-requires c = c.requires.0.0
+begin-function-requires c = c.requires.accepted_at.0
 
 pub bodiless-made-requires : goal.bodiless-made-requires
-bodiless-made-requires c = (begun_first c.begin-function.ensures (omega (arith, has (mark "Xd") _ _ _ c.requires.0.0 c.requires.0.1)), mark-there c.args.tree.now c.args.at c.begin-function.ensures.place c.requires.1)
+bodiless-made-requires c = (begun_first c.begin-function.ensures (omega (arith, has (mark "Xd") _ _ _ c.requires.accepted_at.0 c.requires.accepted_at.1)), mark-there c.args.tree.now c.args.at c.begin-function.ensures.place c.requires.at_value)
 
 pub passed-requires : goal.passed-requires
-passed-requires c = record { left = c.begin-function.ensures.left; more = omega (arith, has (mark "Xd") _ _ _ c.requires.0.0 c.requires.0.1) }
+passed-requires c = record { left = c.begin-function.ensures.left; more = omega (arith, has (mark "Xd") _ _ _ c.requires.accepted_at.0 c.requires.accepted_at.1) }
 
 pub finish-requires : goal.finish-requires
 finish-requires c = c.passed.ensures.left

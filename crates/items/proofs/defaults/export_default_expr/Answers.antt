@@ -36,7 +36,7 @@ pub record_end-rest-requires : goal.record_end-rest-requires
 record_end-rest-requires c = is_whole _ _ _ (xe-kids _ _ _ c.requires.0.accepted c.requires.1 c.body_at-expr.ensures refl).first
 
 pub put_default_name-next-requires : goal.put_default_name-next-requires
-put_default_name-next-requires c = ((c.requires.0.accepted, c.requires.1), second-there _ _ _ c.body_at-expr.ensures c.record_end-rest.ensures)
+put_default_name-next-requires c = record { accepted_at = (c.requires.0.accepted, c.requires.1); rest_value = second-there _ _ _ c.body_at-expr.ensures c.record_end-rest.ensures }
 
 pub keep-next-requires-in-None : goal.keep-next-requires-in-None
 keep-next-requires-in-None c = c.requires.0.accepted

@@ -13,25 +13,25 @@ use borrow.Author.Rules.{rules}
 use Rattle.items.proofs.vars.declarator_ident.Goals as goal
 
 pub begin-ident-requires : goal.begin-ident-requires
-begin-ident-requires c = c.requires.0.0
+begin-ident-requires c = c.requires.accepted_at.0
 
 pub keep_next-type_ann-requires : goal.keep_next-type_ann-requires
-keep_next-type_ann-requires c = record { left = c.begin-ident.ensures.left; more = omega (arith, has (mark "Bd") _ _ _ c.requires.0.0 c.requires.0.1) }
+keep_next-type_ann-requires c = record { left = c.begin-ident.ensures.left; more = omega (arith, has (mark "Bd") _ _ _ c.requires.accepted_at.0 c.requires.accepted_at.1) }
 
 pub mark_at-requires : goal.mark_at-requires
-mark_at-requires c = (itself _ _ _ (passed_first c.keep_next-type_ann.ensures.passed (omega (arith, has (mark "Bd") _ _ _ c.requires.0.0 c.requires.0.1)))).room
+mark_at-requires c = (itself _ _ _ (passed_first c.keep_next-type_ann.ensures.passed (omega (arith, has (mark "Bd") _ _ _ c.requires.accepted_at.0 c.requires.accepted_at.1)))).room
 
 pub finish-requires : goal.finish-requires
 finish-requires c = c.keep_next-type_ann.ensures.passed.left
 
 pub returns-then-mark_at-ne-NO : goal.returns-then-mark_at-ne-NO
-returns-then-mark_at-ne-NO c = binding_kept _ c.args.scope _ _ _ c.begin-ident.ensures c.keep_next-type_ann.ensures _ (told-not c.mark_at.ensures.0 c.if-mark_at-ne-NO.true) (omega (arith, has (mark "Bd") _ _ _ c.requires.0.0 c.requires.0.1)) c.finish.ensures
+returns-then-mark_at-ne-NO c = binding_kept _ c.args.scope _ _ _ c.begin-ident.ensures c.keep_next-type_ann.ensures _ (told-not c.mark_at.ensures.0 c.if-mark_at-ne-NO.true) (omega (arith, has (mark "Bd") _ _ _ c.requires.accepted_at.0 c.requires.accepted_at.1)) c.finish.ensures
 
 pub declarator_type-typed-requires : goal.declarator_type-typed-requires
-declarator_type-typed-requires c = (c.requires.0.0, ready_on c.requires.1 (puts-counter c.keep_next-type_ann.ensures.put ∙ puts-counter c.begin-ident.ensures.front))
+declarator_type-typed-requires c = record { accepted_at = c.requires.accepted_at.0; ready = ready_on c.requires.ready (puts-counter c.keep_next-type_ann.ensures.put ∙ puts-counter c.begin-ident.ensures.front) }
 
 pub passed-requires : goal.passed-requires
-passed-requires c = record { left = c.keep_next-type_ann.ensures.passed.left; more = omega (arith, has (mark "Bd") _ _ _ c.requires.0.0 c.requires.0.1) }
+passed-requires c = record { left = c.keep_next-type_ann.ensures.passed.left; more = omega (arith, has (mark "Bd") _ _ _ c.requires.accepted_at.0 c.requires.accepted_at.1) }
 
 pub finish-requires-2 : goal.finish-requires-2
 finish-requires-2 c = c.passed.ensures.left

@@ -37,7 +37,7 @@ pub overflow_sub-levels-3 : goal.overflow_sub-levels-3
 overflow_sub-levels-3 c = omega (arith, some_left _ _ _ c.requires.0.accepted)
 
 pub declarator_ident-requires : goal.declarator_ident-requires
-declarator_ident-requires c = let u = vr-kids _ _ _ c.requires.0.accepted c.requires.1 c.body_at-pattern.ensures c.record_end-init.ensures refl in ((u.first, told c.mark_at.ensures.0 c.if-mark_at-ne-BD.false), ready_kid c.requires.0 u.second u.low1 refl)
+declarator_ident-requires c = let u = vr-kids _ _ _ c.requires.0.accepted c.requires.1 c.body_at-pattern.ensures c.record_end-init.ensures refl in record { accepted_at = (u.first, told c.mark_at.ensures.0 c.if-mark_at-ne-BD.false); ready = ready_kid c.requires.0 u.second u.low1 refl }
 
 pub returns : goal.returns
 returns c = pattern-ident _ c.args.scope _ _ (vr-kids _ _ _ c.requires.0.accepted c.requires.1 c.body_at-pattern.ensures c.record_end-init.ensures refl) (told c.mark_at.ensures.0 c.if-mark_at-ne-BD.false) c.declarator_ident.ensures

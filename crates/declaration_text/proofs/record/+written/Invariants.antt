@@ -1,0 +1,58 @@
+-- The cycle of `write`: each member meets its contract, and the levels that are left fall.
+use Prim.Native.Nat.{ℕ}
+use native.Mathlib.Omega.{arith}
+use mathlib.Core.Path.{ap, ◌∙◌, sym}
+use lib.Dec.{eqb}
+use Rattle.definition.specs.Grammar.{mark}
+use Rattle.records.proofs.Accepted.{room, level, fits, lies}
+use Rattle.definition.proofs.Kids.{rest-accepted, all_others}
+use Rattle.text_tokens.proofs.Writes.{writes_as, writes-same, writes_then}
+use Rattle.declaration_text.specs.Table.{each_by}
+use Rattle.declaration_text.proofs.Written.{writes_nothing, none-behind, some-behind, braced-some, braced-none, braces_none, braces_some, no_child_lem, child-tokens, number-alone, number-spelt, piece-not, piece-token, piece-child, piece-ops, piece-list, piece-members, piece-template, piece-text, piece-symbol, piece_string, piece-number, piece-integer, template_of_lem, op-written, no_op, op_left_out, element-comma, element-last, no_member, member-closed, member-ends, member_follows, Telling, telling_start, telling_first, telling_turn, telling_done, Turning, turns_of, template-is, turning_start, turning_quasi, turning_expression, turning_turn, turning_done, Reading, reading-start, reading-turn, reading-end, reading-done, plain-token, name-token}
+use borrow.Author.Rules.{rules}
+use Rattle.declaration_text.proofs.Children.{kid-accepted}
+use borrow.Author.Tests.{not-true, not-false}
+use Rattle.definition.proofs.Children.{children, first_one}
+use Rattle.definition.specs.Tree.{head_at, tree_at}
+use Rattle.definition.specs.Text.{each_of, tokens}
+use Rattle.declaration_text.specs.Steps.{children_at, children_of}
+use Rattle.declaration_text.proofs.record.+written.Given as goal
+
+abbrev pub decreases-write : goal.decreases-write
+decreases-write l = 6 * l.levels + 3
+
+abbrev pub decreases-template : goal.decreases-template
+decreases-template l = 6 * l.levels + 5
+
+abbrev pub decreases-siblings : goal.decreases-siblings
+decreases-siblings l = 6 * l.levels + 5
+
+abbrev pub decreases-sibling : goal.decreases-sibling
+decreases-sibling l = 6 * l.levels + 4
+
+abbrev pub decreases-piece : goal.decreases-piece
+decreases-piece l = 6 * l.levels + 2
+
+abbrev pub decreases-number : goal.decreases-number
+decreases-number l = 6 * l.levels + 1
+
+abbrev pub decreases-child : goal.decreases-child
+decreases-child l = 6 * l.levels + 0
+
+abbrev pub decreases-braces : goal.decreases-braces
+decreases-braces l = 6 * l.levels + 4
+
+abbrev pub decreases-behind : goal.decreases-behind
+decreases-behind l = 6 * l.levels + 0
+
+abbrev pub invariant-siblings-loop-k : goal.invariant-siblings-loop-k
+invariant-siblings-loop-k l = Telling (each_by l.what) l.levels l.tree l.under (each_of (each_by l.what) (children_at l.levels l.tree l.under l.n l.at)) l.initial.out l.out l.initial.next l.next l.k l.child
+
+abbrev pub decreases-siblings-loop-k : goal.decreases-siblings-loop-k
+decreases-siblings-loop-k l = l.k
+
+abbrev pub invariant-write-loop-n : goal.invariant-write-loop-n
+invariant-write-loop-n l = Reading l.row l.under l.at (head_at l.tree l.at) (children_of l.levels l.tree l.at) (tokens (tree_at l.levels l.tree l.at) l.under l.at) l.initial.out l.out l.initial.next l.next l.i l.n
+
+abbrev pub decreases-write-loop-n : goal.decreases-write-loop-n
+decreases-write-loop-n l = l.n
