@@ -9,7 +9,7 @@ use Rattle.grammar.specs.Answers.{checked}
 use Rattle.console.proofs.print_check.Goals as goal
 
 pub returns-in-Fine : goal.returns-in-Fine
-returns-in-Fine c = let fine = sym c.check_tree.ensures ∙ ap checked c.in-Fine.is in (root-accepted _ _ _ fine, (accepted-tree _ _ _ fine).0.short)
+returns-in-Fine g c = let fine = sym c.check_tree.ensures ∙ ap checked c.in-Fine.is in (root-accepted _ _ _ fine, (accepted-tree _ _ _ fine).0.short)
 
 pub returns-in-Refused : goal.returns-in-Refused
-returns-in-Refused c = absurd (let z : ◌≡◌ {A = ℕ} 0 1 = cc in omega arith)
+returns-in-Refused g c = absurd (let z : ◌≡◌ {A = ℕ} 0 1 = cc in omega arith)
