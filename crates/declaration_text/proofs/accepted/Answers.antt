@@ -23,7 +23,7 @@ pub returns-then-out-dry : goal.returns-then-out-dry
 returns-then-out-dry c = text_too_long c.put_module-dry.ensures _ (omega arith) (omega arith)
 
 pub slice_bounds-put_module-end-7 : goal.slice_bounds-put_module-end-7
-slice_bounds-put_module-end-7 c = omega (arith, part_length c.put_module-dry.result.written c.put_module-dry.new.1.1.1.0 c.args.out.now (omega arith))
+slice_bounds-put_module-end-7 c = omega (arith, part_length c.put_module-dry.result.written c.put_module-dry.new.out c.args.out.now (omega arith))
 
 pub put_module-requires : goal.put_module-requires
 put_module-requires c = (record { rows_are = c.rows-rows.ensures; words_are = c.words-words.ensures }, accepted-root c.requires)

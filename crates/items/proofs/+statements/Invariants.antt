@@ -1,5 +1,5 @@
 -- The cycle of `transform_module_items`: each member meets its contract, and the remaining depth falls.
-use Prim.Native.Nat.{ℕ}
+use Prim.Native.Nat.{ℕ, ◌+◌, ◌*◌, suc}
 use borrow.Author.Rules.{rules}
 use mathlib.Core.Path.{◌∙◌, refl}
 use mathlib.Core.Logic.{inl}

@@ -7,4 +7,4 @@ use Rattle.names.proofs.Keys.{key-as, key-literal, key-ident, key-other, key-sym
 use Rattle.names.proofs.+prop_name_from_expr.Given as goal
 
 abbrev pub decreases-prop_name_from_expr : goal.decreases-prop_name_from_expr
-decreases-prop_name_from_expr l = ?
+decreases-prop_name_from_expr l = l.levels

@@ -7,4 +7,4 @@ use Rattle.prescan.proofs.Laws.{init-array, init-other, through_child, init_thro
 use Rattle.prescan.proofs.+is_array_lit_init.Given as goal
 
 abbrev pub decreases-is_array_lit_init : goal.decreases-is_array_lit_init
-decreases-is_array_lit_init l = ?
+decreases-is_array_lit_init l = l.levels

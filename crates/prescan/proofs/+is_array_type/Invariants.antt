@@ -7,4 +7,4 @@ use Rattle.prescan.proofs.Laws.{type-array, type-other, readonly_child, type_rea
 use Rattle.prescan.proofs.+is_array_type.Given as goal
 
 abbrev pub decreases-is_array_type : goal.decreases-is_array_type
-decreases-is_array_type l = ?
+decreases-is_array_type l = l.levels

@@ -7,12 +7,6 @@ use Rattle.swc_helpers.proofs.Made.{is_whole}
 use Rattle.swc_helpers.proofs.Calls.{level, Member, OfObject, no_member, object_accepted, no_object, property-accepted, no_property, a-property}
 use Rattle.swc_helpers.proofs.is_object_freeze.Goals as goal
 
-member : (c : tie.After-body-at) → Member c.before.before.before.before.args.levels c.before.before.before.before.args.tree.now c.before.before.before.before.args.at c.body_at.result
-member c = record { it = c.before.before.before.before.requires; marked = sym c.before.before.mark-at.ensures.0 ∙ c.before.if1.false; body = c.body_at.ensures }
-
-of_object : (c : tie.After-record-end) → OfObject c.before.before.before.before.before.before.before.before.args.levels c.before.before.before.before.before.before.before.before.args.tree.now c.before.before.before.before.before.before.before.before.args.at c.before.before.before.before.before.before.before.before.args.unresolved c.before.before.before.before.body_at.result c.record-end.result
-of_object c = record { member = member c.before.before.before.before; global = sym c.before.before.is-global.ensures ∙ not-false _ c.before.if2.false; behind = c.record-end.ensures }
-
 pub mark_at-requires : goal.mark_at-requires
 mark_at-requires c = (itself _ _ _ c.requires).room
 
@@ -26,25 +20,36 @@ pub overflow_sub-levels : goal.overflow_sub-levels
 overflow_sub-levels c = level _ _ _ c.requires
 
 pub is_global-requires : goal.is_global-requires
-is_global-requires c = object_accepted (member c.before)
+is_global-requires c = let member : Member c.args.levels c.args.tree.now c.args.at c.body_at-obj.result = record { it = c.requires; marked = sym c.mark_at.ensures.0 ∙ c.if-mark_at-ne-MB.false; body = c.body_at-obj.ensures } in
+    object_accepted member
 
 pub returns-then-not-is_global : goal.returns-then-not-is_global
-returns-then-not-is_global c = no_object (member c.before.before.before) _ (sym c.is_global.ensures ∙ not-true _ c.if-not-is_global.true-raw)
+returns-then-not-is_global c = let member : Member c.args.levels c.args.tree.now c.args.at c.body_at-obj.result = record { it = c.requires; marked = sym c.mark_at.ensures.0 ∙ c.if-mark_at-ne-MB.false; body = c.body_at-obj.ensures } in
+    no_object member _ (sym c.is_global.ensures ∙ not-true _ c.if-not-is_global.true-raw)
 
 pub overflow_sub-levels-2 : goal.overflow_sub-levels-2
 overflow_sub-levels-2 c = level _ _ _ c.requires
 
 pub record_end-prop-requires : goal.record_end-prop-requires
-record_end-prop-requires c = is_whole _ _ _ (object_accepted (member c.before.before.before))
+record_end-prop-requires c = let member : Member c.args.levels c.args.tree.now c.args.at c.body_at-obj.result = record { it = c.requires; marked = sym c.mark_at.ensures.0 ∙ c.if-mark_at-ne-MB.false; body = c.body_at-obj.ensures } in
+    is_whole _ _ _ (object_accepted member)
 
 pub mark_at-requires-2 : goal.mark_at-requires-2
-mark_at-requires-2 c = (itself _ _ _ (property-accepted (of_object c))).room
+mark_at-requires-2 c = let member : Member c.args.levels c.args.tree.now c.args.at c.body_at-obj.result = record { it = c.requires; marked = sym c.mark_at.ensures.0 ∙ c.if-mark_at-ne-MB.false; body = c.body_at-obj.ensures } in
+    let of_object : OfObject c.args.levels c.args.tree.now c.args.at c.args.unresolved c.body_at-obj.result c.record_end-prop.result = record { member = member; global = sym c.is_global.ensures ∙ not-false _ c.if-not-is_global.false-raw; behind = c.record_end-prop.ensures } in
+    (itself _ _ _ (property-accepted of_object)).room
 
 pub returns-then-mark_at-ne-KI : goal.returns-then-mark_at-ne-KI
-returns-then-mark_at-ne-KI c = no_property (of_object c.before.before) (λ e. c.if-mark_at-ne-KI.true (c.mark_at-2.ensures.0 ∙ e))
+returns-then-mark_at-ne-KI c = let member : Member c.args.levels c.args.tree.now c.args.at c.body_at-obj.result = record { it = c.requires; marked = sym c.mark_at.ensures.0 ∙ c.if-mark_at-ne-MB.false; body = c.body_at-obj.ensures } in
+    let of_object : OfObject c.args.levels c.args.tree.now c.args.at c.args.unresolved c.body_at-obj.result c.record_end-prop.result = record { member = member; global = sym c.is_global.ensures ∙ not-false _ c.if-not-is_global.false-raw; behind = c.record_end-prop.ensures } in
+    no_property of_object (λ e. c.if-mark_at-ne-KI.true (c.mark_at-2.ensures.0 ∙ e))
 
 pub text_at-requires : goal.text_at-requires
-text_at-requires c = (itself _ _ _ (property-accepted (of_object c.before.before))).fits
+text_at-requires c = let member : Member c.args.levels c.args.tree.now c.args.at c.body_at-obj.result = record { it = c.requires; marked = sym c.mark_at.ensures.0 ∙ c.if-mark_at-ne-MB.false; body = c.body_at-obj.ensures } in
+    let of_object : OfObject c.args.levels c.args.tree.now c.args.at c.args.unresolved c.body_at-obj.result c.record_end-prop.result = record { member = member; global = sym c.is_global.ensures ∙ not-false _ c.if-not-is_global.false-raw; behind = c.record_end-prop.ensures } in
+    (itself _ _ _ (property-accepted of_object)).fits
 
 pub returns : goal.returns
-returns c = c.same_text.ensures ∙ a-property (of_object c.before.before.before.before.before) (sym c.mark_at-2.ensures.0 ∙ c.if-mark_at-ne-KI.false) _ c.text_at.ensures
+returns c = let member : Member c.args.levels c.args.tree.now c.args.at c.body_at-obj.result = record { it = c.requires; marked = sym c.mark_at.ensures.0 ∙ c.if-mark_at-ne-MB.false; body = c.body_at-obj.ensures } in
+    let of_object : OfObject c.args.levels c.args.tree.now c.args.at c.args.unresolved c.body_at-obj.result c.record_end-prop.result = record { member = member; global = sym c.is_global.ensures ∙ not-false _ c.if-not-is_global.false-raw; behind = c.record_end-prop.ensures } in
+    c.same_text.ensures ∙ a-property of_object (sym c.mark_at-2.ensures.0 ∙ c.if-mark_at-ne-KI.false) _ c.text_at.ensures

@@ -1,4 +1,5 @@
 -- `minus_lit_to_ts_type` meets its contract.
+use borrow.Author.Rules.{rules}
 use Rattle.std.proofs.Common.{refl, rules}
 use Rattle.definition.specs.Typing.{minus_by}
 use Rattle.swc_helpers.specs.Found.{is_const}
@@ -29,4 +30,4 @@ unfolding minus_by
 returns-in-Mutable-kind c = let a = c.args in lit-put minus_by a.levels a.tree.now a.at c.literal_at.ensures c.in-BigInt.is c.in-Mutable-kind.is refl c.some_keyword-in-Mutable-kind.ensures
 
 pub returns-in_default : goal.returns-in_default
-returns-in_default c = let a = c.args in as-type (no_type a.out.now a.p) (no_minus a.levels a.tree.now a.at c.literal_at.ensures c.in_default.in_default-own.keys3 (is_const a.kind))
+returns-in_default c = let a = c.args in as-type (no_type a.out.now a.p) (no_minus a.levels a.tree.now a.at c.literal_at.ensures (search rules) (is_const a.kind))

@@ -22,7 +22,7 @@ pub overflow_sub-levels : goal.overflow_sub-levels
 overflow_sub-levels t c = omega (arith, level c.requires.indexed.0)
 
 pub show_all-requires : goal.show_all-requires
-show_all-requires t c = (omega (arith, level c.requires.indexed.0, c.requires.accepted_at), record { accepted_at = (first_one (c.args.levels - 1) c.args.tree.now c.loop-n.n c.loop-n.kid c.loop-n.invariant c.loop-n-test.true, c.requires.indexed.1); indexed =  })
+show_all-requires t c = (omega (arith, level c.requires.indexed.0, c.requires.accepted_at), ((first_one (c.args.levels - 1) c.args.tree.now c.loop-n.n c.loop-n.kid c.loop-n.invariant c.loop-n-test.true, c.requires.indexed.1), ))
 
 pub overflow_sub-levels-in-loop-n : goal.overflow_sub-levels-in-loop-n
 overflow_sub-levels-in-loop-n t c = omega (arith, level c.requires.indexed.0)

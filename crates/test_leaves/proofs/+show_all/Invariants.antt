@@ -7,7 +7,7 @@ use Rattle.test_leaves.proofs.Laws.{lies, level}
 use Rattle.test_leaves.proofs.+show_all.Given as goal
 
 abbrev pub decreases-show_all : goal.decreases-show_all
-decreases-show_all l = ?
+decreases-show_all l = l.levels
 
 abbrev pub invariant-loop-n : goal.invariant-loop-n
 invariant-loop-n l = AllAccepted (l.levels - 1) l.tree l.n l.kid

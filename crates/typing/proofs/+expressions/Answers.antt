@@ -481,7 +481,7 @@ pub pat_to_ts_fn_param-mark_at-requires-in-26433 : goal.pat_to_ts_fn_param-mark_
 pat_to_ts_fn_param-mark_at-requires-in-26433 t c = (itself _ _ _ (placed (left_of_lem _ _ _ c.requires.accepted (sym c.mark_at.ensures.0 ∙ c.in-26433.is)) c.body_at-pattern.ensures).accepted).room
 
 pub pat_to_ts_fn_param-named_param-requires : goal.pat_to_ts_fn_param-named_param-requires
-pat_to_ts_fn_param-named_param-requires t c = (omega (arith, c.decreases), record { ready = (c.requires, (sym c.mark_at.ensures.0 ∙ c.in-26433.is)); at_value = ap (mark_at c.args.tree.now) (sym c.body_at-pattern.ensures) ∙ (sym c.mark_at-in-26433.ensures.0 ∙ c.if-mark_at-eq-BD.true) })
+pat_to_ts_fn_param-named_param-requires t c = (omega (arith, c.decreases), ((c.requires, (sym c.mark_at.ensures.0 ∙ c.in-26433.is)), ap (mark_at c.args.tree.now) (sym c.body_at-pattern.ensures) ∙ (sym c.mark_at-in-26433.ensures.0 ∙ c.if-mark_at-eq-BD.true)))
 
 pub pat_to_ts_fn_param-returns-then-mark_at-eq-BD : goal.pat_to_ts_fn_param-returns-then-mark_at-eq-BD
 pat_to_ts_fn_param-returns-then-mark_at-eq-BD t c = c.named_param.ensures
@@ -493,7 +493,7 @@ pub pat_to_ts_fn_param-shape_of-diagnostics-then-mark_at-eq-BD : goal.pat_to_ts_
 pat_to_ts_fn_param-shape_of-diagnostics-then-mark_at-eq-BD t c = (pat_to_ts_fn_param-returns-then-mark_at-eq-BD t c).did.step.ran.dia.same
 
 pub pat_to_ts_fn_param-unnamed_param-requires : goal.pat_to_ts_fn_param-unnamed_param-requires
-pat_to_ts_fn_param-unnamed_param-requires t c = (omega (arith, c.decreases), record { ready = (c.requires, (sym c.mark_at.ensures.0 ∙ c.in-26433.is)); fact = λ e. c.if-mark_at-eq-BD.false (c.mark_at-in-26433.ensures.0 ∙ (ap (mark_at c.args.tree.now) c.body_at-pattern.ensures ∙ e)) })
+pat_to_ts_fn_param-unnamed_param-requires t c = (omega (arith, c.decreases), ((c.requires, (sym c.mark_at.ensures.0 ∙ c.in-26433.is)), λ e. c.if-mark_at-eq-BD.false (c.mark_at-in-26433.ensures.0 ∙ (ap (mark_at c.args.tree.now) c.body_at-pattern.ensures ∙ e))))
 
 pub pat_to_ts_fn_param-body_at-expr-requires : goal.pat_to_ts_fn_param-body_at-expr-requires
 pat_to_ts_fn_param-body_at-expr-requires t c = (itself _ _ _ c.requires.accepted).room
@@ -694,7 +694,9 @@ pub unnamed_param-expr_to_ts_type-requires : goal.unnamed_param-expr_to_ts_type-
 unnamed_param-expr_to_ts_type-requires t c = (omega (arith, c.decreases, some_left _ _ _ c.requires.ready.0.accepted), ready_second c.requires.ready.0 (left_of_lem _ _ _ c.requires.ready.0.accepted c.requires.ready.1) refl (placed (right_of _ _ _ c.requires.ready.0.accepted c.requires.ready.1) (second_at _ _ _ c.child_at-right.ensures)) (second_at _ _ _ c.child_at-right.ensures))
 
 pub unnamed_param-put_unnamed-requires : goal.unnamed_param-put_unnamed-requires
-unnamed_param-put_unnamed-requires t c = unnamed_ready c.args.tree.now c.args.scope c.args.levels c.args.at c.args.s c.requires.ready.0 (left_of_lem _ _ _ c.requires.ready.0.accepted c.requires.ready.1) (placed (right_of _ _ _ c.requires.ready.0.accepted c.requires.ready.1) (second_at _ _ _ c.child_at-right.ensures)) (second_at _ _ _ c.child_at-right.ensures) (rw c.unique_binding_size.ensures.0 at c.advance.ensures) (is_some (rw c.mutable.ensures at c.expr_to_ts_type.ensures) c.in-Some.is)
+unnamed_param-put_unnamed-requires t c =
+    let z = unnamed_ready c.args.tree.now c.args.scope c.args.levels c.args.at c.args.s c.requires.ready.0 (left_of_lem _ _ _ c.requires.ready.0.accepted c.requires.ready.1) (placed (right_of _ _ _ c.requires.ready.0.accepted c.requires.ready.1) (second_at _ _ _ c.child_at-right.ensures)) (second_at _ _ _ c.child_at-right.ensures) (rw c.unique_binding_size.ensures.0 at c.advance.ensures) (is_some (rw c.mutable.ensures at c.expr_to_ts_type.ensures) c.in-Some.is) in
+    record { head_size_in_bounds = z.0; counter_le_counter = z.1.0; counter_bound = z.1.1 }
 
 pub unnamed_param-returns-in-Some : goal.unnamed_param-returns-in-Some
 unnamed_param-returns-in-Some t c = gave-unnamed c.args.tree.now c.args.levels c.args.at c.args.s (rw c.unique_binding_size.ensures.0 at c.advance.ensures) (is_some (rw c.mutable.ensures at c.expr_to_ts_type.ensures) c.in-Some.is) c.put_unnamed.ensures (pat_unnamed c.args.tree.now c.args.scope c.args.levels c.args.at c.args.s.counter c.requires.ready.0.accepted c.requires.ready.1 (left_of_lem _ _ _ c.requires.ready.0.accepted c.requires.ready.1) (placed (right_of _ _ _ c.requires.ready.0.accepted c.requires.ready.1) (second_at _ _ _ c.child_at-right.ensures)) c.requires.fact)

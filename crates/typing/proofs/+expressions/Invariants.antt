@@ -1,5 +1,5 @@
 -- The cycle of `expr_to_ts_type` and `pat_to_ts_fn_param`: each member meets its contract, and the remaining depth falls.
-use Prim.Native.Nat.{ℕ, ◌-◌}
+use Prim.Native.Nat.{ℕ, ◌-◌, ◌+◌, ◌*◌, suc}
 use borrow.Author.Rules.{rules}
 use mathlib.Core.Path.{sym, ◌∙◌, refl, ap}
 use native.Mathlib.Omega.{arith}

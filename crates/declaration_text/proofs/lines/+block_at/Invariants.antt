@@ -9,4 +9,4 @@ use Rattle.declaration_text.proofs.Blocks.{block_here, block_none, first-none, f
 use Rattle.declaration_text.proofs.lines.+block_at.Given as goal
 
 abbrev pub decreases-block_at : goal.decreases-block_at
-decreases-block_at l = ?
+decreases-block_at l = l.levels

@@ -18,12 +18,6 @@ use Rattle.declaration_text.proofs.lines.+item_lines.Goals as goal
 found : (levels : ℕ) (tree : List ℕ) (at : ℕ) {f g : Block} → f ≡ g → Found levels tree at f → Found levels tree at g
 found levels tree at e x = subst (Found levels tree at) e x
 
-abbrev item-calls : ℕ → put-item-lts.Claims
-item-calls t = (mark-at-reads.Asked, mark-at-reads.Learnt, put-line-reads.Asked, put-line-reads.Learnt, block-at-reads.Asked, block-at-reads.Learnt, body-at-reads.Asked, body-at-reads.Learnt, count-at-reads.Asked, count-at-reads.Learnt, put_items_below t, put-items.Post, put-closing-reads.Asked, put-closing-reads.Learnt)
-
-abbrev items-calls : ℕ → put-items-lts.Claims
-items-calls t = (put_item_below t, put_item.Post, record-end-reads.Asked, record-end-reads.Learnt)
-
 pub put_item-mark_at-mark-requires : goal.put_item-mark_at-mark-requires
 put_item-mark_at-mark-requires t c = room c.requires.1
 

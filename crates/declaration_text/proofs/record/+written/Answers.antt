@@ -348,7 +348,7 @@ pub template-count_expressions-expressions-requires : goal.template-count_expres
 template-count_expressions-expressions-requires t c = rw c.skip-expression.ensures (all_others _ _ _ _ c.requires.1 _ c.count_quasis-quasis.ensures.few)
 
 pub template-loop-turns-init : goal.template-loop-turns-init
-template-loop-turns-init t c = turning_start _ _ _ _ _ c.requires.1 c.count_quasis-quasis.ensures c.skip-expression.ensures c.count_expressions-expressions.ensures c.larger-turns.ensures _ _ (omega (arith, c.put_token-next.type-inv))
+template-loop-turns-init t c = turning_start _ _ _ _ _ c.requires.1 c.count_quasis-quasis.ensures c.skip-expression.ensures c.count_expressions-expressions.ensures c.larger-turns.ensures _ _ (omega (arith, c.put_token-next.type_inv))
 
 pub template-put_quasi-next-requires : goal.template-put_quasi-next-requires
 template-put_quasi-next-requires t c = λ h. turning_quasi c.loop-turns.invariant h

@@ -1,5 +1,5 @@
 -- The cycle of `write`: each member meets its contract, and the levels that are left fall.
-use Prim.Native.Nat.{ℕ}
+use Prim.Native.Nat.{ℕ, ◌+◌, ◌*◌, suc}
 use native.Mathlib.Omega.{arith}
 use mathlib.Core.Path.{ap, ◌∙◌, sym}
 use lib.Dec.{eqb}
@@ -56,3 +56,9 @@ invariant-write-loop-n l = Reading l.row l.under l.at (head_at l.tree l.at) (chi
 
 abbrev pub decreases-write-loop-n : goal.decreases-write-loop-n
 decreases-write-loop-n l = l.n
+
+abbrev pub invariant-template-loop-turns : goal.invariant-template-loop-turns
+invariant-template-loop-turns l = Turning l.levels l.tree l.under (turns_of (children_at l.levels l.tree l.under l.n l.at)) l.initial.out l.out l.initial.next l.next l.quasis l.quasi l.expressions l.expression l.turns
+
+abbrev pub decreases-template-loop-turns : goal.decreases-template-loop-turns
+decreases-template-loop-turns l = l.turns

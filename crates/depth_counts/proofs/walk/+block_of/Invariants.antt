@@ -7,4 +7,4 @@ use Rattle.depth_counts.proofs.Spaces.{body-block, body-none, nested-name, neste
 use Rattle.depth_counts.proofs.walk.+block_of.Given as goal
 
 abbrev pub decreases-block_of : goal.decreases-block_of
-decreases-block_of l = ?
+decreases-block_of l = l.levels

@@ -37,7 +37,7 @@ pub count_item-overflow_add-depth : goal.count_item-overflow_add-depth
 count_item-overflow_add-depth t c = omega (arith, c.requires.ready.1)
 
 pub count_item-count_items-requires : goal.count_item-count_items-requires
-count_item-count_items-requires t c = (omega (arith, c.decreases, (found c.args.levels c.args.tree.now c.args.at c.in-Block.is c.space_of.ensures).0.lower, level (found c.args.levels c.args.tree.now c.args.at c.in-Block.is c.space_of.ensures).0.accepted, level c.requires.ready.0.accepted), record { ready_all = (block_ready c.args.list.now c.args.tree.now c.args.scope (tree_at c.args.levels c.args.tree.now c.args.at) c.args.top c.args.depth c.args.s.counter c.args.levels (found c.args.levels c.args.tree.now c.args.at c.in-Block.is c.space_of.ensures).0 (found c.args.levels c.args.tree.now c.args.at c.in-Block.is c.space_of.ensures).1 c.body_at.ensures c.count_at.ensures.0 refl c.requires.ready.0.low c.requires.ready.0.indexed, block-deep c.args.list.now c.args.tree.now c.args.scope (tree_at c.args.levels c.args.tree.now c.args.at) c.args.top c.args.depth c.args.s.counter c.args.levels (found c.args.levels c.args.tree.now c.args.at c.in-Block.is c.space_of.ensures).0 (found c.args.levels c.args.tree.now c.args.at c.in-Block.is c.space_of.ensures).1 c.body_at.ensures c.count_at.ensures.0 refl c.requires.ready.1); small = c.requires.small; holds = block-holds c.args.list.now c.args.tree.now c.args.scope (tree_at c.args.levels c.args.tree.now c.args.at) c.args.top c.args.depth c.args.s.counter c.args.levels (found c.args.levels c.args.tree.now c.args.at c.in-Block.is c.space_of.ensures).0 (found c.args.levels c.args.tree.now c.args.at c.in-Block.is c.space_of.ensures).1 c.body_at.ensures c.count_at.ensures.0 refl c.requires.holds })
+count_item-count_items-requires t c = (omega (arith, c.decreases, (found c.args.levels c.args.tree.now c.args.at c.in-Block.is c.space_of.ensures).0.lower, level (found c.args.levels c.args.tree.now c.args.at c.in-Block.is c.space_of.ensures).0.accepted, level c.requires.ready.0.accepted), ((block_ready c.args.list.now c.args.tree.now c.args.scope (tree_at c.args.levels c.args.tree.now c.args.at) c.args.top c.args.depth c.args.s.counter c.args.levels (found c.args.levels c.args.tree.now c.args.at c.in-Block.is c.space_of.ensures).0 (found c.args.levels c.args.tree.now c.args.at c.in-Block.is c.space_of.ensures).1 c.body_at.ensures c.count_at.ensures.0 refl c.requires.ready.0.low c.requires.ready.0.indexed, block-deep c.args.list.now c.args.tree.now c.args.scope (tree_at c.args.levels c.args.tree.now c.args.at) c.args.top c.args.depth c.args.s.counter c.args.levels (found c.args.levels c.args.tree.now c.args.at c.in-Block.is c.space_of.ensures).0 (found c.args.levels c.args.tree.now c.args.at c.in-Block.is c.space_of.ensures).1 c.body_at.ensures c.count_at.ensures.0 refl c.requires.ready.1), (c.requires.small, block-holds c.args.list.now c.args.tree.now c.args.scope (tree_at c.args.levels c.args.tree.now c.args.at) c.args.top c.args.depth c.args.s.counter c.args.levels (found c.args.levels c.args.tree.now c.args.at c.in-Block.is c.space_of.ensures).0 (found c.args.levels c.args.tree.now c.args.at c.in-Block.is c.space_of.ensures).1 c.body_at.ensures c.count_at.ensures.0 refl c.requires.holds)))
 
 pub count_item-count_plain-requires : goal.count_item-count_plain-requires
 count_item-count_plain-requires t c = record { ready = (c.requires.ready.0, omega (arith, c.requires.ready.1, level c.requires.ready.0.accepted)); small = c.requires.small; holds = plain-holds c.args.list.now c.args.tree.now c.args.scope (tree_at c.args.levels c.args.tree.now c.args.at) c.args.top c.args.depth c.args.s.counter (found c.args.levels c.args.tree.now c.args.at c.in-Other.is c.space_of.ensures) c.requires.holds }

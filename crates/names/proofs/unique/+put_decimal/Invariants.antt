@@ -8,4 +8,4 @@ use Rattle.names.proofs.Decimals.{decimal-one, decimal-more}
 use Rattle.names.proofs.unique.+put_decimal.Given as goal
 
 abbrev pub decreases-put_decimal : goal.decreases-put_decimal
-decreases-put_decimal l = ?
+decreases-put_decimal l = l.n

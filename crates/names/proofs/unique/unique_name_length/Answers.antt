@@ -8,4 +8,4 @@ pub overflow_add-result : goal.overflow_add-result
 overflow_add-result c = omega arith
 
 pub returns : goal.returns
-returns c = omega (arith, length_unique c.args.id-counter)
+returns c = omega (arith, length_unique c.args.id_counter)

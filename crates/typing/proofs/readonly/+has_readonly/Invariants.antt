@@ -10,4 +10,4 @@ use Prim.Native.Nat.{ℕ, ◌<◌}
 use Rattle.typing.proofs.readonly.+has_readonly.Given as goal
 
 abbrev pub decreases-has_readonly : goal.decreases-has_readonly
-decreases-has_readonly l = ?
+decreases-has_readonly l = l.levels
