@@ -165,13 +165,13 @@ fn run(rt: &impl Print, tree: &mut [u8], list: &mut [u8]) -> io::Result<()> {
 fn main(rt: HostRuntime) -> io::Result<()> {
     let mut list = [0u8; LIST];
     let mut tree = [0u8; TREE];
-    run(&rt, &mut tree, &mut list)?;
+    run(&rt, tree.as_mut_slice(), &mut list)?;
     let mut out = [0u8; OUTPUT];
-    fill(&mut tree);
+    fill(tree.as_mut_slice());
     show_call(
         &rt,
         b"524,288 bytes through the call: ",
-        front(&tree, LONGEST_TREE),
-        &mut out,
+        front(tree.as_slice(), LONGEST_TREE),
+        out.as_mut_slice(),
     )
 }

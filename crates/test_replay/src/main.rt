@@ -380,5 +380,5 @@ fn replay(rt: &(impl Input + Print), tree: &mut [u8], list: &mut [u8]) -> io::Re
 fn main(rt: HostRuntime) -> io::Result<()> {
     let mut list = [0u8; LIST];
     let mut tree = [0u8; TREE];
-    replay(&rt, &mut tree, &mut list)
+    replay(&rt, tree.as_mut_slice(), &mut list)
 }

@@ -206,5 +206,5 @@ fn replay(rt: &(impl Input + Print), tree: &mut [u8]) -> io::Result<()> {
 
 fn main(rt: HostRuntime) -> io::Result<()> {
     let mut tree = [0u8; TREE];
-    replay(&rt, &mut tree)
+    replay(&rt, tree.as_mut_slice())
 }
