@@ -2,8 +2,8 @@
    context 1. Prints what the program `declares` prints, and behind each diagnostic what it means; with the word `depths`, what the program `depths`
    prints: how many of each diagnostic, and in how many namespaces; with the word `text`, what the program `text` prints: the declarations as text.
 
-       rt staticlib dts
-       cc -Iinclude examples/call.c target/staticlib/libdts.a -o call
+       (cd crates/dts && rt lib)
+       cc -Iinclude examples/call.c crates/dts/out/libdts.a -o call
        ./call < crates/declares/stdin
        ./call depths < crates/depths/stdin
        ./call text < crates/text/stdin

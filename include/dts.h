@@ -1,7 +1,7 @@
 /* Declaration trees: the proved declaration transform, for C.
 
-   Link libdts.a, which `rt staticlib dts` proves and writes. A module is a tree of flat records (docs/FORMAT.md); an overload list holds entries of
-   10 bytes. Each function takes any bytes, lists, numbers and lengths: nothing has to be tested first, but memory has to be there for as many
+   Link libdts.a, which `rt lib` proves and writes in crates/dts. A module is a tree of flat records (docs/FORMAT.md); an overload list holds entries
+   of 10 bytes. Each function takes any bytes, lists, numbers and lengths: nothing has to be tested first, but memory has to be there for as many
    bytes as a length says (a pointer with length 0 may point anywhere, but not be null), and what is lent to be written must not overlap
    anything else that is lent. A call takes less than 512 KiB of stack.
 

@@ -1,4 +1,4 @@
-//! The exported calls, as `rt staticlib dts` writes them, and records to try.
+//! The exported calls, from the static library of crates/dts, and records to try.
 mod shapes;
 
 pub use shapes::{constant, dotted, leaf, name, record, shapes, unlisted};

@@ -2,8 +2,8 @@
 //!
 //! A module goes in as a tree of flat records, and its declarations come out as such a tree, with the diagnostics of
 //! what could not be typed: [`transform`], and [`depths`] where these are to be counted. [`text`] writes them as a .d.ts
-//! file has them. The work is done by the static library that `rt staticlib dts` proves and writes; this crate calls it,
-//! finds the sizes of its buffers, and reads what it wrote without a copy.
+//! file has them. The work is done by the static library that `rt lib` proves and writes in crates/dts; this crate calls
+//! it, finds the sizes of its buffers, and reads what it wrote without a copy.
 #![deny(unsafe_code, unsafe_op_in_unsafe_fn)]
 #![warn(missing_docs)]
 

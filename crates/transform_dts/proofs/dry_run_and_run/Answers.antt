@@ -15,10 +15,10 @@ pub returns-then-diagnostics-dry : goal.returns-then-diagnostics-dry
 returns-then-diagnostics-dry c = diagnostics_too_long c.transform_module-dry.ensures _ _ (not-false _ c.if-not-fits.false-raw) (omega arith) (omega (arith, c.well_formed)) (omega arith)
 
 pub slice_bounds-transform_module-end-6 : goal.slice_bounds-transform_module-end-6
-slice_bounds-transform_module-end-6 c = omega (arith, part_length c.transform_module-dry.result.written c.transform_module-dry.new.1.1.1.1.0 c.args.out.now (omega arith))
+slice_bounds-transform_module-end-6 c = omega (arith, part_length c.transform_module-dry.result.written c.transform_module-dry.new.out c.args.out.now (omega arith))
 
 pub slice_bounds-transform_module-end-8 : goal.slice_bounds-transform_module-end-8
-slice_bounds-transform_module-end-8 c = omega (arith, part_length c.transform_module-dry.result.reported c.transform_module-dry.new.1.1.1.1.1.0 c.args.diagnostics.now (omega arith))
+slice_bounds-transform_module-end-8 c = omega (arith, part_length c.transform_module-dry.result.reported c.transform_module-dry.new.diagnostics c.args.diagnostics.now (omega arith))
 
 pub returns : goal.returns
 returns c = done-is c.transform_module-dry.ensures _ _ (not-false _ c.if-not-fits.false-raw) (omega (arith, c.if-out-dry.false)) (omega (arith, c.well_formed)) (omega (arith, c.if-diagnostics-dry.false)) (omega (arith, c.well_formed)) c.transform_module.ensures

@@ -8,10 +8,10 @@ use Rattle.depth_counts.proofs.Rows.{cell_most, Copying, copying_turn, copying_d
 use Rattle.depth_counts.proofs.table.in_one.Goals as goal
 
 pub loop-i-init : goal.loop-i-init
-loop-i-init c = record { size = refl; within = omega arith; same = λ j h. absurd (omega arith) }
+loop-i-init c = λ s. record { size = refl; within = omega arith; same = λ j h. absurd (omega arith) }
 
 pub overflow_cast-counts : goal.overflow_cast-counts
-overflow_cast-counts c = omega (arith, cell_most c.args.t1 (c.loop-i.i / 32) (c.loop-i.i % 32), c.requires.1)
+overflow_cast-counts c = omega (arith, cell_most c.args.table (c.loop-i.i / 32) (c.loop-i.i % 32), c.requires.1)
 
 pub overflow_add-i : goal.overflow_add-i
 overflow_add-i c = omega arith
@@ -20,7 +20,7 @@ pub loop-i-smaller : goal.loop-i-smaller
 loop-i-smaller c = omega arith
 
 pub loop-i-preserved : goal.loop-i-preserved
-loop-i-preserved c = copying_turn _ s (c.loop-i.invariant s) c.loop-i-test.true refl
+loop-i-preserved c = λ s. copying_turn _ s (c.loop-i.invariant s) c.loop-i-test.true refl
 
 pub returns : goal.returns
 returns c = copying_done _ c.requires.0 (c.loop-i.invariant c.requires.0) c.loop-i-test.false

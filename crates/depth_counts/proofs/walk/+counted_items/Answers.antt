@@ -18,9 +18,6 @@ use Rattle.depth_counts.proofs.walk.+counted_items.Goals as goal
 found : (levels : ℕ) (tree : List ℕ) (at : ℕ) {f g : Space} → f ≡ g → FoundItem (levels - 1) tree at (tree_at levels tree at) f → FoundItem (levels - 1) tree at (tree_at levels tree at) g
 found levels tree at e x = subst (FoundItem (levels - 1) tree at (tree_at levels tree at)) e x
 
-abbrev loop-calls : ℕ → count-items-lts.Claims
-loop-calls t = (count_item_below t, count-item.Post, next-at-reads.Asked, next-at-reads.Learnt)
-
 pub count_item-space_of-requires : goal.count_item-space_of-requires
 count_item-space_of-requires t c = c.requires.ready.0.accepted
 
@@ -55,7 +52,7 @@ pub count_items-loop-k-init : goal.count_items-loop-k-init
 count_items-loop-k-init t c = walking_start _ _ _ _ _ _ _ c.requires.ready_all.0 c.requires.small c.requires.holds
 
 pub count_items-count_item-next-requires : goal.count_items-count_item-next-requires
-count_items-count_item-next-requires t c = (omega (arith, c.decreases), record { ready = (record { accepted = walking_first _ _ _ _ _ _ c.loop-k.invariant c.loop-k-test.true; low = c.loop-k.invariant.low; indexed = c.requires.ready_all.0.indexed }, c.requires.ready_all.1); small = c.loop-k.invariant.small; holds = walking_holds _ _ _ _ _ _ c.loop-k.invariant c.loop-k-test.true })
+count_items-count_item-next-requires t c = (omega (arith, c.decreases), ((record { accepted = walking_first _ _ _ _ _ _ c.loop-k.invariant c.loop-k-test.true; low = c.loop-k.invariant.low; indexed = c.requires.ready_all.0.indexed }, c.requires.ready_all.1), (c.loop-k.invariant.small, walking_holds _ _ _ _ _ _ c.loop-k.invariant c.loop-k-test.true)))
 
 pub count_items-next_at-item-requires : goal.count_items-next_at-item-requires
 count_items-next_at-item-requires t c = lies (walking_first _ _ _ _ _ _ c.loop-k.invariant c.loop-k-test.true)

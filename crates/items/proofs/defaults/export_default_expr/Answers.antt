@@ -42,7 +42,7 @@ pub keep-next-requires-in-None : goal.keep-next-requires-in-None
 keep-next-requires-in-None c = c.requires.0.accepted
 
 pub returns-in-Some : goal.returns-in-Some
-returns-in-Some c = expr_typed _ c.args.scope _ _ (xe-kids _ _ _ c.requires.0.accepted c.requires.1 c.body_at-expr.ensures refl) c.args.s (told-not c.mark_at.ensures.0 c.if-mark_at-eq-ID.false) c.readonly.ensures (omega (arith, c.well_formed, c.requires.0.low, (itself _ _ _ c.requires.0.accepted).room)) (omega (arith, c.well_formed)) c.put_const_front-named.ensures.1 (rw c.put_const_front-named.ensures.0 at c.expr_to_ts_type.ensures) c.type_inv.given.1 c.put_absent.ensures (rw c.put_const_front-named.ensures.0 at c.put_default_name-next.ensures)
+returns-in-Some c = expr_typed _ c.args.scope _ _ (xe-kids _ _ _ c.requires.0.accepted c.requires.1 c.body_at-expr.ensures refl) c.args.s (told-not c.mark_at.ensures.0 c.if-mark_at-eq-ID.false) c.readonly.ensures (omega (arith, c.well_formed, c.requires.0.low, (itself _ _ _ c.requires.0.accepted).room)) (omega (arith, c.well_formed)) c.put_const_front-named.ensures.1 (rw c.put_const_front-named.ensures.0 at c.expr_to_ts_type.ensures) c.in-Some.is c.put_absent.ensures (rw c.put_const_front-named.ensures.0 at c.put_default_name-next.ensures)
 
 pub shape_of-out-in-Some : goal.shape_of-out-in-Some
 shape_of-out-in-Some c = (returns-in-Some c).step.ran.out.same

@@ -57,15 +57,6 @@ use Rattle.items.proofs.Inits.{told, told-either, told-any, told-not, bn_first, 
 use Prim.Native.Nat.{ℕ, ◌+◌, ◌-◌, ◌*◌, ◌<◌}
 use Rattle.items.proofs.enums.+enum_values.Goals as goal
 
-abbrev valid-enum-init-expr-calls : ℕ → valid-enum-init-expr-lts.Claims
-valid-enum-init-expr-calls t = (mark-at-reads.Asked, mark-at-reads.Learnt, body-at-reads.Asked, body-at-reads.Learnt, valid_enum_init_expr_below t, valid-enum-init-expr.Post, record-end-reads.Asked, record-end-reads.Learnt, valid_exprs_below t, valid-exprs.Post, valid-enum-ts-type-reads.Asked, valid-enum-ts-type-reads.Learnt)
-
-abbrev valid-exprs-calls : ℕ → valid-exprs-lts.Claims
-valid-exprs-calls t = (count-at-reads.Asked, count-at-reads.Learnt, body-at-reads.Asked, body-at-reads.Learnt, valid_part_below t, valid-part.Post, record-end-reads.Asked, record-end-reads.Learnt)
-
-abbrev valid-part-calls : ℕ → valid-part-lts.Claims
-valid-part-calls t = (mark-at-reads.Asked, mark-at-reads.Learnt, valid_enum_init_expr_below t, valid-enum-init-expr.Post)
-
 pub valid_enum_init_expr-mark_at-requires : goal.valid_enum_init_expr-mark_at-requires
 valid_enum_init_expr-mark_at-requires t c = (itself _ _ _ c.requires).room
 

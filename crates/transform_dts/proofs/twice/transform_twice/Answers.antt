@@ -12,7 +12,11 @@ pub slice_bounds-transform-end-in-Done : goal.slice_bounds-transform-end-in-Done
 slice_bounds-transform-end-in-Done c = wrote-length _ _ _ _ _ c.transform-first.ensures _ _ c.in-Done.is
 
 pub returns-in-Done : goal.returns-in-Done
-returns-in-Done c = again-all _ _ _ _ _ c.transform-first.ensures _ _ c.in-Done.is (slice_bytes _ c.shared_slice_known-1.given) _ _ c.transform-second.ensures
+returns-in-Done c =
+    let z = again-all _ _ _ _ _ c.transform-first.ensures _ _ c.in-Done.is (slice_bytes _ c.shared_slice_known-1.given) _ _ c.transform-second.ensures in
+    record { first = z.0; second = z.1.0; demand3 = z.1.1 }
 
 pub returns-in-Refused : goal.returns-in-Refused
-returns-in-Refused c = once-all _ _ _ _ _ c.transform-first.ensures _ _ c.in-Refused.is (slice_bytes _ c.shared_slice_known-1.given) _ _
+returns-in-Refused c =
+    let z = once-all _ _ _ _ _ c.transform-first.ensures _ _ c.in-Refused.is (slice_bytes _ c.shared_slice_known-1.given) _ _ in
+    record { first = z.0; second = z.1.0; demand3 = z.1.1 }
