@@ -2,10 +2,13 @@
 // prints `accepted`, or `refused`, the refusal's number, `at` and its place.
 #![tactic(auto)]
 
-fn main() {
+use std::io;
+
+fn main(rt: HostRuntime) -> io::Result<()> {
     let mut buffer = [0u8; console::TREE_ROOM];
-    let read = console::read_tree(&mut buffer);
+    let read = console::read_tree(&rt, &mut buffer)?;
     if read.whole {
-        console::print_check(&buffer[..read.length]);
+        console::print_check(&rt, &buffer[..read.length])?;
     }
+    Ok(())
 }

@@ -1,13 +1,14 @@
 // What the programs share: what they read from standard input, what they print, and the buffers that they lend.
 #![tactic(auto)]
 
-ghost use Rattle.std.specs.Prelude.{true, ◌≡◌, ◌≤◌, length, take};
+ghost use Rattle.std.specs.Prelude.{true, ◌≡◌, ◌≤◌, length, take, IfOk};
+ghost use Rattle.console.specs.Counts.{IsPrefixLen};
 ghost use Rattle.definition.specs.Check.{longest_tree, deepest};
 ghost use Rattle.definition.specs.Children.{AcceptedAt};
-ghost use Rattle.io.specs.Counts.{IsPrefixLen};
 
 use grammar::{Checked, Refusal};
-use libc::{STDIN_FILENO, STDOUT_FILENO};
+use std::io;
+use std::io::Read as _;
 
 // The unresolved context that the programs take; their overload list is empty.
 pub const UNRESOLVED: u32 = 1;
@@ -22,6 +23,9 @@ pub const ROOM: usize = 4096;
 const LONGEST: usize = 32768;
 
 pub const TREE_ROOM: usize = 32769;
+
+// The room for a tree behind its length, which two bytes hold.
+pub const FRAMED_ROOM: usize = 65536;
 
 // "with 65,536 bytes for output and 21,840 for diagnostics"
 pub const OUTPUT_ROOM: usize = 65536;
@@ -75,53 +79,69 @@ fn nothing() -> Read
     }
 }
 
+// Reads until the buffer is full or the input ends; how many bytes it put at the start of the buffer.
+fn read_full(rt: &impl Input, buffer: &mut [u8]) -> io::Result<usize>
+    ensures { IfOk result (λ n. IsPrefixLen n buffer.new) }
+{
+    let mut reader = rt.reader();
+    let mut done = 0;
+    while done < buffer.len() {
+        let n = reader.read(&mut buffer[done..])?;
+        if n == 0 {
+            break;
+        }
+        done += n;
+    }
+    Ok(done)
+}
+
 // The next n bytes; nothing where there is no room for them.
-pub fn read_bytes(buffer: &mut [u8], n: usize) -> Read
-    ensures { IsPrefixLen result.length buffer.new }
+pub fn read_bytes(rt: &impl Input, buffer: &mut [u8], n: usize) -> io::Result<Read>
+    ensures { IfOk result (λ read. IsPrefixLen read.length buffer.new) }
 {
     if buffer.len() < n {
-        return nothing();
+        return Ok(nothing());
     }
-    let length = io::read_full(STDIN_FILENO, &mut buffer[..n]);
-    Read {
+    let length = read_full(rt, &mut buffer[..n])?;
+    Ok(Read {
         whole: length == n,
         length,
-    }
+    })
 }
 
 // The next tree, which stands behind its length in two bytes.
-pub fn read_framed(buffer: &mut [u8]) -> Read
-    ensures { IsPrefixLen result.length buffer.new }
+pub fn read_framed(rt: &impl Input, buffer: &mut [u8]) -> io::Result<Read>
+    ensures { IfOk result (λ read. IsPrefixLen read.length buffer.new) }
 {
     let mut size = [0u8; 2];
-    if !read_bytes(&mut size, 2).whole {
-        return nothing();
+    if !read_bytes(rt, &mut size, 2)?.whole {
+        return Ok(nothing());
     }
-    read_bytes(buffer, records::u16_at(&size, 0) as usize)
+    read_bytes(rt, buffer, records::u16_at(&size, 0) as usize)
 }
 
 // A tree that is read alone, all of standard input; prints `too long` where there is more.
-pub fn read_tree(buffer: &mut [u8; TREE_ROOM]) -> Read
-    ensures { IsPrefixLen result.length buffer.new }
+pub fn read_tree(rt: &(impl Input + Print), buffer: &mut [u8; TREE_ROOM]) -> io::Result<Read>
+    ensures { IfOk result (λ read. IsPrefixLen read.length buffer.new) }
 {
-    let length = io::read_full(STDIN_FILENO, buffer);
+    let length = read_full(rt, buffer)?;
     if LONGEST < length {
-        print(b"too long\n");
+        print(rt, b"too long\n")?;
     }
-    Read {
+    Ok(Read {
         whole: length <= LONGEST,
         length,
-    }
+    })
 }
 
 // ---- Printing
 
-pub fn print(text: &[u8]) {
-    io::write_all(STDOUT_FILENO, text);
+pub fn print(rt: &impl Print, text: &[u8]) -> io::Result<()> {
+    rt.write_all(text)
 }
 
-pub fn print_number(n: usize) {
-    io::print_decimal(STDOUT_FILENO, n as u64);
+pub fn print_number(rt: &impl Print, n: usize) -> io::Result<()> {
+    print!(rt; "{n}")
 }
 
 fn wide(b: u8) -> u64 {
@@ -129,43 +149,45 @@ fn wide(b: u8) -> u64 {
 }
 
 // Two digits for each byte.
-pub fn print_hex(bytes: &[u8]) {
+pub fn print_hex(rt: &impl Print, bytes: &[u8]) -> io::Result<()> {
     let mut i = 0;
     while i < bytes.len() {
-        io::print_hex(STDOUT_FILENO, wide(bytes[i]), 2);
+        let b = wide(bytes[i]);
+        print!(rt; "{b:02x}")?;
         i += 1;
     }
+    Ok(())
 }
 
 // A success: the bytes of the output and the number of diagnostics.
-pub fn print_done(length: usize, count: usize) {
-    print(b"ok ");
-    print_number(length);
-    print(b" ");
-    print_number(count);
+pub fn print_done(rt: &impl Print, length: usize, count: usize) -> io::Result<()> {
+    print(rt, b"ok ")?;
+    print_number(rt, length)?;
+    print(rt, b" ")?;
+    print_number(rt, count)
 }
 
 // A refusal, a line: its number and its place.
-pub fn print_refusal(refusal: Refusal, place: usize) {
-    print(b"refused ");
-    print_number(grammar::number_of(refusal) as usize);
-    print(b" at ");
-    print_number(place);
-    print(b"\n");
+pub fn print_refusal(rt: &impl Print, refusal: Refusal, place: usize) -> io::Result<()> {
+    print(rt, b"refused ")?;
+    print_number(rt, grammar::number_of(refusal) as usize)?;
+    print(rt, b" at ")?;
+    print_number(rt, place)?;
+    print(rt, b"\n")
 }
 
 // The check's answer for a tree, a line; whether it is accepted.
-pub fn print_check(tree: &[u8]) -> bool
-    ensures { result ≡ true → AcceptedAt deepest tree.now 0 × (length tree.now ≤ longest_tree) }
+pub fn print_check(rt: &impl Print, tree: &[u8]) -> io::Result<bool>
+    ensures { IfOk result (λ r. r ≡ true → AcceptedAt deepest tree.now 0 × (length tree.now ≤ longest_tree)) }
 {
     match grammar::check_tree(tree, b"") {
         Checked::Fine(end) => {
-            print(b"accepted\n");
-            true
+            print(rt, b"accepted\n")?;
+            Ok(true)
         }
         Checked::Refused(refusal, place) => {
-            print_refusal(refusal, place);
-            false
+            print_refusal(rt, refusal, place)?;
+            Ok(false)
         }
     }
 }

@@ -3,21 +3,23 @@
 #![tactic(auto)]
 
 use console::{DIAGNOSTICS_ROOM, OUTPUT_ROOM, UNRESOLVED, print, print_refusal};
+use std::io;
 use transform_dts::Answer;
 
-fn declare(tree: &[u8]) {
+fn declare(rt: &impl Print, tree: &[u8]) -> io::Result<()> {
     let mut out = [0u8; OUTPUT_ROOM];
     let mut diagnostics = [0u8; DIAGNOSTICS_ROOM];
     match transform_dts::transform(tree, b"", UNRESOLVED, &mut out, &mut diagnostics) {
-        Answer::Done(length, count) => print(&out[..length]),
-        Answer::Refused(refusal, place) => print_refusal(refusal, place),
+        Answer::Done(length, count) => print(rt, &out[..length]),
+        Answer::Refused(refusal, place) => print_refusal(rt, refusal, place),
     }
 }
 
-fn main() {
+fn main(rt: HostRuntime) -> io::Result<()> {
     let mut buffer = [0u8; console::TREE_ROOM];
-    let read = console::read_tree(&mut buffer);
+    let read = console::read_tree(&rt, &mut buffer)?;
     if read.whole {
-        declare(&buffer[..read.length]);
+        declare(&rt, &buffer[..read.length])?;
     }
+    Ok(())
 }

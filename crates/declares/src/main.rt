@@ -8,6 +8,7 @@ use console::{
     DIAGNOSTICS_ROOM, OUTPUT_ROOM, UNRESOLVED, print, print_done, print_number, print_refusal,
 };
 use records::DIAGNOSTIC_SIZE;
+use std::io;
 use transform_dts::Answer;
 
 // The places of a diagnostic's parts: its mark is a `d` and a digit, then start and end.
@@ -18,47 +19,49 @@ const START: usize = 2;
 const END: usize = 6;
 
 // The diagnostic at `at`: "its digit, start, end".
-fn show_diagnostic(diagnostics: &[u8], at: usize)
+fn show_diagnostic(rt: &impl Print, diagnostics: &[u8], at: usize) -> io::Result<()>
     requires { at + 10 ≤ length diagnostics.now }
 {
-    print(&diagnostics[at + DIGIT..at + START]);
-    print(b" ");
-    print_number(records::u32_at(diagnostics, at + START) as usize);
-    print(b" ");
-    print_number(records::u32_at(diagnostics, at + END) as usize);
-    print(b"\n");
+    print(rt, &diagnostics[at + DIGIT..at + START])?;
+    print(rt, b" ")?;
+    print_number(rt, records::u32_at(diagnostics, at + START) as usize)?;
+    print(rt, b" ")?;
+    print_number(rt, records::u32_at(diagnostics, at + END) as usize)?;
+    print(rt, b"\n")
 }
 
 // The first `count`, each "on one line".
-fn show_diagnostics(diagnostics: &[u8], count: usize)
+fn show_diagnostics(rt: &impl Print, diagnostics: &[u8], count: usize) -> io::Result<()>
     requires { count * 10 ≤ length diagnostics.now }
 {
     let mut at = 0;
     let mut n = count;
     while 0 < n {
-        show_diagnostic(diagnostics, at);
+        show_diagnostic(rt, diagnostics, at)?;
         at += DIAGNOSTIC_SIZE;
         n -= 1;
     }
+    Ok(())
 }
 
-fn declare(tree: &[u8]) {
+fn declare(rt: &impl Print, tree: &[u8]) -> io::Result<()> {
     let mut out = [0u8; OUTPUT_ROOM];
     let mut diagnostics = [0u8; DIAGNOSTICS_ROOM];
     match transform_dts::transform(tree, b"", UNRESOLVED, &mut out, &mut diagnostics) {
         Answer::Done(length, count) => {
-            print_done(length, count);
-            print(b"\n");
-            show_diagnostics(&diagnostics, count);
+            print_done(rt, length, count)?;
+            print(rt, b"\n")?;
+            show_diagnostics(rt, &diagnostics, count)
         }
-        Answer::Refused(refusal, place) => print_refusal(refusal, place),
+        Answer::Refused(refusal, place) => print_refusal(rt, refusal, place),
     }
 }
 
-fn main() {
+fn main(rt: HostRuntime) -> io::Result<()> {
     let mut buffer = [0u8; console::TREE_ROOM];
-    let read = console::read_tree(&mut buffer);
+    let read = console::read_tree(&rt, &mut buffer)?;
     if read.whole {
-        declare(&buffer[..read.length]);
+        declare(&rt, &buffer[..read.length])?;
     }
+    Ok(())
 }

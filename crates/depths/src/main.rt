@@ -4,29 +4,31 @@
 
 use console::{DIAGNOSTICS_ROOM, OUTPUT_ROOM, UNRESOLVED, print, print_number, print_refusal};
 use depth_counts::table::{COLUMNS, ROWS, Table, total};
+use std::io;
 use transform_dts::Answer;
 
 // A row, a line: "one space between counts".
-fn show_row(row: [usize; COLUMNS]) {
-    print_number(row[0]);
+fn show_row(rt: &impl Print, row: [usize; COLUMNS]) -> io::Result<()> {
+    print_number(rt, row[0])?;
     let mut depth = 1;
     while depth < COLUMNS {
-        print(b" ");
-        print_number(row[depth]);
+        print(rt, b" ")?;
+        print_number(rt, row[depth])?;
         depth += 1;
     }
-    print(b"\n");
+    print(rt, b"\n")
 }
 
-fn show_table(table: Table) {
+fn show_table(rt: &impl Print, table: Table) -> io::Result<()> {
     let mut row = 0;
     while row < ROWS {
-        show_row(table[row]);
+        show_row(rt, table[row])?;
         row += 1;
     }
+    Ok(())
 }
 
-fn count(tree: &[u8]) {
+fn count(rt: &impl Print, tree: &[u8]) -> io::Result<()> {
     let mut out = [0u8; OUTPUT_ROOM];
     let mut diagnostics = [0u8; DIAGNOSTICS_ROOM];
     let mut table = [[0usize; COLUMNS]; ROWS];
@@ -39,18 +41,19 @@ fn count(tree: &[u8]) {
         &mut table,
     ) {
         Answer::Done(length, count) => {
-            show_table(table);
-            print_number(total(table));
-            print(b"\n");
+            show_table(rt, table)?;
+            print_number(rt, total(table))?;
+            print(rt, b"\n")
         }
-        Answer::Refused(refusal, place) => print_refusal(refusal, place),
+        Answer::Refused(refusal, place) => print_refusal(rt, refusal, place),
     }
 }
 
-fn main() {
+fn main(rt: HostRuntime) -> io::Result<()> {
     let mut buffer = [0u8; console::TREE_ROOM];
-    let read = console::read_tree(&mut buffer);
+    let read = console::read_tree(&rt, &mut buffer)?;
     if read.whole {
-        count(&buffer[..read.length]);
+        count(&rt, &buffer[..read.length])?;
     }
+    Ok(())
 }

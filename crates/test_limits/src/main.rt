@@ -6,6 +6,7 @@ use console::{UNRESOLVED, front, print, print_done, print_number, print_refusal}
 use grammar::Checked;
 use records::marks::{AR, IM, MO, OE, OP, PR, XE};
 use records::{ENTRY_SIZE, HEAD_SIZE, Head};
+use std::io;
 use transform_dts::Answer;
 
 const LONGEST_TREE: usize = 524288;
@@ -98,63 +99,79 @@ fn entries(list: &mut [u8], count: usize) {
 }
 
 // The check's answer for the first n bytes of a tree and the first m of a list, behind what they are.
-fn show_check(what: &[u8], tree: &[u8], n: usize, list: &[u8], m: usize) {
-    print(what);
+fn show_check(
+    rt: &impl Print,
+    what: &[u8],
+    tree: &[u8],
+    n: usize,
+    list: &[u8],
+    m: usize,
+) -> io::Result<()> {
+    print(rt, what)?;
     match grammar::check_tree(front(tree, n), front(list, m)) {
         Checked::Fine(end) => {
-            print(b"accepted, ");
-            print_number(end);
-            print(b" bytes\n");
+            print(rt, b"accepted, ")?;
+            print_number(rt, end)?;
+            print(rt, b" bytes\n")
         }
-        Checked::Refused(refusal, place) => print_refusal(refusal, place),
+        Checked::Refused(refusal, place) => print_refusal(rt, refusal, place),
     }
 }
 
 // The call's answer for a tree, with an empty list and no room for diagnostics.
-fn show_call(what: &[u8], tree: &[u8], out: &mut [u8]) {
-    print(what);
+fn show_call(rt: &impl Print, what: &[u8], tree: &[u8], out: &mut [u8]) -> io::Result<()> {
+    print(rt, what)?;
     let mut diagnostics = [0u8; 0];
     match transform_dts::transform(tree, b"", UNRESOLVED, out, &mut diagnostics) {
         Answer::Done(length, count) => {
-            print_done(length, count);
-            print(b"\n");
+            print_done(rt, length, count)?;
+            print(rt, b"\n")
         }
-        Answer::Refused(refusal, place) => print_refusal(refusal, place),
+        Answer::Refused(refusal, place) => print_refusal(rt, refusal, place),
     }
 }
 
-fn show_lengths(tree: &[u8], list: &[u8]) {
-    show_check(b"524,288 bytes: ", tree, LONGEST_TREE, list, 0);
-    show_check(b"524,289 bytes: ", tree, TREE, list, 0);
+fn show_lengths(rt: &impl Print, tree: &[u8], list: &[u8]) -> io::Result<()> {
+    show_check(rt, b"524,288 bytes: ", tree, LONGEST_TREE, list, 0)?;
+    show_check(rt, b"524,289 bytes: ", tree, TREE, list, 0)?;
     show_check(
+        rt,
         b"40,960 bytes of list: ",
         tree,
         LONGEST_TREE,
         list,
         LONGEST_LIST,
-    );
-    show_check(b"40,970 bytes of list: ", tree, LONGEST_TREE, list, LIST);
+    )?;
+    show_check(
+        rt,
+        b"40,970 bytes of list: ",
+        tree,
+        LONGEST_TREE,
+        list,
+        LIST,
+    )
 }
 
-fn run(tree: &mut [u8], list: &mut [u8]) {
+fn run(rt: &impl Print, tree: &mut [u8], list: &mut [u8]) -> io::Result<()> {
     entries(list, 4097);
     fill(tree);
-    show_lengths(tree, list);
+    show_lengths(rt, tree, list)?;
     nest(tree, 61);
-    show_check(b"64 levels: ", tree, 64 * HEAD_SIZE, list, 0);
+    show_check(rt, b"64 levels: ", tree, 64 * HEAD_SIZE, list, 0)?;
     nest(tree, 62);
-    show_check(b"65 levels: ", tree, 65 * HEAD_SIZE, list, 0);
+    show_check(rt, b"65 levels: ", tree, 65 * HEAD_SIZE, list, 0)
 }
 
-fn main() {
+fn main(rt: HostRuntime) -> io::Result<()> {
     let mut list = [0u8; LIST];
     let mut tree = [0u8; TREE];
-    run(&mut tree, &mut list);
+    run(&rt, tree.as_mut_slice(), &mut list)?;
     let mut out = [0u8; OUTPUT];
-    fill(&mut tree);
+    fill(tree.as_mut_slice());
     show_call(
+        &rt,
         b"524,288 bytes through the call: ",
-        front(&tree, LONGEST_TREE),
-        &mut out,
-    );
+        front(tree.as_slice(), LONGEST_TREE),
+        out.as_mut_slice(),
+    )
 }

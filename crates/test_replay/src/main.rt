@@ -6,11 +6,12 @@
 // count, four bytes each. Where a length is more than the bytes that follow, any bytes do. `oracle answers` makes the cases.
 #![tactic(auto)]
 
-ghost use Rattle.std.specs.Prelude.{◌≤◌};
+ghost use Rattle.std.specs.Prelude.{◌≤◌, IfOk};
 
 use console::{ROOM, front, front_mut, print, print_number, read_bytes};
 use depth_counts::table::{CELLS, COLUMNS, ROWS, Table};
 use records::DIAGNOSTIC_SIZE;
+use std::io;
 use transform_dts::Answer;
 
 // The most cases that are read.
@@ -53,10 +54,10 @@ const DIFFERS: usize = 1;
 
 const END: usize = 2;
 
-fn print_case(number: usize) {
-    print(b"case ");
-    print_number(number);
-    print(b" differs\n");
+fn print_case(rt: &impl Print, number: usize) -> io::Result<()> {
+    print(rt, b"case ")?;
+    print_number(rt, number)?;
+    print(rt, b" differs\n")
 }
 
 // The number at a place of the twelve; 0 where there is none.
@@ -304,70 +305,80 @@ fn call_cut(
 }
 
 // The case whose tree and list were read: what it expects is read, and compared with what the call gives.
-fn compare(case: Case, tree: &[u8], list: &[u8], number: usize) -> usize
-    ensures { result ≤ 2 }
+fn compare(
+    rt: &(impl Input + Print),
+    case: Case,
+    tree: &[u8],
+    list: &[u8],
+    number: usize,
+) -> io::Result<usize>
+    ensures { IfOk result (λ found. found ≤ 2) }
 {
     let mut output = [0u8; ROOM];
     let mut diagnostics = [0u8; ROOM];
     let mut cells = [0u8; CELLS_ROOM];
-    if !read_bytes(&mut output, written(case)).whole {
-        return END;
+    if !read_bytes(rt, &mut output, written(case))?.whole {
+        return Ok(END);
     }
-    if !read_bytes(&mut diagnostics, marked(case)).whole {
-        return END;
+    if !read_bytes(rt, &mut diagnostics, marked(case))?.whole {
+        return Ok(END);
     }
-    if !read_bytes(&mut cells, cells_size(case)).whole {
-        return END;
+    if !read_bytes(rt, &mut cells, cells_size(case))?.whole {
+        return Ok(END);
     }
     if call_cut(case, tree, list, &output, &diagnostics, &cells) {
-        return SAME;
+        return Ok(SAME);
     }
-    print_case(number);
-    DIFFERS
+    print_case(rt, number)?;
+    Ok(DIFFERS)
 }
 
 // The next case of the input, with its number.
-fn replay_one(tree: &mut [u8], list: &mut [u8], number: usize) -> usize
-    ensures { result ≤ 2 }
+fn replay_one(
+    rt: &(impl Input + Print),
+    tree: &mut [u8],
+    list: &mut [u8],
+    number: usize,
+) -> io::Result<usize>
+    ensures { IfOk result (λ found. found ≤ 2) }
 {
     let mut numbers = [0u8; NUMBERS];
-    if !read_bytes(&mut numbers, NUMBERS).whole {
-        return END;
+    if !read_bytes(rt, &mut numbers, NUMBERS)?.whole {
+        return Ok(END);
     }
     let case = case_of(&numbers);
-    if !read_bytes(tree, case.tree_bytes).whole {
-        return END;
+    if !read_bytes(rt, tree, case.tree_bytes)?.whole {
+        return Ok(END);
     }
-    if !read_bytes(list, case.list_bytes).whole {
-        return END;
+    if !read_bytes(rt, list, case.list_bytes)?.whole {
+        return Ok(END);
     }
-    compare(case, tree, list, number)
+    compare(rt, case, tree, list, number)
 }
 
-fn show_counts(cases: usize, differ: usize) {
-    print_number(cases);
-    print(b" cases, ");
-    print_number(differ);
-    print(b" differ\n");
+fn show_counts(rt: &impl Print, cases: usize, differ: usize) -> io::Result<()> {
+    print_number(rt, cases)?;
+    print(rt, b" cases, ")?;
+    print_number(rt, differ)?;
+    print(rt, b" differ\n")
 }
 
-fn replay(tree: &mut [u8], list: &mut [u8]) {
+fn replay(rt: &(impl Input + Print), tree: &mut [u8], list: &mut [u8]) -> io::Result<()> {
     let mut cases: usize = 0;
     let mut differ: usize = 0;
     while cases < MOST {
-        let found = replay_one(tree, list, cases + 1);
+        let found = replay_one(rt, tree, list, cases + 1)?;
         if found == END {
-            show_counts(cases, differ);
-            return;
+            return show_counts(rt, cases, differ);
         }
         cases += 1;
         differ += found;
     }
-    show_counts(cases, differ);
+    show_counts(rt, cases, differ)
 }
 
-fn main() {
+fn main(rt: HostRuntime) -> io::Result<()> {
     let mut list = [0u8; LIST];
     let mut tree = [0u8; TREE];
-    replay(&mut tree, &mut list);
+    replay(&rt, tree.as_mut_slice(), &mut list)
 }

@@ -4,10 +4,11 @@
 // place), then the tree and the text. Where a length is more than the bytes that follow, any bytes do. `oracle text-answers` makes the cases.
 #![tactic(auto)]
 
-ghost use Rattle.std.specs.Prelude.{◌≤◌};
+ghost use Rattle.std.specs.Prelude.{◌≤◌, IfOk};
 
 use console::{ROOM, front, front_mut, print, print_number, read_bytes};
 use declaration_text::Answer;
+use std::io;
 
 // The most cases that are read.
 const MOST: usize = 1000000;
@@ -35,10 +36,10 @@ const DIFFERS: usize = 1;
 
 const END: usize = 2;
 
-fn print_case(number: usize) {
-    print(b"case ");
-    print_number(number);
-    print(b" differs\n");
+fn print_case(rt: &impl Print, number: usize) -> io::Result<()> {
+    print(rt, b"case ")?;
+    print_number(rt, number)?;
+    print(rt, b" differs\n")
 }
 
 // The number at a place of the five; 0 where there is none.
@@ -153,58 +154,57 @@ fn call_cut(case: Case, tree: &[u8], text: &[u8]) -> bool {
 }
 
 // The case whose tree was read: the text that it expects is read, and compared with what the call gives.
-fn compare(case: Case, tree: &[u8], number: usize) -> usize
-    ensures { result ≤ 2 }
+fn compare(rt: &(impl Input + Print), case: Case, tree: &[u8], number: usize) -> io::Result<usize>
+    ensures { IfOk result (λ found. found ≤ 2) }
 {
     let mut text = [0u8; ROOM];
-    if !read_bytes(&mut text, written(case)).whole {
-        return END;
+    if !read_bytes(rt, &mut text, written(case))?.whole {
+        return Ok(END);
     }
     if call_cut(case, tree, &text) {
-        return SAME;
+        return Ok(SAME);
     }
-    print_case(number);
-    DIFFERS
+    print_case(rt, number)?;
+    Ok(DIFFERS)
 }
 
 // The next case of the input, with its number.
-fn replay_one(tree: &mut [u8], number: usize) -> usize
-    ensures { result ≤ 2 }
+fn replay_one(rt: &(impl Input + Print), tree: &mut [u8], number: usize) -> io::Result<usize>
+    ensures { IfOk result (λ found. found ≤ 2) }
 {
     let mut numbers = [0u8; NUMBERS];
-    if !read_bytes(&mut numbers, NUMBERS).whole {
-        return END;
+    if !read_bytes(rt, &mut numbers, NUMBERS)?.whole {
+        return Ok(END);
     }
     let case = case_of(&numbers);
-    if !read_bytes(tree, case.tree_bytes).whole {
-        return END;
+    if !read_bytes(rt, tree, case.tree_bytes)?.whole {
+        return Ok(END);
     }
-    compare(case, tree, number)
+    compare(rt, case, tree, number)
 }
 
-fn show_counts(cases: usize, differ: usize) {
-    print_number(cases);
-    print(b" cases, ");
-    print_number(differ);
-    print(b" differ\n");
+fn show_counts(rt: &impl Print, cases: usize, differ: usize) -> io::Result<()> {
+    print_number(rt, cases)?;
+    print(rt, b" cases, ")?;
+    print_number(rt, differ)?;
+    print(rt, b" differ\n")
 }
 
-fn replay(tree: &mut [u8]) {
+fn replay(rt: &(impl Input + Print), tree: &mut [u8]) -> io::Result<()> {
     let mut cases: usize = 0;
     let mut differ: usize = 0;
     while cases < MOST {
-        let found = replay_one(tree, cases + 1);
+        let found = replay_one(rt, tree, cases + 1)?;
         if found == END {
-            show_counts(cases, differ);
-            return;
+            return show_counts(rt, cases, differ);
         }
         cases += 1;
         differ += found;
     }
-    show_counts(cases, differ);
+    show_counts(rt, cases, differ)
 }
 
-fn main() {
+fn main(rt: HostRuntime) -> io::Result<()> {
     let mut tree = [0u8; TREE];
-    replay(&mut tree);
+    replay(&rt, tree.as_mut_slice())
 }

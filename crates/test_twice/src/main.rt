@@ -3,19 +3,22 @@
 // unresolved context.
 #![tactic(auto)]
 
-use console::{MOST, UNRESOLVED, front, print, print_done, print_number, print_refusal, unwritten};
+use console::{
+    FRAMED_ROOM, MOST, UNRESOLVED, front, print, print_done, print_number, print_refusal, unwritten,
+};
+use std::io;
 use transform_dts::Answer;
 use transform_dts::twice::Twice;
 
-fn show_same(first: &[u8], second: &[u8]) {
-    if check::same(first, second) {
-        print(b", the same\n");
+fn show_same(rt: &impl Print, first: &[u8], second: &[u8]) -> io::Result<()> {
+    if first == second {
+        print(rt, b", the same\n")
     } else {
-        print(b", another\n");
+        print(rt, b", another\n")
     }
 }
 
-fn show_module(tree: &[u8]) {
+fn show_module(rt: &impl Print, tree: &[u8]) -> io::Result<()> {
     let mut out = unwritten();
     let mut diagnostics = unwritten();
     let mut again = unwritten();
@@ -30,15 +33,15 @@ fn show_module(tree: &[u8]) {
         &mut others,
     );
     match both {
-        Twice::Refused(refusal, place) => print_refusal(refusal, place),
+        Twice::Refused(refusal, place) => print_refusal(rt, refusal, place),
         Twice::Again(length, count, second) => {
-            print_done(length, count);
-            print(b", again ");
+            print_done(rt, length, count)?;
+            print(rt, b", again ")?;
             match second {
-                Answer::Refused(refusal, place) => print_refusal(refusal, place),
+                Answer::Refused(refusal, place) => print_refusal(rt, refusal, place),
                 Answer::Done(n, k) => {
-                    print_done(n, k);
-                    show_same(front(&out, length), front(&again, n));
+                    print_done(rt, n, k)?;
+                    show_same(rt, front(&out, length), front(&again, n))
                 }
             }
         }
@@ -46,24 +49,25 @@ fn show_module(tree: &[u8]) {
 }
 
 // The next module of the input, with its number; false where there is none.
-fn next_module(number: usize) -> bool {
-    let mut buffer = io::large_buffer();
-    let read = console::read_framed(&mut buffer);
+fn next_module(rt: &(impl Input + Print), number: usize) -> io::Result<bool> {
+    let mut buffer = [0u8; FRAMED_ROOM];
+    let read = console::read_framed(rt, &mut buffer)?;
     if !read.whole {
-        return false;
+        return Ok(false);
     }
-    print_number(number);
-    print(b" ");
-    show_module(&buffer[..read.length]);
-    true
+    print_number(rt, number)?;
+    print(rt, b" ")?;
+    show_module(rt, &buffer[..read.length])?;
+    Ok(true)
 }
 
-fn main() {
+fn main(rt: HostRuntime) -> io::Result<()> {
     let mut number: usize = 1;
     while number <= MOST {
-        if !next_module(number) {
-            return;
+        if !next_module(&rt, number)? {
+            return Ok(());
         }
         number += 1;
     }
+    Ok(())
 }

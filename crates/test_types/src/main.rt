@@ -8,9 +8,12 @@ ghost use Rattle.definition.specs.Check.{deepest};
 ghost use Rattle.definition.specs.Children.{AcceptedAt};
 ghost use Rattle.prescan.specs.Table.{Indexed};
 
-use console::{MOST, ROOM, UNRESOLVED, front_mut, print, print_hex, print_number, unwritten};
+use console::{
+    FRAMED_ROOM, MOST, ROOM, UNRESOLVED, front_mut, print, print_hex, print_number, unwritten,
+};
 use prescan::{LARGE_TABLE, Scope};
 use records::marks::XE;
+use std::io;
 use typing::{Mode, State, Typed};
 
 // ---- One typing
@@ -28,44 +31,44 @@ fn start() -> State
 }
 
 // The bytes of the type, those of the diagnostics, and the counter.
-fn show_state(s: State) {
-    print_number(s.written);
-    print(b" ");
-    print_number(s.reported);
-    print(b" ");
-    print_number(s.counter);
-    print(b"\n");
+fn show_state(rt: &impl Print, s: State) -> io::Result<()> {
+    print_number(rt, s.written)?;
+    print(rt, b" ")?;
+    print_number(rt, s.reported)?;
+    print(rt, b" ")?;
+    print_number(rt, s.counter)?;
+    print(rt, b"\n")
 }
 
-fn show_answer(typed: Typed) -> State {
+fn show_answer(rt: &impl Print, typed: Typed) -> io::Result<State> {
     match typed {
         Typed::Some(s) => {
-            print(b"typed ");
-            show_state(s);
-            s
+            print(rt, b"typed ")?;
+            show_state(rt, s)?;
+            Ok(s)
         }
         Typed::None(s) => {
-            print(b"untyped ");
-            show_state(s);
-            s
+            print(rt, b"untyped ")?;
+            show_state(rt, s)?;
+            Ok(s)
         }
     }
 }
 
-fn show_label(at: usize, mode: Mode) {
-    print_number(at);
-    print(b" ");
+fn show_label(rt: &impl Print, at: usize, mode: Mode) -> io::Result<()> {
+    print_number(rt, at)?;
+    print(rt, b" ")?;
     let as_const = mode.as_const;
     if as_const {
-        print(b"c");
+        print(rt, b"c")?;
     } else {
-        print(b"-");
+        print(rt, b"-")?;
     }
     let as_readonly = mode.as_readonly;
     if as_readonly {
-        print(b"r");
+        print(rt, b"r")
     } else {
-        print(b"-");
+        print(rt, b"-")
     }
 }
 
@@ -86,19 +89,27 @@ fn type_whole(
 }
 
 // The dry run: there is no room for anything.
-fn dry_run(tree: &[u8], at: usize, levels: usize, index: &[u32], mode: Mode) -> State
+fn dry_run(
+    rt: &impl Print,
+    tree: &[u8],
+    at: usize,
+    levels: usize,
+    index: &[u32],
+    mode: Mode,
+) -> io::Result<State>
     requires accepted_at { AcceptedAt levels tree.now at }
     requires indexed { Indexed tree.now index.now }
 {
     let mut out = [0u8; 0];
     let mut diagnostics = [0u8; 0];
     let typed = type_whole(tree, at, levels, index, mode, &mut out, &mut diagnostics);
-    show_label(at, mode);
-    print(b" dry ");
-    show_answer(typed)
+    show_label(rt, at, mode)?;
+    print(rt, b" dry ")?;
+    show_answer(rt, typed)
 }
 
 fn run(
+    rt: &impl Print,
     tree: &[u8],
     at: usize,
     levels: usize,
@@ -106,22 +117,23 @@ fn run(
     mode: Mode,
     out: &mut [u8],
     diagnostics: &mut [u8],
-)
+) -> io::Result<()>
     requires accepted_at { AcceptedAt levels tree.now at }
     requires indexed { Indexed tree.now index.now }
 {
     let typed = type_whole(tree, at, levels, index, mode, out, diagnostics);
-    show_label(at, mode);
-    print(b" run ");
-    show_answer(typed);
-    print(b"type=");
-    print_hex(out);
-    print(b"\ndiagnostics=");
-    print_hex(diagnostics);
-    print(b"\n");
+    show_label(rt, at, mode)?;
+    print(rt, b" run ")?;
+    show_answer(rt, typed)?;
+    print(rt, b"type=")?;
+    print_hex(rt, out)?;
+    print(rt, b"\ndiagnostics=")?;
+    print_hex(rt, diagnostics)?;
+    print(rt, b"\n")
 }
 
 fn show_typing(
+    rt: &impl Print,
     tree: &[u8],
     at: usize,
     levels: usize,
@@ -129,7 +141,7 @@ fn show_typing(
     scope: Scope,
     as_const: bool,
     as_readonly: bool,
-)
+) -> io::Result<()>
     requires accepted_at { AcceptedAt levels tree.now at }
     requires indexed { Indexed tree.now index.now }
 {
@@ -139,20 +151,21 @@ fn show_typing(
         as_readonly,
         frozen: false,
     };
-    let s = dry_run(tree, at, levels, index, mode);
+    let s = dry_run(rt, tree, at, levels, index, mode)?;
     let p = s.written;
     let d = s.reported;
     if ROOM < p {
-        print(b"too long\n");
-        return;
+        print(rt, b"too long\n")?;
+        return Ok(());
     }
     if ROOM < d {
-        print(b"too long\n");
-        return;
+        print(rt, b"too long\n")?;
+        return Ok(());
     }
     let mut out = unwritten();
     let mut diagnostics = unwritten();
     run(
+        rt,
         tree,
         at,
         levels,
@@ -160,34 +173,55 @@ fn show_typing(
         mode,
         front_mut(&mut out, p),
         front_mut(&mut diagnostics, d),
-    );
+    )
 }
 
 // ---- Modules
 
 // The typings of the expression at `at`, in the four modes.
-fn show_typings(tree: &[u8], at: usize, levels: usize, index: &[u32], scope: Scope)
+fn show_typings(
+    rt: &impl Print,
+    tree: &[u8],
+    at: usize,
+    levels: usize,
+    index: &[u32],
+    scope: Scope,
+) -> io::Result<()>
     requires accepted_at { AcceptedAt levels tree.now at }
     requires indexed { Indexed tree.now index.now }
 {
-    show_typing(tree, at, levels, index, scope, false, false);
-    show_typing(tree, at, levels, index, scope, false, true);
-    show_typing(tree, at, levels, index, scope, true, false);
-    show_typing(tree, at, levels, index, scope, true, true);
+    show_typing(rt, tree, at, levels, index, scope, false, false)?;
+    show_typing(rt, tree, at, levels, index, scope, false, true)?;
+    show_typing(rt, tree, at, levels, index, scope, true, false)?;
+    show_typing(rt, tree, at, levels, index, scope, true, true)
 }
 
 // Those of the expression of an Xe; other items have none.
-fn show_item(tree: &[u8], at: usize, levels: usize, index: &[u32], scope: Scope)
+fn show_item(
+    rt: &impl Print,
+    tree: &[u8],
+    at: usize,
+    levels: usize,
+    index: &[u32],
+    scope: Scope,
+) -> io::Result<()>
     requires accepted_at { AcceptedAt levels tree.now at }
     requires indexed { Indexed tree.now index.now }
 {
     if records::mark_at(tree, at) != XE {
-        return;
+        return Ok(());
     }
-    show_typings(tree, records::body_at(tree, at), levels - 1, index, scope);
+    show_typings(
+        rt,
+        tree,
+        records::body_at(tree, at),
+        levels - 1,
+        index,
+        scope,
+    )
 }
 
-fn show_items(tree: &[u8], index: &[u32])
+fn show_items(rt: &impl Print, tree: &[u8], index: &[u32]) -> io::Result<()>
     requires { AcceptedAt deepest tree.now 0 × Indexed tree.now index.now }
 {
     let scope = Scope {
@@ -196,41 +230,44 @@ fn show_items(tree: &[u8], index: &[u32])
     let mut n = records::count_at(tree, 0);
     let mut item = records::body_at(tree, 0);
     while 0 < n {
-        show_item(tree, item, records::DEEPEST - 1, index, scope);
+        show_item(rt, tree, item, records::DEEPEST - 1, index, scope)?;
         item = records::record_end(tree, item, records::DEEPEST - 1);
         n -= 1;
     }
+    Ok(())
 }
 
-fn show_module(tree: &[u8]) {
-    if console::print_check(tree) {
+fn show_module(rt: &impl Print, tree: &[u8]) -> io::Result<()> {
+    if console::print_check(rt, tree)? {
         let mut table = [0u32; LARGE_TABLE];
         let names = prescan::index(tree, &mut table);
         let from = names.from;
         let end = from + names.count;
-        show_items(tree, &table[from..end]);
+        show_items(rt, tree, &table[from..end])?;
     }
+    Ok(())
 }
 
 // The next module of the input, with its number; false where there is none.
-fn next_module(number: usize) -> bool {
-    let mut buffer = io::large_buffer();
-    let read = console::read_framed(&mut buffer);
+fn next_module(rt: &(impl Input + Print), number: usize) -> io::Result<bool> {
+    let mut buffer = [0u8; FRAMED_ROOM];
+    let read = console::read_framed(rt, &mut buffer)?;
     if !read.whole {
-        return false;
+        return Ok(false);
     }
-    print_number(number);
-    print(b" ");
-    show_module(&buffer[..read.length]);
-    true
+    print_number(rt, number)?;
+    print(rt, b" ")?;
+    show_module(rt, &buffer[..read.length])?;
+    Ok(true)
 }
 
-fn main() {
+fn main(rt: HostRuntime) -> io::Result<()> {
     let mut number: usize = 1;
     while number <= MOST {
-        if !next_module(number) {
-            return;
+        if !next_module(&rt, number)? {
+            return Ok(());
         }
         number += 1;
     }
+    Ok(())
 }

@@ -4,31 +4,33 @@
 
 use console::{DIAGNOSTICS_ROOM, OUTPUT_ROOM, UNRESOLVED, print, print_refusal};
 use declaration_text::Answer;
+use std::io;
 
 // "text into 393,216 bytes".
 const TEXT_ROOM: usize = 393216;
 
-fn show(tree: &[u8]) {
+fn show(rt: &impl Print, tree: &[u8]) -> io::Result<()> {
     let mut out = [0u8; TEXT_ROOM];
     match declaration_text::text(tree, &mut out) {
-        Answer::Done(length) => print(&out[..length]),
-        Answer::Refused(refusal, place) => print_refusal(refusal, place),
+        Answer::Done(length) => print(rt, &out[..length]),
+        Answer::Refused(refusal, place) => print_refusal(rt, refusal, place),
     }
 }
 
-fn declare(tree: &[u8]) {
+fn declare(rt: &impl Print, tree: &[u8]) -> io::Result<()> {
     let mut out = [0u8; OUTPUT_ROOM];
     let mut diagnostics = [0u8; DIAGNOSTICS_ROOM];
     match transform_dts::transform(tree, b"", UNRESOLVED, &mut out, &mut diagnostics) {
-        transform_dts::Answer::Done(length, count) => show(&out[..length]),
-        transform_dts::Answer::Refused(refusal, place) => print_refusal(refusal, place),
+        transform_dts::Answer::Done(length, count) => show(rt, &out[..length]),
+        transform_dts::Answer::Refused(refusal, place) => print_refusal(rt, refusal, place),
     }
 }
 
-fn main() {
+fn main(rt: HostRuntime) -> io::Result<()> {
     let mut buffer = [0u8; console::TREE_ROOM];
-    let read = console::read_tree(&mut buffer);
+    let read = console::read_tree(&rt, &mut buffer)?;
     if read.whole {
-        declare(&buffer[..read.length]);
+        declare(&rt, &buffer[..read.length])?;
     }
+    Ok(())
 }

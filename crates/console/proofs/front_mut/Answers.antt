@@ -1,6 +1,5 @@
 -- `console::front_mut` meets its contract: `take` past the end gives all.
 use mathlib.Core.Path.{sym}
-use borrow.Author.Rules.{rules}
 use native.Mathlib.Omega.{arith}
 use lib.ListN.{length-take}
 use lib.Seq.{take_all}

@@ -4,7 +4,7 @@ use borrow.Author.Rules.{rules}
 use Rattle.declarations.proofs.declare.Goals as goal
 
 pub slice_bounds-out-end : goal.slice_bounds-out-end
-slice_bounds-out-end c = wrote-inside _ _ _ _ _ c.transform.ensures _ _ c.in-Done.is
+slice_bounds-out-end g c = wrote-inside _ _ _ _ _ c.transform.ensures _ _ c.in-Done.is
 
 pub slice_bounds-print-end : goal.slice_bounds-print-end
-slice_bounds-print-end c = wrote-length _ _ _ _ _ c.transform.ensures _ _ c.in-Done.is
+slice_bounds-print-end g c = wrote-length _ _ _ _ _ c.transform.ensures _ _ c.in-Done.is

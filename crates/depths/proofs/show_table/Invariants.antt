@@ -4,7 +4,7 @@ use borrow.Author.Rules.{rules}
 use Rattle.depths.proofs.show_table.Given as goal
 
 abbrev pub invariant-loop-row : goal.invariant-loop-row
-invariant-loop-row l = l.row ≤ 5
+invariant-loop-row g l = l.row ≤ 5
 
 abbrev pub decreases-loop-row : goal.decreases-loop-row
-decreases-loop-row l = 5 - l.row
+decreases-loop-row g l = 5 - l.row

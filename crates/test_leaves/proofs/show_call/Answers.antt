@@ -6,7 +6,7 @@ use Rattle.test_leaves.proofs.Laws.{level, argument}
 use Rattle.test_leaves.proofs.show_call.Goals as goal
 
 pub overflow_sub-levels : goal.overflow_sub-levels
-overflow_sub-levels c = omega (arith, level c.requires.0)
+overflow_sub-levels g c = omega (arith, level c.requires.0)
 
 pub print_record-requires : goal.print_record-requires
-print_record-requires c = argument c.args.levels c.args.tree.now c.args.at 1 c.in-At.arg c.requires.0 (sym c.in-At.is ∙ c.object_freeze_call_arg-found.ensures)
+print_record-requires g c = argument c.args.levels c.args.tree.now c.args.at 1 c.in-At.arg c.requires.0 (sym c.in-At.is ∙ c.object_freeze_call_arg-found.ensures)

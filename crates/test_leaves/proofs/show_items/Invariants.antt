@@ -8,7 +8,7 @@ use Rattle.records.proofs.Whole.{accepted-whole}
 use Rattle.test_leaves.proofs.show_items.Given as goal
 
 abbrev pub invariant-loop-n : goal.invariant-loop-n
-invariant-loop-n l = AllAccepted (deepest - 1) l.tree l.n l.item
+invariant-loop-n g l = AllAccepted (deepest - 1) l.tree l.n l.item
 
 abbrev pub decreases-loop-n : goal.decreases-loop-n
-decreases-loop-n l = l.n
+decreases-loop-n g l = l.n

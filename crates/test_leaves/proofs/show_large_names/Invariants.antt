@@ -5,7 +5,7 @@ use native.Mathlib.Omega.{arith}
 use Rattle.test_leaves.proofs.show_large_names.Given as goal
 
 abbrev pub invariant-loop-power : goal.invariant-loop-power
-invariant-loop-power l = 1 ≤ l.power
+invariant-loop-power g l = 1 ≤ l.power
 
 abbrev pub decreases-loop-power : goal.decreases-loop-power
-decreases-loop-power l = 1000000000000000001 - l.power
+decreases-loop-power g l = 1000000000000000001 - l.power

@@ -4,7 +4,7 @@ use borrow.Author.Rules.{rules}
 use Rattle.test_leaves.proofs.show_trees.Given as goal
 
 abbrev pub invariant-loop-number : goal.invariant-loop-number
-invariant-loop-number l = Unit {0}
+invariant-loop-number g l = Unit {0}
 
 abbrev pub decreases-loop-number : goal.decreases-loop-number
-decreases-loop-number l = 65537 - l.number
+decreases-loop-number g l = 65537 - l.number

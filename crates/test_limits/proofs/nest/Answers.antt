@@ -8,7 +8,7 @@ pub loop-n-init : goal.loop-n-init
 loop-n-init c = refl
 
 pub loop-n-preserved : goal.loop-n-preserved
-loop-n-preserved c = c.put-p-in-loop-n.auto.0 ∙ c.loop-n.invariant
+loop-n-preserved c = c.put-p-in-loop-n.auto.tree ∙ c.loop-n.invariant
 
 pub shape_of-tree : goal.shape_of-tree
-shape_of-tree c = c.put.auto.0 ∙ c.loop-n.invariant ∙ c.put-p-2.auto.0 ∙ c.put-p.auto.0
+shape_of-tree c = c.put.auto.tree ∙ c.loop-n.invariant ∙ c.put-p-2.auto.tree ∙ c.put-p.auto.tree

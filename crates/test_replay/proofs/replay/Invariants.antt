@@ -7,7 +7,7 @@ use lib.ListN.{length}
 use Rattle.test_replay.proofs.replay.Given as goal
 
 abbrev pub invariant-loop-cases : goal.invariant-loop-cases
-invariant-loop-cases l = (l.cases ≤ 1000000) × (l.differ ≤ l.cases + l.cases) × (length l.tree ≡ length l.initial.tree) × (length l.list ≡ length l.initial.list)
+invariant-loop-cases g l = (l.cases ≤ 1000000) × (l.differ ≤ l.cases + l.cases) × (length l.tree ≡ length l.initial.tree) × (length l.list ≡ length l.initial.list)
 
 abbrev pub decreases-loop-cases : goal.decreases-loop-cases
-decreases-loop-cases l = 1000000 - l.cases
+decreases-loop-cases g l = 1000000 - l.cases

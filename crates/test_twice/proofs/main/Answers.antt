@@ -4,7 +4,7 @@ use borrow.Author.Rules.{rules}
 use Rattle.test_twice.proofs.main.Goals as goal
 
 pub loop-number-init : goal.loop-number-init
-loop-number-init c = tt
+loop-number-init g c = tt
 
 pub loop-number-preserved : goal.loop-number-preserved
-loop-number-preserved c = tt
+loop-number-preserved g c = tt

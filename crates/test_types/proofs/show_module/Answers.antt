@@ -6,7 +6,7 @@ use borrow.Author.Rules.{rules}
 use Rattle.test_types.proofs.show_module.Goals as goal
 
 pub index-names-requires : goal.index-names-requires
-index-names-requires c = let u = c.print_check.ensures c.if-print_check.true in record { accepted_at = u.0; tree_len_bound = u.1; tree_len_bound_2 = omega (arith, u.1) }
+index-names-requires g c = let u = c.print_check.ensures c.if-print_check.true in record { accepted_at = u.0; tree_len_bound = u.1; tree_len_bound_2 = omega (arith, u.1) }
 
 pub show_items-requires : goal.show_items-requires
-show_items-requires c = let e = c.index-names.result in let z : e.from + e.count - e.from ≡ e.count = omega arith in ((c.print_check.ensures c.if-print_check.true).0, rw z c.index-names.ensures.0)
+show_items-requires g c = let e = c.index-names.result in let z : e.from + e.count - e.from ≡ e.count = omega arith in ((c.print_check.ensures c.if-print_check.true).0, rw z c.index-names.ensures.0)

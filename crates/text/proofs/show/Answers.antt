@@ -4,7 +4,7 @@ use borrow.Author.Rules.{rules}
 use Rattle.text.proofs.show.Goals as goal
 
 pub slice_bounds-out-end : goal.slice_bounds-out-end
-slice_bounds-out-end c = text-inside _ _ c.text.ensures c.in-Done.is
+slice_bounds-out-end g c = text-inside _ _ c.text.ensures c.in-Done.is
 
 pub slice_bounds-print-end : goal.slice_bounds-print-end
-slice_bounds-print-end c = text-length _ _ c.text.ensures c.in-Done.is
+slice_bounds-print-end g c = text-length _ _ c.text.ensures c.in-Done.is
