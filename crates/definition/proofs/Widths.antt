@@ -2,14 +2,13 @@
 -- has a Ki of more than 65,531 bytes.
 use mathlib.Core.Path.{◌≡◌, refl, ap}
 use mathlib.Core.List.{List}
-use mathlib.Core.Bool.{Bool, true, false, ◌&&◌}
+use mathlib.Core.Bool.{true}
 use Prim.Native.Nat.{ℕ, ◌≤◌, ◌<◌}
 use native.Mathlib.Omega.{arith}
 use lib.Dec.{ltb}
 use lib.ListN.{length}
 use borrow.Author.Tests.{ltb-true, lt-ltb}
 use Rattle.definition.specs.Tree.{Head, Rec, Recs, rec, nil, cons, count, encode, tree_at, Bytes, FitsHead, Fits, FitsAll}
-use Rattle.definition.specs.Grammar.{mark}
 use Rattle.definition.specs.Check.{fine, longest_tree, deepest, check_tree}
 use Rattle.definition.specs.Record.{text_of, kids_of, kid}
 use Rattle.definition.specs.Prescan.{PrescannedModuleIds, prescan_module_ids}
