@@ -1,7 +1,6 @@
 -- `grammar::check_tree` meets its contract.
 use mathlib.Core.Path.{sym, ap, ◌∙◌}
 use borrow.Author.Tests.{not-true, not-false}
-use borrow.Author.Rules.{rules}
 use Rattle.grammar.specs.Answers.{checked}
 use Rattle.grammar.proofs.Trees.{tree-long, list_bad, root-refused, bytes_after, tree-fine}
 use Rattle.grammar.proofs.check_tree.Goals as goal

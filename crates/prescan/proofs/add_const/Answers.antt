@@ -1,7 +1,6 @@
 -- `prescan::add_const` meets its contract: each question picks the definition's case.
 use mathlib.Core.Path.{sym, ◌∙◌}
 use native.Mathlib.Omega.{arith}
-use borrow.Author.Rules.{rules}
 use Rattle.records.proofs.Accepted.{room, level}
 use Rattle.prescan.proofs.Laws.{const-typed, const-function, const-plain, const_by_init, const_by_type}
 use Rattle.prescan.proofs.add_const.Goals as goal

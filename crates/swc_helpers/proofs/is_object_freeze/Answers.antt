@@ -1,6 +1,6 @@
 -- `is_object_freeze` meets its contract.
 -- what is known behind each test
-use Rattle.std.proofs.Common.{sym, ◌∙◌, rules}
+use Rattle.std.proofs.Common.{sym, ◌∙◌}
 use borrow.Author.Tests.{not-true, not-false}
 use Rattle.definition.proofs.Children.{itself}
 use Rattle.swc_helpers.proofs.Made.{is_whole}

@@ -1,11 +1,11 @@
 -- `object_freeze_call_arg` meets its contract.
 -- what is known behind each test
 use borrow.Author.Rules.{rules}
-use Rattle.std.proofs.Common.{sym, ◌∙◌, inl, inr, arith}
+use Rattle.std.proofs.Common.{sym, ◌∙◌, arith}
 use borrow.Author.Tests.{not-true, not-false}
 use Rattle.definition.proofs.Children.{itself}
 use Rattle.swc_helpers.proofs.Made.{is_whole}
-use Rattle.swc_helpers.proofs.Calls.{ level, Call, Freeze, Plain, Followed, callee_accepted, other_callee, no_argument, arg-accepted, op_or_spread, last_one, next-accepted, then_ops, more_args, }
+use Rattle.swc_helpers.proofs.Calls.{level, Call, Freeze, Plain, Followed, callee_accepted, other_callee, no_argument, arg-accepted, op_or_spread, last_one, next-accepted, then_ops, more_args}
 use Rattle.swc_helpers.proofs.object_freeze_call_arg.Goals as goal
 
 pub body_at-callee-requires : goal.body_at-callee-requires

@@ -1,5 +1,5 @@
 -- `tpl_to_ts_type` meets its contract.
-use Rattle.std.proofs.Common.{sym, refl, ◌∙◌, arith, rules}
+use Rattle.std.proofs.Common.{sym, refl, ◌∙◌, arith}
 use borrow.Author.Tests.{not-true, not-false}
 use Rattle.definition.proofs.Children.{itself}
 use Rattle.swc_helpers.proofs.Made.{put-put, put_as, encode_one}

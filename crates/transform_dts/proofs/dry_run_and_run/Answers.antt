@@ -2,7 +2,6 @@
 use native.Mathlib.Omega.{arith}
 use borrow.Author.Tests.{not-true, not-false}
 use Rattle.transform_dts.proofs.Runs.{part_length, text_too_long, output_too_long, diagnostics_too_long, done-is}
-use borrow.Author.Rules.{rules}
 use Rattle.transform_dts.proofs.dry_run_and_run.Goals as goal
 
 pub returns-then-not-fits : goal.returns-then-not-fits

@@ -1,6 +1,5 @@
 -- The cycle of `expr_to_ts_type` and `pat_to_ts_fn_param`: each member meets its contract, and the remaining depth falls.
-use Prim.Native.Nat.{ℕ, ◌-◌}
-use borrow.Author.Rules.{rules}
+use Prim.Native.Nat.{◌-◌}
 use mathlib.Core.Path.{sym, ◌∙◌, refl, ap}
 use native.Mathlib.Omega.{arith}
 use borrow.Author.Tests.{not-true, not-false}
@@ -25,7 +24,7 @@ use Rattle.records.specs.declared.Head.{Head}
 use Rattle.swc_helpers.proofs.Made.{is_whole, copied}
 use Rattle.typing.specs.Below.{params_from}
 use Rattle.typing.proofs.Loops.{child-after}
-use Rattle.typing.proofs.Whole.{count_small, ParamLoop, param-start, param-turn, function-done, ObjectLoop, object_start, object_turn, object_done, gave_counted, gives_as, param-arrow, param-other, param_pa, TupleLoop, tuple-start, tuple-turn, tuple-stop, tuple-done}
+use Rattle.typing.proofs.Whole.{count_small, param-start, param-turn, function-done, object_start, object_turn, object_done, gave_counted, gives_as, param-arrow, param-other, param_pa, tuple-start, tuple-turn, tuple-stop, tuple-done}
 use mathlib.Core.Bool.{◌||◌}
 use Rattle.definition.specs.Tree.{end_at, mark_at, text_at}
 use Rattle.typing.proofs.Written.{puts-counter}

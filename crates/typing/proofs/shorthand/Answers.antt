@@ -14,7 +14,6 @@ use Rattle.typing.proofs.Steps.{step-drop}
 use Rattle.typing.proofs.Fits.{tree-fits}
 use Rattle.typing.proofs.LeafFits.{ident-fits}
 use Rattle.typing.proofs.Props.{member-shorthand, gives-mark, gives-short, short-fits}
-use borrow.Author.Rules.{rules}
 use Rattle.typing.proofs.shorthand.Goals as goal
 
 pub body_at-ident-requires : goal.body_at-ident-requires

@@ -2,17 +2,13 @@
 -- one are accepted.
 -- what the callees ask and give, at the measure t
 use mathlib.Core.Path.{◌≡◌, refl, sym, ap, ◌∙◌, subst}
-use mathlib.Core.Logic.{⊎_elim}
-use Prim.Native.Nat.{ℕ, ◌<◌}
 use native.Mathlib.Omega.{arith}
-use borrow.Author.Rules.{rules}
 use Rattle.definition.specs.Tree.{mark_at}
 use Rattle.definition.specs.Grammar.{after}
-use Rattle.definition.specs.Check.{check_all, check_at}
 use Rattle.grammar.specs.Slots.{parts_from}
 use Rattle.grammar.specs.Answers.{Before, opening, checked}
 use Rattle.grammar.specs.declared.record.Opening.{Opening}
-use Rattle.grammar.proofs.Children.{body-inside, Passed, passed-all, no_level, stopped-here, passed-turn, passed-leaf, passed-refused}
+use Rattle.grammar.proofs.Children.{body-inside, passed-all, no_level, stopped-here, passed-turn, passed-leaf, passed-refused}
 use Rattle.grammar.proofs.record.+check_all.Goals as goal
 use Rattle.grammar.proofs.record.+check_all.Goals.{then-kids-eq0, else-kids-eq0+in-Fine}
 
@@ -61,8 +57,9 @@ loop-n-preserved t c = let a = c.args in
     let q : parts_from c.in-Opened.next ≡ after (parts_from l.slot) (mark_at a.tree.now l.p) =
     subst (λ (o : Opening). Before o (after (parts_from l.slot) (mark_at a.tree.now l.p))) c.in-Opened.is c.open_record.ensures.1 in
     elim c.if-kids-eq0.branch [
-      then-kids-eq0 w ↦ rw (w.p-is, w.slot-is, q) (passed-leaf a.levels a.tree.now _ l.n l.p (parts_from l.slot) l.invariant c.loop-n-test.true c.if-levels-eq0.false _ _ _ e w.if-kids-eq0.true)
-    | else-kids-eq0+in-Fine w ↦ rw (w.p-is, w.slot-is, q) (passed-turn a.levels a.tree.now _ l.n l.p (parts_from l.slot) l.invariant c.loop-n-test.true c.if-levels-eq0.false _ _ _ e _ (sym (ap checked w.in-Fine.is) ∙ w.check_all-found.ensures)) ]
+      | then-kids-eq0 w ↦ rw (w.p-is, w.slot-is, q) (passed-leaf a.levels a.tree.now _ l.n l.p (parts_from l.slot) l.invariant c.loop-n-test.true c.if-levels-eq0.false _ _ _ e w.if-kids-eq0.true)
+      | else-kids-eq0+in-Fine w ↦ rw (w.p-is, w.slot-is, q) (passed-turn a.levels a.tree.now _ l.n l.p (parts_from l.slot) l.invariant c.loop-n-test.true c.if-levels-eq0.false _ _ _ e _ (sym (ap checked w.in-Fine.is) ∙ w.check_all-found.ensures))
+    ]
 
 pub returns : goal.returns
 returns t c = let a = c.args in

@@ -1,7 +1,6 @@
 -- `grammar::record::open_body` meets its contract.
 use mathlib.Core.Path.{refl, sym, ◌∙◌}
 use borrow.Author.Tests.{not-true, not-false}
-use borrow.Author.Rules.{rules}
 use Rattle.grammar.specs.Slots.{parts_from}
 use Rattle.grammar.proofs.Openings.{cut_text, wrong_text, too_few, body-fine}
 use Rattle.grammar.proofs.record.open_body.Goals as goal

@@ -2,7 +2,6 @@
 use mathlib.Core.Path.{ap, ◌∙◌}
 use native.Mathlib.Omega.{arith}
 use lib.Dec.{eqb}
-use borrow.Author.Rules.{rules}
 use Rattle.grammar.proofs.Lookups.{no_set, not_in_set, below_run, above_run, within_run}
 use Rattle.grammar.proofs.tables.in_set.Goals as goal
 

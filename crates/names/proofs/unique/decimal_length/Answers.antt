@@ -1,6 +1,6 @@
 -- `names::unique::decimal_length` meets its contract: each turn counts one digit.
 use native.Mathlib.Omega.{arith}
-use Rattle.names.proofs.Decimals.{at_most_twenty, Counted, count-start, count_turn, count-done}
+use Rattle.names.proofs.Decimals.{at_most_twenty, count-start, count_turn, count-done}
 use Rattle.names.proofs.unique.decimal_length.Goals as goal
 
 pub loop-rest-init : goal.loop-rest-init

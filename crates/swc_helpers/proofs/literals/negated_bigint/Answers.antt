@@ -1,5 +1,5 @@
 -- `literals::negated_bigint` meets its contract.
-use Rattle.std.proofs.Common.{ℕ, List, length, get_or, ap, ◌∙◌, arith, rules}
+use Rattle.std.proofs.Common.{ℕ, List, length, get_or, ap, ◌∙◌, arith}
 use Rattle.records.specs.Fields.{span}
 use Rattle.swc_helpers.specs.Literal.{turned_sign}
 use Rattle.swc_helpers.proofs.Made.{put-put, put_as}

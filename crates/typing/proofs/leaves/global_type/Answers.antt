@@ -6,7 +6,6 @@ use Rattle.definition.proofs.Children.{itself}
 use Rattle.definition.proofs.Kids.{id-text}
 use Rattle.swc_helpers.proofs.Answers.{as-type}
 use Rattle.typing.proofs.Arms.{name_test, name_mutable, name-undefined, name-other}
-use borrow.Author.Rules.{rules}
 use Rattle.typing.proofs.leaves.global_type.Goals as goal
 
 pub number_name-requires : goal.number_name-requires

@@ -12,7 +12,6 @@ use Rattle.typing.specs.Did.{ids_of}
 use Rattle.typing.proofs.Slots.{ne_callee, ne_types, is-kid, not-kid}
 use Rattle.typing.proofs.Maybe.{maybe_some, maybe_none}
 use Rattle.typing.proofs.Arms.{class_test, new_callee, new_generic, new-class, new-other}
-use borrow.Author.Rules.{rules}
 use Rattle.typing.proofs.leaves.new_type.Goals as goal
 
 pub body_at-ident-requires : goal.body_at-ident-requires

@@ -7,7 +7,6 @@ use Rattle.swc_helpers.proofs.Made.{is_whole, copied}
 use Rattle.typing.proofs.Slots.{kc_expr}
 use Rattle.typing.proofs.Fits.{tree-fits}
 use Rattle.typing.proofs.Written.{puts-as, puts_fitting, key_is_name, key_is_below, key-copied}
-use borrow.Author.Rules.{rules}
 use Rattle.typing.proofs.made.put_key.Goals as goal
 
 pub mark_at-requires : goal.mark_at-requires

@@ -6,7 +6,6 @@ use Rattle.definition.proofs.Children.{itself, some_left}
 use Rattle.swc_helpers.proofs.Made.{is_whole, copied, put-put, put_as}
 use Rattle.typing.specs.Parts.{return_type}
 use Rattle.typing.proofs.Slots.{first-child, second-child}
-use borrow.Author.Rules.{rules}
 use Rattle.typing.proofs.params.put_fn_front.Goals as goal
 
 pub body_at-type_params-requires : goal.body_at-type_params-requires

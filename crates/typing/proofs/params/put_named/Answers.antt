@@ -12,7 +12,6 @@ use Rattle.records.specs.Fields.{span, range_at}
 use Rattle.swc_helpers.proofs.Made.{put_as}
 use Rattle.typing.specs.Parts.{binding_front}
 use Rattle.typing.proofs.Slots.{bd-ident}
-use borrow.Author.Rules.{rules}
 use Rattle.typing.proofs.params.put_named.Goals as goal
 
 pub range_at-range-requires : goal.range_at-range-requires

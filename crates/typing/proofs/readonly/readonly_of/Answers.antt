@@ -6,7 +6,6 @@ use Rattle.definition.proofs.Children.{itself}
 use Rattle.swc_helpers.proofs.Made.{is_whole, copied, put-put, put_as, readonly_is}
 use Rattle.typing.proofs.Maybe.{maybe_some, maybe_none}
 use Rattle.typing.proofs.ReadonlyOf.{readonly_lit, readonly_unplain, readonly_array, readonly_same, readonly_other}
-use borrow.Author.Rules.{rules}
 use Rattle.typing.proofs.readonly.readonly_of.Goals as goal
 
 pub mark_at-requires : goal.mark_at-requires
