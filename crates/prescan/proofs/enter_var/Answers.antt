@@ -14,7 +14,7 @@ pub read_head-head-requires : goal.read_head-head-requires
 read_head-head-requires c = room c.requires.accepted_at
 
 pub returns-then-not-has_flag : goal.returns-then-not-has_flag
-returns-then-not-has_flag c = filled_none c.requires.room (omega (arith, end_after _ _ _ c.requires.accepted_at)) (λ q t. var-other c.requires.accepted_at (ap (λ h. h.flags) c.read_head-head.ensures) q t (sym c.has_flag.ensures ∙ not-true _ c.if-not-has_flag.true-raw))
+returns-then-not-has_flag c = filled_none c.requires.room (omega (arith, end_after _ _ _ c.requires.accepted_at)) (λ q t. var-other c.requires.accepted_at (ap (λ h. h.flags) c.read_head-head.ensures) q t (sym c.has_flag.ensures ∙ c.if-not-has_flag.true))
 
 pub body_at-declarator-requires : goal.body_at-declarator-requires
 body_at-declarator-requires c = room c.requires.accepted_at
@@ -47,4 +47,4 @@ pub shape_of-table : goal.shape_of-table
 shape_of-table c = c.loop-rest.invariant.filled.same
 
 pub returns : goal.returns
-returns c = filled_eq (omega arith) (λ q t. var-const c.requires.accepted_at (ap (λ h. h.flags) c.read_head-head.ensures) q t (sym c.has_flag.ensures ∙ not-false _ c.if-not-has_flag.false-raw)) (filling_done c.loop-rest.invariant declares-none c.loop-rest-test.false)
+returns c = filled_eq (omega arith) (λ q t. var-const c.requires.accepted_at (ap (λ h. h.flags) c.read_head-head.ensures) q t (sym c.has_flag.ensures ∙ c.if-not-has_flag.false)) (filling_done c.loop-rest.invariant declares-none c.loop-rest-test.false)

@@ -109,7 +109,7 @@ pub piece-piece_holds-requires : goal.piece-piece_holds-requires
 piece-piece_holds-requires t c = record { rows_value = (c.requires.0.rows_are, c.requires.2); accepted_at = c.requires.1 }
 
 pub piece-returns-then-not-piece_holds : goal.piece-returns-then-not-piece_holds
-piece-returns-then-not-piece_holds t c = writes_nothing _ _ (omega (arith, c.well_formed)) (piece-not _ _ _ _ _ _ c.piece_holds.ensures (not-true _ c.if-not-piece_holds.true-raw))
+piece-returns-then-not-piece_holds t c = writes_nothing _ _ (omega (arith, c.well_formed)) (piece-not _ _ _ _ _ _ c.piece_holds.ensures c.if-not-piece_holds.true)
 
 pub piece-overflow_add-i : goal.piece-overflow_add-i
 piece-overflow_add-i t c = omega (arith, c.requires.2)
@@ -184,42 +184,42 @@ pub piece-text_at-requires-in_default : goal.piece-text_at-requires-in_default
 piece-text_at-requires-in_default t c = fits c.requires.1
 
 pub piece-returns-in-1 : goal.piece-returns-in-1
-piece-returns-in-1 t c = writes_as c.put_word.ensures (piece-token _ _ _ _ _ _ c.piece_holds.ensures (not-false _ c.if-not-piece_holds.false-raw) c.cell-what.ensures c.in-1.is c.cell-a.ensures c.cell.ensures)
+piece-returns-in-1 t c = writes_as c.put_word.ensures (piece-token _ _ _ _ _ _ c.piece_holds.ensures c.if-not-piece_holds.false c.cell-what.ensures c.in-1.is c.cell-a.ensures c.cell.ensures)
 
 pub piece-returns-in-2 : goal.piece-returns-in-2
-piece-returns-in-2 t c = writes_as c.child.ensures (piece-child _ _ _ _ _ _ c.piece_holds.ensures (not-false _ c.if-not-piece_holds.false-raw) c.cell-what.ensures c.in-2.is c.cell-a.ensures)
+piece-returns-in-2 t c = writes_as c.child.ensures (piece-child _ _ _ _ _ _ c.piece_holds.ensures c.if-not-piece_holds.false c.cell-what.ensures c.in-2.is c.cell-a.ensures)
 
 pub piece-returns-in-3 : goal.piece-returns-in-3
-piece-returns-in-3 t c = writes_as c.behind.ensures (piece-ops _ _ _ _ _ _ c.piece_holds.ensures (not-false _ c.if-not-piece_holds.false-raw) c.cell-what.ensures c.in-3.is c.cell-in-3.ensures)
+piece-returns-in-3 t c = writes_as c.behind.ensures (piece-ops _ _ _ _ _ _ c.piece_holds.ensures c.if-not-piece_holds.false c.cell-what.ensures c.in-3.is c.cell-in-3.ensures)
 
 pub piece-returns-in-4 : goal.piece-returns-in-4
-piece-returns-in-4 t c = writes_as c.behind-in-4.ensures (piece-list _ _ _ _ _ _ c.piece_holds.ensures (not-false _ c.if-not-piece_holds.false-raw) c.cell-what.ensures c.in-4.is c.cell-in-4.ensures)
+piece-returns-in-4 t c = writes_as c.behind-in-4.ensures (piece-list _ _ _ _ _ _ c.piece_holds.ensures c.if-not-piece_holds.false c.cell-what.ensures c.in-4.is c.cell-in-4.ensures)
 
 pub piece-returns-in-5 : goal.piece-returns-in-5
-piece-returns-in-5 t c = writes_as c.behind-in-5.ensures (piece-members _ _ _ _ _ _ c.piece_holds.ensures (not-false _ c.if-not-piece_holds.false-raw) c.cell-what.ensures c.in-5.is c.cell-in-5.ensures)
+piece-returns-in-5 t c = writes_as c.behind-in-5.ensures (piece-members _ _ _ _ _ _ c.piece_holds.ensures c.if-not-piece_holds.false c.cell-what.ensures c.in-5.is c.cell-in-5.ensures)
 
 pub piece-returns-in-6 : goal.piece-returns-in-6
-piece-returns-in-6 t c = writes_as c.template.ensures (template_of_lem _ _ _ (ap (λ (m : ℕ). eqb m (mark "Oc")) c.mark_at.ensures.0) c.count_at.ensures.0 c.body_at.ensures ∙ (piece-template _ _ _ _ _ _ c.piece_holds.ensures (not-false _ c.if-not-piece_holds.false-raw) c.cell-what.ensures c.in-6.is))
+piece-returns-in-6 t c = writes_as c.template.ensures (template_of_lem _ _ _ (ap (λ (m : ℕ). eqb m (mark "Oc")) c.mark_at.ensures.0) c.count_at.ensures.0 c.body_at.ensures ∙ (piece-template _ _ _ _ _ _ c.piece_holds.ensures c.if-not-piece_holds.false c.cell-what.ensures c.in-6.is))
 
 pub piece-returns-in-7 : goal.piece-returns-in-7
 unfolding head_at
-piece-returns-in-7 t c = writes_as c.put_token.ensures (piece-text _ _ _ _ _ _ c.piece_holds.ensures (not-false _ c.if-not-piece_holds.false-raw) c.cell-what.ensures c.in-7.is c.text_at.ensures)
+piece-returns-in-7 t c = writes_as c.put_token.ensures (piece-text _ _ _ _ _ _ c.piece_holds.ensures c.if-not-piece_holds.false c.cell-what.ensures c.in-7.is c.text_at.ensures)
 
 pub piece-returns-in-8 : goal.piece-returns-in-8
 unfolding head_at
-piece-returns-in-8 t c = writes_as c.put_symbol.ensures (piece-symbol _ _ _ _ _ _ c.piece_holds.ensures (not-false _ c.if-not-piece_holds.false-raw) c.cell-what.ensures c.in-8.is)
+piece-returns-in-8 t c = writes_as c.put_symbol.ensures (piece-symbol _ _ _ _ _ _ c.piece_holds.ensures c.if-not-piece_holds.false c.cell-what.ensures c.in-8.is)
 
 pub piece-returns-in-9 : goal.piece-returns-in-9
 unfolding head_at
-piece-returns-in-9 t c = writes_as c.put_string.ensures (piece_string _ _ _ _ _ _ c.piece_holds.ensures (not-false _ c.if-not-piece_holds.false-raw) c.cell-what.ensures c.in-9.is c.text_at-in-9.ensures)
+piece-returns-in-9 t c = writes_as c.put_string.ensures (piece_string _ _ _ _ _ _ c.piece_holds.ensures c.if-not-piece_holds.false c.cell-what.ensures c.in-9.is c.text_at-in-9.ensures)
 
 pub piece-returns-in-10 : goal.piece-returns-in-10
 unfolding head_at
-piece-returns-in-10 t c = writes_as c.number.ensures (piece-number _ _ _ _ _ _ c.piece_holds.ensures (not-false _ c.if-not-piece_holds.false-raw) c.cell-what.ensures c.in-10.is)
+piece-returns-in-10 t c = writes_as c.number.ensures (piece-number _ _ _ _ _ _ c.piece_holds.ensures c.if-not-piece_holds.false c.cell-what.ensures c.in-10.is)
 
 pub piece-returns-in_default : goal.piece-returns-in_default
 unfolding head_at
-piece-returns-in_default t c = writes_as c.put_integer.ensures (piece-integer _ _ _ _ _ _ c.piece_holds.ensures (not-false _ c.if-not-piece_holds.false-raw) c.cell-what.ensures c.in_default.in_default-own.rest.0.0.0.0.0.0.0.0.0.1 c.in_default.in_default-own.rest.0.0.0.0.0.0.0.0.1 c.in_default.in_default-own.rest.0.0.0.0.0.0.0.1 c.in_default.in_default-own.rest.0.0.0.0.0.0.1 c.in_default.in_default-own.rest.0.0.0.0.0.1 c.in_default.in_default-own.rest.0.0.0.0.1 c.in_default.in_default-own.rest.0.0.0.1 c.in_default.in_default-own.rest.0.0.1 c.in_default.in_default-own.rest.0.1 c.in_default.in_default-own.rest.1 c.text_at-in_default.ensures)
+piece-returns-in_default t c = writes_as c.put_integer.ensures (piece-integer _ _ _ _ _ _ c.piece_holds.ensures c.if-not-piece_holds.false c.cell-what.ensures c.in_default.in_default-own.rest.0.0.0.0.0.0.0.0.0.1 c.in_default.in_default-own.rest.0.0.0.0.0.0.0.0.1 c.in_default.in_default-own.rest.0.0.0.0.0.0.0.1 c.in_default.in_default-own.rest.0.0.0.0.0.0.1 c.in_default.in_default-own.rest.0.0.0.0.0.1 c.in_default.in_default-own.rest.0.0.0.0.1 c.in_default.in_default-own.rest.0.0.0.1 c.in_default.in_default-own.rest.0.0.1 c.in_default.in_default-own.rest.0.1 c.in_default.in_default-own.rest.1 c.text_at-in_default.ensures)
 
 pub piece-shape_of-out-in-1 : goal.piece-shape_of-out-in-1
 piece-shape_of-out-in-1 t c = writes-same (piece-returns-in-1 t c)

@@ -16,7 +16,8 @@ pub loop-n-init : goal.loop-n-init
 loop-n-init t c = record { inside = c.requires.0; same = refl }
 
 pub returns-then-levels-eq0 : goal.returns-then-levels-eq0
-returns-then-levels-eq0 t c = let a = c.args in
+returns-then-levels-eq0 t c =
+    let a = c.args in
     let l = c.loop-n in
     no_level a.levels a.tree.now _ l.n l.p (parts_from l.slot) l.invariant c.loop-n-test.true c.if-levels-eq0.true
 
@@ -24,7 +25,8 @@ pub open_record-requires : goal.open_record-requires
 open_record-requires t c = (c.loop-n.invariant.inside, c.requires.1, c.requires.2, c.requires.3)
 
 pub returns-in-Stopped : goal.returns-in-Stopped
-returns-in-Stopped t c = let a = c.args in
+returns-in-Stopped t c =
+    let a = c.args in
     let l = c.loop-n in
     stopped-here a.levels a.tree.now _ l.n l.p (parts_from l.slot) l.invariant c.loop-n-test.true c.if-levels-eq0.false _ (sym (ap opening c.in-Stopped.is) ∙ c.open_record.ensures.0)
 
@@ -32,13 +34,15 @@ pub overflow_sub-levels : goal.overflow_sub-levels
 overflow_sub-levels t c = omega (arith, c.if-levels-eq0.false)
 
 pub check_all-found-requires : goal.check_all-found-requires
-check_all-found-requires t c = let a = c.args in
+check_all-found-requires t c =
+    let a = c.args in
     let l = c.loop-n in
     let e = sym (ap opening c.in-Opened.is) ∙ c.open_record.ensures.0 in
     (omega (arith, c.decreases, c.if-levels-eq0.false), (body-inside a.tree.now l.p (parts_from l.slot) _ _ _ e, c.requires.1, c.requires.2, c.requires.3))
 
 pub returns-in_default : goal.returns-in_default
-returns-in_default t c = let a = c.args in
+returns-in_default t c =
+    let a = c.args in
     let l = c.loop-n in
     let e = sym (ap opening c.in-Opened.is) ∙ c.open_record.ensures.0 in
     let r = ap checked c.in_default.is in
@@ -51,7 +55,8 @@ pub loop-n-smaller : goal.loop-n-smaller
 loop-n-smaller t c = omega arith
 
 pub loop-n-preserved : goal.loop-n-preserved
-loop-n-preserved t c = let a = c.args in
+loop-n-preserved t c =
+    let a = c.args in
     let l = c.loop-n in
     let e = sym (ap opening c.in-Opened.is) ∙ c.open_record.ensures.0 in
     let q : parts_from c.in-Opened.next ≡ after (parts_from l.slot) (mark_at a.tree.now l.p) =
@@ -62,6 +67,7 @@ loop-n-preserved t c = let a = c.args in
     ]
 
 pub returns : goal.returns
-returns t c = let a = c.args in
+returns t c =
+    let a = c.args in
     let l = c.loop-n in
     passed-all a.levels a.tree.now _ l.n l.p (parts_from l.slot) l.invariant c.loop-n-test.false

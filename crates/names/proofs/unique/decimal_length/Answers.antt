@@ -16,5 +16,6 @@ pub loop-rest-preserved : goal.loop-rest-preserved
 loop-rest-preserved c = count_turn c.args.n c.loop-rest.rest c.loop-rest.digits c.loop-rest.invariant c.loop-rest-test.true
 
 pub returns : goal.returns
-returns c = let e = count-done c.args.n c.loop-rest.rest c.loop-rest.digits c.loop-rest.invariant c.loop-rest-test.false in
+returns c =
+    let e = count-done c.args.n c.loop-rest.rest c.loop-rest.digits c.loop-rest.invariant c.loop-rest-test.false in
     (e, omega (arith, e, at_most_twenty c.args.n c.ranges.n.fits))
