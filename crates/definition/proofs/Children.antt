@@ -1,35 +1,11 @@
 -- The laws of accepted records that the code stands on: their extent, their parts, and their children.
-use mathlib.Core.Path.{◌≡◌, refl, sym, ap, ◌∙◌, subst}
-use mathlib.Core.List.{List, [], ◌∷◌}
-use mathlib.Core.Bool.{Bool, true, false}
+use mathlib.Core.Path.{◌≡◌, refl, ap, subst}
+use mathlib.Core.List.{List}
 use Prim.Native.Nat.{ℕ, zero, suc, ◌+◌, ◌-◌, ◌<◌, ◌≤◌}
 use native.Mathlib.Omega.{arith}
 use lib.ListN.{length, take, drop}
-use Rattle.definition.specs.Tree.{
-  Rec,
-  Recs,
-  rec,
-  nil,
-  cons,
-  count,
-  head_size,
-  encode,
-  mark_at,
-  flags_at,
-  start_at,
-  last_at,
-  length_at,
-  count_at,
-  text_at,
-  body_at,
-  head_at,
-  read_all,
-  end_of_all,
-  end_at,
-  tree_at,
-  Bytes,
-}
-use Rattle.definition.specs.Grammar.{Part, after, root}
+use Rattle.definition.specs.Tree.{Rec, rec, nil, cons, head_size, encode, mark_at, count_at, body_at, head_at, read_all, end_of_all, end_at, tree_at, Bytes}
+use Rattle.definition.specs.Grammar.{after, root}
 use Rattle.definition.specs.Check.{Checked.fine, inside, check_all, check_at, check_tree, deepest}
 use Rattle.definition.specs.Children.{AcceptedAt, AllAccepted, child_at}
 use Rattle.definition.proofs.Accepted.{Open, Accepted, accepted, accepted-left, check_lies, check_ends, child-accepted, first-accepted, slots_at, accepted-tree}

@@ -1,56 +1,17 @@
 -- The converse of the round trip: the bytes of an accepted record are `encode` of the tree that is read there, and that tree's fields fit.
-use mathlib.Core.Path.{◌≡◌, refl, sym, ap, ◌∙◌}
-use mathlib.Core.List.{List, [], ◌∷◌, ◌++◌}
-use Prim.Native.Nat.{ℕ, zero, suc, ◌+◌, ◌-◌, ◌%◌, ◌<◌, ◌≤◌, max}
+use mathlib.Core.Path.{◌≡◌, refl, ap}
+use mathlib.Core.List.{List, ◌++◌}
+use Prim.Native.Nat.{ℕ, zero, suc, ◌+◌, ◌-◌, ◌<◌, ◌≤◌}
 use native.Mathlib.Omega.{arith}
-use lib.ListN.{length, get_or, take, drop, length-append, get_or-eq_default}
+use lib.ListN.{length, take, drop, length-append, get_or-eq_default}
 use lib.Seq.{get_or-take, get_or-drop}
 use mathlib.Core.Logic.{⊎_elim}
-use Rattle.definition.specs.Tree.{
-  flag_bytes,
-  flags_place,
-  flags_size,
-  start_place,
-  end_place,
-  length_place,
-  count_place,
-  Head,
-  Rec,
-  Recs,
-  rec,
-  nil,
-  cons,
-  count,
-  depth,
-  depths,
-  head_size,
-  le2,
-  le4,
-  head_bytes,
-  encode,
-  encodes,
-  mark_at,
-  flags_at,
-  start_at,
-  last_at,
-  length_at,
-  count_at,
-  text_at,
-  body_at,
-  head_at,
-  read_all,
-  end_at,
-  tree_at,
-  Bytes,
-  FitsHead,
-  Fits,
-  FitsAll,
-}
+use Rattle.definition.specs.Tree.{flag_bytes, flags_place, flags_size, start_place, end_place, length_place, count_place, Rec, Recs, count, depth, depths, head_size, le2, le4, head_bytes, encode, encodes, mark_at, flags_at, start_at, last_at, length_at, count_at, text_at, body_at, head_at, read_all, end_at, tree_at, Bytes, FitsHead, Fits, FitsAll}
 use Rattle.definition.specs.Grammar.{Part, after, root}
-use Rattle.definition.specs.Check.{Checked, Checked.fine, check_all, check_at, check_tree, inside, deepest}
+use Rattle.definition.specs.Check.{Checked.fine, check_all, check_at, check_tree, inside, deepest}
 use Rattle.definition.proofs.Places.{At, at_none, at_join, at_part, part_at, part_length, at-whole, at-le2, at-le4, at-flag_bytes, u16_small, flags-small, length-small, count_small, u32_small, below_or_not}
 use Rattle.definition.proofs.Round.{length-head_bytes}
-use Rattle.definition.proofs.Accepted.{Open, accepted, accepted-left, check_lies, check_ends, first-accepted, accepted-tree, AcceptedTree}
+use Rattle.definition.proofs.Accepted.{accepted, accepted-left, check_lies, first-accepted, accepted-tree}
 
 pub count_read_all : (read : ℕ → Rec) (end : ℕ → ℕ) (n at : ℕ) → count (read_all read end n at) ≡ n
 unfolding read_all

@@ -23,7 +23,7 @@ use Rattle.definition.specs.Typing.{
   e_expr,
   e_op,
   element_kind,
-  elementBy,
+  element_by,
   Spread,
   s_ident,
   s_array,
@@ -160,21 +160,21 @@ within-element : {n m k : ℕ} (t : Rec) (a : Out Rec) (rest : Out (Option Recs)
 within-element t a rest v w = within_then (given rest.0 none (λ ts. some (cons _ ts))) a rest v w
 
 -- an element of at most m + 1 records, before others that cost at most l
-element_by_within : (k : Element) (h : Head) (typed spread : ℕ → Out (Option Rec)) (rest : ℕ → Out (Option Recs)) (n m l : ℕ) →
+element_by-within : (k : Element) (h : Head) (typed spread : ℕ → Out (Option Rec)) (rest : ℕ → Out (Option Recs)) (n m l : ℕ) →
     ((n : ℕ) → Within n m (typed n)) → ((n : ℕ) → Within n m (spread n)) → ((n : ℕ) → Within n l (rest n)) →
-    Within n (suc m + l) (elementBy k h typed spread rest n)
-unfolding elementBy
-element_by_within e_hole h typed spread rest n m l p q s = within-element (any_type_ann dummy_sp) (pure (any_type_ann dummy_sp) n) (rest n) (within-pure (any_type_ann dummy_sp) n (suc m)) (s n)
-element_by_within e_spread h typed spread rest n m l p q s = go (spread n).0 (spread n).1 (spread n).2 (q n)
+    Within n (suc m + l) (element_by k h typed spread rest n)
+unfolding element_by
+element_by-within e_hole h typed spread rest n m l p q s = within-element (any_type_ann dummy_sp) (pure (any_type_ann dummy_sp) n) (rest n) (within-pure (any_type_ann dummy_sp) n (suc m)) (s n)
+element_by-within e_spread h typed spread rest n m l p q s = go (spread n).0 (spread n).1 (spread n).2 (q n)
   where
     go : (x : Option Rec) (ds : List Diag) (c : ℕ) → Within n m (x, ds, c) →
         Within n (suc m + l) (given x (none, ds ++ (diag "d4" h ∷ []), c) (λ t. element (ts_rest_type dummy_sp t) ds (rest c)))
     go none ds c w = within_wider (suc m + l) (within_more none (none, ds, c) (diag "d4" h ∷ []) w) (omega arith)
     go (some t) ds c w = within-element _ (t, ds, c) (rest c) (within_wider (suc m) (within-value (some t, ds, c) w) (omega arith)) (s c)
-element_by_within e_expr h typed spread rest n m l p q s =
+element_by-within e_expr h typed spread rest n m l p q s =
     let o : Out Rec = or_any (typed n) (diag "d1" h ∷ []) in
     within-element o.0 o (rest o.2) (within_wider (suc m) (within-or_any (typed n) (diag "d1" h ∷ []) (p n)) (omega arith)) (s o.2)
-element_by_within e_op h typed spread rest n m l p q s = within_wider (suc m + l) (s n) (omega arith)
+element_by-within e_op h typed spread rest n m l p q s = within_wider (suc m + l) (s n) (omega arith)
 
 -- a typed default, whose name may be made
 default_param-within : {n m : ℕ} (h : Head) (levels t : Rec) (o : Out (Option Rec)) → Within n m o → Within n (suc m) (default_param h levels t o.1 o.2)
@@ -249,7 +249,7 @@ module _ (ids : PrescannedModuleIds) (ctx : ℕ) where
       Within n (all_records (cons e es)) (elements ids ctx (cons e es) c r n)
   unfolding elements all_records
   element-within e es c r n p q s =
-      within_wider _ (element_by_within (element_kind (mark_of e)) (head_of e) _ _ _ n (below e) (all_records es) p q s) (omega (arith, records-below e))
+      within_wider _ (element_by-within (element_kind (mark_of e)) (head_of e) _ _ _ n (below e) (all_records es) p q s) (omega (arith, records-below e))
 
   mutual
     unfolding expr_to_ts_type records

@@ -14,7 +14,7 @@ use Rattle.definition.specs.Grammar.{mark}
 use Rattle.definition.specs.Record.{text, head_of, kids_of, mark_of, text_of, is, is_no, symbol_of, dummy_sp, fresh, ranged, absent, ident, ident_at, flagged, kid, one, given, Diag, diag, Out}
 use Rattle.definition.specs.Helpers.{ts_keyword_type, any_type_ann, reference_to, ts_lit_type, regex_type, ts_tuple_element, no_exprs, first_cooked, tpl_to_ts_type, Lit, l_str, l_bool, l_null, l_num, l_big_int, l_regex, l_jsx_text, maybe_lit_to_ts_type}
 use Rattle.definition.specs.Names.{gen_unique_name}
-use Rattle.definition.specs.Typing.{Frozen, f_type_lit, f_array, f_same, f_other, frozen_kind, plain_members, readonly_members, readonly_of_by, readonly_of, turned, turned_integer, respelled, minus_by, tuple_of, element, or_any, ts_rest_type, Element, e_hole, e_spread, e_expr, e_op, elementBy, Key, k_ident, k_str, k_num, k_computed, key_kind, key_expr, key_flag, property_signature, key_value, shorthand, Param, q_keep, q_assign, q_expr, q_other, param_kind, binding_ident, default_param, param_by, fn_type}
+use Rattle.definition.specs.Typing.{Frozen, f_type_lit, f_array, f_same, f_other, frozen_kind, plain_members, readonly_members, readonly_of_by, readonly_of, turned, turned_integer, respelled, minus_by, tuple_of, element, or_any, ts_rest_type, Element, e_hole, e_spread, e_expr, e_op, element_by, Key, k_ident, k_str, k_num, k_computed, key_kind, key_expr, key_flag, property_signature, key_value, shorthand, Param, q_keep, q_assign, q_expr, q_other, param_kind, binding_ident, default_param, param_by, fn_type}
 use Rattle.definition.proofs.Texts.{written, turned-length, turned-bytes, turned_integer-length, turned_integer-bytes}
 use Rattle.definition.proofs.Fit.{weight, Room, Sound, Fit, FitAll, Few, Given, Makes, plain, head_sound, kids-fit, given-cond, fresh-sound, ranged-sound, flagged-fits, absent-fits, keyword-fits, any-fits, over-one, over-two, ident_at-fits, symbol-short, symbol-bytes, named-fits, kid-fits, rehead, more, on_value-makes, or_any-makes}
 
@@ -166,13 +166,13 @@ module _ (x : ℕ) where
       go (some ts) h = ((over-two x "Tm" refl 0 (omega arith) absent t (absent-fits x) g, h.0), omega (arith, h.1))
 
   -- what is before the rest costs w, the rest v
-  pub element_by_makes : (k : Element) (h : Head) (typed spread : ℕ → Out (Option Rec)) (rest : ℕ → Out (Option Recs)) (m n w v : ℕ) →
+  pub element_by-makes : (k : Element) (h : Head) (typed spread : ℕ → Out (Option Rec)) (rest : ℕ → Out (Option Recs)) (m n w v : ℕ) →
       Makes (Given (Fit x)) n w (typed n) → Makes (Given (Fit x)) n w (spread n) →
-      ((n : ℕ) → Room n v → Makes (Given (Few x m)) n v (rest n)) → Room n (w + v) → Makes (Given (Few x (suc m))) n (w + v) (elementBy k h typed spread rest n)
-  unfolding elementBy
-  element_by_makes e_hole h typed spread rest m n w v p q s l =
+      ((n : ℕ) → Room n v → Makes (Given (Few x m)) n v (rest n)) → Room n (w + v) → Makes (Given (Few x (suc m))) n (w + v) (element_by k h typed spread rest n)
+  unfolding element_by
+  element_by-makes e_hole h typed spread rest m n w v p q s l =
       more (element-makes (any_type_ann dummy_sp) [] m n v (rest n) (any-fits x) (s n (omega arith))) (omega arith)
-  element_by_makes e_spread h typed spread rest m n w v p q s l = go (spread n) q
+  element_by-makes e_spread h typed spread rest m n w v p q s l = go (spread n) q
     where
       go : (o : Out (Option Rec)) → Makes (Given (Fit x)) n w o →
           Makes (Given (Few x (suc m))) n (w + v) (given o.0 (none, o.1 ++ (diag "d4" h ∷ []), o.2) (λ t. element (ts_rest_type dummy_sp t) o.1 (rest o.2)))
@@ -185,13 +185,13 @@ module _ (x : ℕ) where
               let r = s o.2 (omega (arith, q.counter)) in
               let e = element-makes (ts_rest_type dummy_sp t) o.1 m o.2 v (rest o.2) (over-one x "Rt" refl t g) r in
               record { value = e.value; counter = omega (arith, q.counter, e.counter) }
-  element_by_makes e_expr h typed spread rest m n w v p q s l =
+  element_by-makes e_expr h typed spread rest m n w v p q s l =
       let a = or_any-makes x (typed n) (diag "d1" h ∷ []) p in
       let o : Out Rec = or_any (typed n) (diag "d1" h ∷ []) in
       let r = s o.2 (omega (arith, a.counter)) in
       let e = element-makes o.0 o.1 m o.2 v (rest o.2) a.value r in
       record { value = e.value; counter = omega (arith, a.counter, e.counter) }
-  element_by_makes e_op h typed spread rest m n w v p q s l =
+  element_by-makes e_op h typed spread rest m n w v p q s l =
       let r = s n (omega arith) in
       record { value = few-more (rest n).0 r.value; counter = omega (arith, r.counter) }
     where

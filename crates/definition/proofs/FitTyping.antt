@@ -14,7 +14,7 @@ use Rattle.definition.specs.Helpers.{ts_keyword_type, reference_to, ts_type_quer
 use Rattle.definition.specs.Prescan.{PrescannedModuleIds}
 use Rattle.definition.specs.Typing.{readonly_of, tuple_of, element_kind, Spread, s_ident, s_array, s_other, spread_kind, Prop, p_key_value, p_shorthand, p_spread, p_other, p_op, prop_kind, param_kind, fn_type, Expr, x_array, x_object, x_lit, x_const, x_satisfies, x_as, x_fn, x_arrow, x_tpl, x_ident, x_unary, x_call, x_new, x_other, expr_kind, Below, global_type, ident_to_ts_type, new_type, spread_by, prop_by, frozen, expr_by, expr_to_ts_type, type_first, type_second, elements, spread_type, spread_first, props, prop, fn_second, fn_first, function_type, fn_params, fn_param, param_first, arrow_params, pat_to_ts_fn_param}
 use Rattle.definition.proofs.Fit.{names, all_names, Keys, AllKeys, Room, none_made, at_most, given-cond, Fit, FitAll, Few, Given, Makes, keyword-fits, over-one, kid-fits, join-fits, pure-makes, more, on_value-makes, if_m-makes}
-use Rattle.definition.proofs.FitTypes.{reference-fits, lit-fits, minus-fits, template-fits, frozen-fits, ranged-fits, tuples_fit, element_by_makes, key_value-makes, shorthand-makes, param_by-makes, fn_type-fits}
+use Rattle.definition.proofs.FitTypes.{reference-fits, lit-fits, minus-fits, template-fits, frozen-fits, ranged-fits, tuples_fit, element_by-makes, key_value-makes, shorthand-makes, param_by-makes, fn_type-fits}
 
 kv-mark : (m : ℕ) → prop_kind m ≡ p_key_value → m ≡ mark "Kv"
 unfolding prop_kind
@@ -140,7 +140,7 @@ module _ (x : ℕ) (ids : PrescannedModuleIds) (ctx : ℕ) where
     elements-makes : (es : Recs) (c r : Bool) (n : ℕ) → FitAll x es → AllKeys x es → Room n (all_names es) → Makes (Given (Few x (count es))) n (all_names es) (elements ids ctx es c r n)
     elements-makes nil c r n g q l = pure-makes (tt, omega arith)
     elements-makes (cons e es) c r n g q l =
-        element_by_makes x (element_kind (mark_of e)) (head_of e) _ _ _ (count es) n (names e) (all_names es) (expr_makes e c r n g.0 q.0 (omega arith))
+        element_by-makes x (element_kind (mark_of e)) (head_of e) _ _ _ (count es) n (names e) (all_names es) (expr_makes e c r n g.0 q.0 (omega arith))
         (spread-makes e c n g.0 q.0 (omega arith)) (λ n l. elements-makes es c r n g.1 q.1 l) l
 
     spread-makes : (e : Rec) (c : Bool) (n : ℕ) → Fit x e → Keys x e → Room n (names e) → Makes (Given (Fit x)) n (names e) (spread_type ids ctx e c n)

@@ -20,7 +20,7 @@ use Rattle.definition.specs.Typing.{
   e_expr,
   e_op,
   element_kind,
-  elementBy,
+  element_by,
   key_kind,
   key_expr,
   key_flag,
@@ -378,7 +378,7 @@ module _ (ids : PrescannedModuleIds) (ctx : ℕ) where
   element-at : (e : Rec) (es : Recs) (c : Bool) (n : ℕ) (ts : Recs) → ((t : Rec) → literal_expr e c ≡ some t → expr_to_ts_type ids ctx e c c n ≡ (some t, [], n)) →
       ((ts : Recs) → element_types es c ≡ some ts → elements ids ctx es c c n ≡ (some ts, [], n)) → element_types (cons e es) c ≡ some ts →
       elements ids ctx (cons e es) c c n ≡ (some ts, [], n)
-  unfolding element_types elements elementBy
+  unfolding element_types elements element_by
   element-at e es c n ts f g p = go (is "Op" e) (literal_expr e c) (element_types es c) refl refl refl
     where
       go : (b : Bool) (x : Option Rec) (y : Option Recs) → is "Op" e ≡ b → literal_expr e c ≡ x → element_types es c ≡ y →

@@ -14,7 +14,7 @@ use Rattle.definition.specs.Record.{kids_of, mark_of, among, is_no, flagged, kid
 use Rattle.definition.specs.Prescan.{PrescannedModuleIds}
 use Rattle.definition.specs.Typing.{x_as, x_fn, x_arrow, expr_kind, expr_by, expr_to_ts_type, arrow_params, fn_params, fn_type, param_kind, param_by, pat_to_ts_fn_param}
 use Rattle.definition.specs.Classes.{p_ident, p_box, pattern_kind, handle_func_param_ident, handle_func_param_assign, handle_pattern_by, handle_pattern, handle_func_param, function_part, handle_function, prop_type, class_prop}
-use Rattle.definition.specs.Items.{i_decl, item_kind, d_type, decl_kind, x_fn as xFunction, x_other, default_kind, declarator_pattern, declarator, without_body, decl_to_type_decl, transform_module_stmt, export_decl, export_default_decl, item_by, transform_module_item}
+use Rattle.definition.specs.Items.{i_decl, item_kind, d_type, decl_kind, x_fn as x_function, x_other, default_kind, declarator_pattern, declarator, without_body, decl_to_type_decl, transform_module_stmt, export_decl, export_default_decl, item_by, transform_module_item}
 use Rattle.definition.proofs.Handbook.{no_some}
 use Rattle.definition.proofs.ItemKinds.{kind_export, kind-default}
 use Rattle.definition.proofs.SilenceModule.{either}
@@ -119,7 +119,7 @@ type-decl : (m : ℕ) → among "In Ty" m ≡ true → decl_kind m ≡ d_type
 unfolding marks decl_kind
 type-decl m e = ⊎_elim (λ q. rw q) (λ q. rw q) (either m (mark "In") (mark "Ty") e)
 
-pub default_fx : (m : ℕ) → m ≡ mark "Fx" → default_kind m ≡ xFunction
+pub default_fx : (m : ℕ) → m ≡ mark "Fx" → default_kind m ≡ x_function
 unfolding default_kind
 default_fx m e = rw e
 

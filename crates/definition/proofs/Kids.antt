@@ -12,7 +12,7 @@ use lib.Dec.{eqb}
 use lib.ListN.{length}
 use borrow.Author.Tests.{eqb-true, eqb-false, leb-true, eq-eqb, ne_eqb}
 use Rattle.definition.specs.Tree.{Head, Rec, nil, head_size, mark_at, flags_at, length_at, count_at, text_at, body_at, head_at, read_all, end_of_all, end_at, tree_at}
-use Rattle.definition.specs.Grammar.{mark, marks, member, Part, Part.one, Part.many, Part.property, Form, Form.empty, Form.eight, Form.integer, Form.identifier, grammar, known, forms, slots, place, allowed, after, least, is_property, undestructured, expression, type, pattern}
+use Rattle.definition.specs.Grammar.{mark, marks, member, Part, Part.one, Part.many, Part.property, Form, Form.empty, Form.eight, Form.integer, Form.identifier, grammar, known, forms, slots, place, allowed, after, least, is_property, undestructured, expression, pattern}
 use Rattle.definition.specs.Check.{has_form, is_integer, form_of, slots_of, inside, Checked.fine, check_at}
 use Rattle.definition.specs.Children.{AcceptedAt, AllAccepted, child_at}
 use Rattle.definition.specs.Record.{head_of, kids_of, mark_of, text_of, absent, kid}

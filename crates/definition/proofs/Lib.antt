@@ -45,6 +45,7 @@ pub mod FitTyping
 pub mod FitClasses
 pub mod FitItems
 pub mod Widths
+pub mod WidthsCall
 pub mod Demand3
 pub mod Demand3Sample
 pub mod TextSamples

@@ -23,7 +23,7 @@ use Rattle.definition.specs.Typing.{
   e_expr,
   e_op,
   element_kind,
-  elementBy,
+  element_by,
   Spread,
   s_ident,
   s_array,
@@ -118,19 +118,19 @@ module _ (P : Diag → Type 0) where
 
   -- ---- elements, properties and parameters
 
-  element_by_all : (k : Element) (h : Head) (typed spread : ℕ → Out (Option Rec)) (rest : ℕ → Out (Option Recs)) (n : ℕ) → At P h →
-      ((n : ℕ) → All P (typed n).1) → ((n : ℕ) → All P (spread n).1) → ((n : ℕ) → All P (rest n).1) → All P (elementBy k h typed spread rest n).1
-  unfolding elementBy
-  element_by_all e_hole h typed spread rest n a p q s = s n
-  element_by_all e_spread h typed spread rest n a p q s = go (spread n).0
+  element_by-all : (k : Element) (h : Head) (typed spread : ℕ → Out (Option Rec)) (rest : ℕ → Out (Option Recs)) (n : ℕ) → At P h →
+      ((n : ℕ) → All P (typed n).1) → ((n : ℕ) → All P (spread n).1) → ((n : ℕ) → All P (rest n).1) → All P (element_by k h typed spread rest n).1
+  unfolding element_by
+  element_by-all e_hole h typed spread rest n a p q s = s n
+  element_by-all e_spread h typed spread rest n a p q s = go (spread n).0
     where
       go : (x : Option Rec) → All P (given x (none, (spread n).1 ++ (diag "d4" h ∷ []), (spread n).2) (λ t. element (ts_rest_type dummy_sp t) (spread n).1 (rest (spread n).2))).1
       go none = all_append (spread n).1 (diag "d4" h ∷ []) (q n) (a.3, tt)
       go (some t) = all_append (spread n).1 (rest (spread n).2).1 (q n) (s (spread n).2)
-  element_by_all e_expr h typed spread rest n a p q s =
+  element_by-all e_expr h typed spread rest n a p q s =
       let o : Out Rec = or_any (typed n) (diag "d1" h ∷ []) in
       all_append o.1 (rest o.2).1 (all-or_any (typed n) (diag "d1" h ∷ []) (p n) (a.0, tt)) (s o.2)
-  element_by_all e_op h typed spread rest n a p q s = s n
+  element_by-all e_op h typed spread rest n a p q s = s n
 
   default_param-all : (h : Head) (left t : Rec) (ds : List Diag) (n : ℕ) → All P ds → All P (default_param h left t ds n).1
   unfolding default_param
@@ -226,7 +226,7 @@ module _ (P : Diag → Type 0) where
       elements-all : (es : Recs) (c r : Bool) (n : ℕ) → AllEverywhere P es → All P (elements ids ctx es c r n).1
       elements-all nil c r n w = tt
       elements-all (cons e es) c r n w =
-          element_by_all (element_kind (mark_of e)) (head_of e) _ _ _ n (own e w.0)
+          element_by-all (element_kind (mark_of e)) (head_of e) _ _ _ n (own e w.0)
           (λ n. expr_to_ts_type-all e c r n w.0) (λ n. spread_type-all e c n w.0) (λ n. elements-all es c r n w.1)
 
       spread_type-all : (e : Rec) (c : Bool) (n : ℕ) → Everywhere P e → All P (spread_type ids ctx e c n).1

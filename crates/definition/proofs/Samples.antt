@@ -11,7 +11,7 @@ use Rattle.definition.specs.Record.{text, same_text, head_of, kids_of, fresh, ab
 use Rattle.definition.specs.Helpers.{object_freeze_call_arg, no_exprs, tpl_to_ts_type, lit_kind, maybe_lit_to_ts_type}
 use Rattle.definition.specs.Prescan.{array_type_kind, is_array_type_by, is_array_type, array_init_kind, is_array_lit_init_by, is_array_lit_init, add_declarator, add_declarators, declared_kind, add_decl_by, asked}
 use Rattle.definition.specs.Names.{decimal_up_to, gen_unique_name, well_known_symbol_names, any_text, is_well_known_symbol_expr, key_expr_kind, prop_name_by, prop_name_from_expr, valid_prop_name}
-use Rattle.definition.specs.Typing.{frozen_kind, plain_members, readonly_members, readonly_of_by, turned, turned_integer, minus_by, element_kind, elementBy, spread_kind, key_kind, key_expr, prop_kind, param_kind, default_param, param_by, expr_kind, global_type, ident_to_ts_type, new_type, spread_by, prop_by, expr_by, expr_to_ts_type}
+use Rattle.definition.specs.Typing.{frozen_kind, plain_members, readonly_members, readonly_of_by, turned, turned_integer, minus_by, element_kind, element_by, spread_kind, key_kind, key_expr, prop_kind, param_kind, default_param, param_by, expr_kind, global_type, ident_to_ts_type, new_type, spread_by, prop_by, expr_by, expr_to_ts_type}
 use Rattle.definition.specs.Classes.{handle_func_param_ident, pattern_kind, handle_func_param_assign, handle_pattern_by, handle_func_param, function_part, handle_function, constructor_part, constructor, method, class_prop, member_kind, member_by, class_body_to_type, class}
 use Rattle.definition.specs.Enums.{init_kind, valid_by, valid_enum_init_expr, enum_init, enum_member}
 use Rattle.definition.specs.Items.{item_kind, decl_kind, default_kind, body_kind, declarator_pattern, declarator, without_body, default_typed, decl_to_type_decl, transform_module_stmt, export_decl, export_default_decl, export_default_expr, item_by, body_by, transform_module_items}
@@ -261,7 +261,7 @@ unfolding
     object_freeze_call_arg no_exprs tpl_to_ts_type lit_kind maybe_lit_to_ts_type
     array_type_kind is_array_type_by is_array_type array_init_kind is_array_lit_init_by is_array_lit_init add_declarator add_declarators declared_kind add_decl_by asked
     decimal_up_to gen_unique_name well_known_symbol_names any_text is_well_known_symbol_expr key_expr_kind prop_name_by prop_name_from_expr valid_prop_name
-    frozen_kind plain_members readonly_members readonly_of_by turned turned_integer minus_by element_kind elementBy spread_kind key_kind key_expr prop_kind
+    frozen_kind plain_members readonly_members readonly_of_by turned turned_integer minus_by element_kind element_by spread_kind key_kind key_expr prop_kind
     param_kind default_param param_by expr_kind global_type ident_to_ts_type new_type spread_by prop_by expr_by expr_to_ts_type
     handle_func_param_ident pattern_kind handle_func_param_assign handle_pattern_by handle_func_param function_part handle_function constructor_part
     constructor method class_prop member_kind member_by class_body_to_type class

@@ -22,7 +22,7 @@ use Rattle.definition.specs.Typing.{
   e_expr,
   e_op,
   element_kind,
-  elementBy,
+  element_by,
   spread_kind,
   spread_by,
   prop_kind,
@@ -186,8 +186,8 @@ module _ (ids : PrescannedModuleIds) (ctx : ℕ) where
       go (some t) l m = piece-left _ (piece-whole l)
 
   after-element : (k : Element) (h : Head) (typed spread : ℕ → Out (Option Rec)) (rest : ℕ → Out (Option Recs)) (n : ℕ) →
-      (k ≡ e_spread → (t : Rec) × ((spread n).0 ≡ some t)) → (m : ℕ) × Piece (rest m).1 (elementBy k h typed spread rest n).1
-  unfolding elementBy
+      (k ≡ e_spread → (t : Rec) × ((spread n).0 ≡ some t)) → (m : ℕ) × Piece (rest m).1 (element_by k h typed spread rest n).1
+  unfolding element_by
   after-element e_hole h typed spread rest n p = (n, piece-whole _)
   after-element e_spread h typed spread rest n p =
       let e : (spread n).0 ≡ some (p refl).0 = (p refl).1 in
@@ -210,7 +210,7 @@ module _ (ids : PrescannedModuleIds) (ctx : ℕ) where
 
   module _ (c r : Bool) where
     reached : {e : Rec} {ks : Recs} → Reaches ids ctx c e ks → element_kind (mark_of e) ≡ e_expr → (n : ℕ) → Heard e c r (elements ids ctx ks c r n).1
-    unfolding elements elementBy
+    unfolding elements element_by
     reached {e} now k n = record { counter = n; piece = rw k (piece-left _ (or_any-piece (expr_to_ts_type ids ctx e c r n) (diag "d1" (head_of e) ∷ []))) }
     reached {e} (later {q} {es} f i) k n =
         let a = after-element (element_kind (mark_of q)) (head_of q) (λ n. expr_to_ts_type ids ctx q c r n) (λ n. spread_type ids ctx q c n) (λ n. elements ids ctx es c r n) n
@@ -219,7 +219,7 @@ module _ (ids : PrescannedModuleIds) (ctx : ℕ) where
 
     spread-reached : {s : Rec} {ks : Recs} → Reaches ids ctx c s ks → mark_of s ≡ mark "Sp" → (n : ℕ) →
         (m : ℕ) × Piece (spread_type ids ctx s c m).1 (elements ids ctx ks c r n).1
-    unfolding elements elementBy element_kind
+    unfolding elements element_by element_kind
     spread-reached {s} (now {es}) k n = (n, rw k (spread-first (head_of s) (spread_type ids ctx s c n) (λ n. elements ids ctx es c r n)))
     spread-reached {s} (later {q} {es} f i) k n =
         let a = after-element (element_kind (mark_of q)) (head_of q) (λ n. expr_to_ts_type ids ctx q c r n) (λ n. spread_type ids ctx q c n) (λ n. elements ids ctx es c r n) n

@@ -34,32 +34,7 @@ use Rattle.definition.specs.Classes.{
   class_body_to_type,
   class,
 }
-use Rattle.definition.specs.Items.{
-  i_decl,
-  item_kind,
-  Decl,
-  d_class,
-  d_fn,
-  d_var,
-  d_module,
-  decl_kind,
-  default_kind,
-  declarator_pattern,
-  declarator,
-  export_of,
-  stmt_of,
-  decl_to_type_decl,
-  transform_module_stmt,
-  export_decl,
-  export_default_decl,
-  export_default_expr,
-  item_by,
-  transform_module_items,
-  transform_module_item,
-  exported,
-  ns_parts,
-  transform_ts_ns_body,
-}
+use Rattle.definition.specs.Items.{i_decl, item_kind, Decl, d_class, d_fn, d_var, d_module, decl_kind, default_kind, declarator_pattern, declarator, export_of, stmt_of, decl_to_type_decl, transform_module_stmt, export_decl, export_default_decl, export_default_expr, item_by, transform_module_items, transform_module_item, ns_parts, transform_ts_ns_body}
 use Rattle.definition.specs.Transform.{transform_by, transform}
 use Rattle.definition.specs.Silence.{OneOf, here, there, Piece, Given, Told, now, Meets}
 use Rattle.definition.specs.Typed.{InPattern, InParam, InFunction, InMember, InClass, InDecl, InBody, InItem}

@@ -11,7 +11,7 @@ use native.Mathlib.Omega.{arith}
 use lib.ListN.{length, replicate, length-append}
 use lib.Dec.{eqb}
 use borrow.Author.Tests.{eqb-true, eqb-false, le-leb}
-use Rattle.definition.specs.Tree.{Head, Rec, Recs, rec, nil, cons, head_size, depth, depths, head_bytes, encode, encodes, Bytes, tree_at}
+use Rattle.definition.specs.Tree.{Head, Rec, Recs, rec, nil, cons, depth, depths, head_bytes, encode, encodes, Bytes, tree_at}
 use Rattle.definition.specs.Grammar.{mark, marks, member, Part, grammar, known, forms, slots, place, allowed, after, least, is_property, root}
 use Rattle.definition.specs.Check.{slots_of, inside, has_form, open_body, open_at, fine, check_all, check_at, list_fine, entries_fine, deepest, check_tree}
 use Rattle.definition.specs.Record.{mark_of, is, one}

@@ -6,7 +6,7 @@ use mathlib.Core.Option.{Option, none, some}
 use Prim.Native.Nat.{ℕ}
 use lib.Dec.{eqb}
 use Rattle.definition.specs.Tree.{Head, Rec, Recs, rec, nil, cons}
-use Rattle.definition.specs.Grammar.{mark, marks, member}
+use Rattle.definition.specs.Grammar.{marks, member}
 use Rattle.definition.specs.Record.{text, same_text, head_of, kids_of, mark_of, text_of, is, is_no, context_of, symbol_of, dummy_sp, fresh, absent, kid, given, present, pure, if_m}
 use Rattle.definition.specs.Helpers.{ts_keyword_type, ts_lit_type, no_exprs, first_cooked, tpl_to_ts_type, object_freeze_call_arg, Lit, l_str, l_bool, l_null, l_num, l_big_int, l_regex, l_jsx_text, lit_kind, maybe_lit_to_ts_type}
 use Rattle.definition.specs.Prescan.{PrescannedModuleIds}

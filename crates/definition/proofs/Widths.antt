@@ -2,23 +2,21 @@
 -- has a Ki of more than 65,531 bytes.
 use mathlib.Core.Path.{◌≡◌, refl, ap}
 use mathlib.Core.List.{List}
-use mathlib.Core.Bool.{Bool, true, false, ◌&&◌}
+use mathlib.Core.Bool.{true}
 use Prim.Native.Nat.{ℕ, ◌≤◌, ◌<◌}
 use native.Mathlib.Omega.{arith}
 use lib.Dec.{ltb}
 use lib.ListN.{length}
 use borrow.Author.Tests.{ltb-true, lt-ltb}
 use Rattle.definition.specs.Tree.{Head, Rec, Recs, rec, nil, cons, count, encode, tree_at, Bytes, FitsHead, Fits, FitsAll}
-use Rattle.definition.specs.Grammar.{mark}
 use Rattle.definition.specs.Check.{fine, longest_tree, deepest, check_tree}
-use Rattle.definition.specs.Record.{text_of, kids_of, kid, diags_bytes}
+use Rattle.definition.specs.Record.{text_of, kids_of, kid}
 use Rattle.definition.specs.Prescan.{PrescannedModuleIds, prescan_module_ids}
 use Rattle.definition.specs.Typing.{expr_to_ts_type}
-use Rattle.definition.specs.Transform.{transform, done, texts_fit, all_texts_fit, call}
+use Rattle.definition.specs.Transform.{transform, texts_fit, all_texts_fit}
 use Rattle.definition.specs.Widths.{KeysUpTo}
 use Rattle.definition.proofs.Accepted.{accepted-tree}
 use Rattle.definition.proofs.Converse.{read-accepted}
-use Rattle.definition.proofs.Calls.{succeeds}
 use Rattle.definition.proofs.There.{nothing-typed}
 use Rattle.definition.proofs.Fit.{Sound, Fit, FitAll, Keys, AllKeys}
 use Rattle.definition.proofs.FitTyping.{expr_makes}
@@ -124,10 +122,3 @@ module _ (tree list : List ℕ) (ctx e : ℕ) (bytes : Bytes tree) (accepted : c
   -- and its texts fit, but for reading 20
   pub output_fits_but : KeysUpTo 65531 (tree_at deepest tree 0) → Fits made
   output_fits_but q = fit-fits made (transform-fits 0 list ctx (tree_at deepest tree 0) (fits-fit (tree_at deepest tree 0) 0 fits_read) q short)
-
-  -- so for such a tree buffers are long enough once and-true lengths fit in them, and the call succeeds
-  pub call-succeeds : KeysUpTo 65531 (tree_at deepest tree 0) → (out diags : List ℕ) → length (encode made) ≤ length out →
-      length (diags_bytes (transform list ctx (tree_at deepest tree 0)).1) ≤ length diags →
-      (call tree list ctx out diags).answer ≡ done (length (encode made)) (length (transform list ctx (tree_at deepest tree 0)).1)
-  call-succeeds q out diags l m =
-      succeeds tree list ctx out diags e accepted (record { texts = fits-texts made (output_fits_but q); bytes = l; diagnostics = m })

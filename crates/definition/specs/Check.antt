@@ -1,5 +1,5 @@
 -- What the check of a tree and of an overload list finds: refusals 1 to 8 of document 01's table, in their order and with their places.
-use Rattle.std.specs.Prelude.{ℕ, zero, suc, ◌+◌, ◌-◌, ◌/◌, ◌%◌, List, [], ◌∷◌, Bool, true, false, cond, not, ◌&&◌, length, get_or, drop, eqb, leb, ltb}
+use Rattle.std.specs.Prelude.{ℕ, zero, suc, ◌+◌, ◌-◌, ◌/◌, ◌%◌, List, [], ◌∷◌, Bool, true, false, cond, length, get_or, drop, eqb, leb, ltb}
 use Rattle.definition.specs.Tree.{head_size, u16_at, u32_at, mark_at, flags_at, start_at, last_at, length_at, count_at, text_at, body_at}
 use Rattle.definition.specs.Grammar.{
   mark,

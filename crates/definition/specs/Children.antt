@@ -1,6 +1,6 @@
 -- The records of an accepted tree, as the code meets them: by their offset and the levels that are left.
 use Rattle.std.specs.Prelude.{ℕ, ◌-◌, ◌≡◌, List}
-use Rattle.definition.specs.Tree.{mark_at, body_at, end_of_all, end_at}
+use Rattle.definition.specs.Tree.{body_at, end_of_all, end_at}
 use Rattle.definition.specs.Grammar.{Part}
 use Rattle.definition.specs.Check.{Checked.fine, check_all, check_at}
 

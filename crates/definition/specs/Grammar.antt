@@ -2,7 +2,7 @@
 -- text, the slots of its children and, behind it, what the mark stands for. The code's tables are
 -- printed from this file: after a change of it run `tools/grammar-tables`.
 use Rattle.std.specs.Prelude.{ℕ, suc, ◌+◌, ◌*◌, List, [], ◌∷◌, ◌++◌, map, Bool, true, false, cond, ◌||◌, eqb}
-use Prim.Native.Char.{Char, code}
+use Prim.Native.Char.{code}
 use Prim.Native.String.{String, [] as ε, ◌∷◌ as ◌∷ₛ◌, ◌++◌ as ◌⧺◌}
 
 -- ---- marks

@@ -10,7 +10,7 @@ use Rattle.definition.specs.Names.{gen_unique_name}
 use Rattle.definition.specs.Typing.{or_any}
 use Rattle.definition.specs.Classes.{type_or, handle_function, class}
 use Rattle.definition.specs.Enums.{enum_member}
-use Rattle.definition.specs.ChildNames.{xd_declaration, xe_expression, fd_function, cd_class, vr_pattern, vr_init, fu_body, bd_type}
+use Rattle.definition.specs.ChildNames.{xd_declaration, xe_expression, fd_function, cd_class, vr_pattern, vr_init, bd_type}
 
 -- ---- kinds
 

@@ -95,16 +95,16 @@ unfoldable pub element_kind : ℕ → Element
 element_kind m = cond (eqb m (mark "No")) e_hole (cond (eqb m (mark "Sp")) e_spread (cond (eqb m (mark "Op")) e_op e_expr))
 
 -- `typed` types the element, `spread` the array that a Sp spreads, `rest` the elements after it
-unfoldable pub elementBy :
+unfoldable pub element_by :
     Element → Head → (ℕ → Out (Option Rec)) → (ℕ → Out (Option Rec)) → (ℕ → Out (Option Recs)) → ℕ → Out (Option Recs)
-elementBy e_hole h typed spread rest n = element (any_type_ann dummy_sp) [] (rest n)
-elementBy e_spread h typed spread rest n =
+element_by e_hole h typed spread rest n = element (any_type_ann dummy_sp) [] (rest n)
+element_by e_spread h typed spread rest n =
     let o : Out (Option Rec) = spread n in
     given o.0 (none, o.1 ++ (diag "d4" h ∷ []), o.2) (λ t. element (ts_rest_type dummy_sp t) o.1 (rest o.2))
-elementBy e_expr h typed spread rest n =
+element_by e_expr h typed spread rest n =
     let o : Out Rec = or_any (typed n) (diag "d1" h ∷ []) in
     element o.0 o.1 (rest o.2)
-elementBy e_op h typed spread rest n = rest n
+element_by e_op h typed spread rest n = rest n
 
 -- what a Sp spreads
 pub data Spread : Type 0 where
@@ -305,7 +305,7 @@ module _ (ids : PrescannedModuleIds) (ctx : ℕ) where
     pub elements : Recs → Bool → Bool → ℕ → Out (Option Recs)
     elements nil c r n = pure (some nil) n
     elements (cons e es) c r n =
-        elementBy (element_kind (mark_of e)) (head_of e) (λ n. expr_to_ts_type e c r n) (λ n. spread_type e c n) (λ n. elements es c r n) n
+        element_by (element_kind (mark_of e)) (head_of e) (λ n. expr_to_ts_type e c r n) (λ n. spread_type e c n) (λ n. elements es c r n) n
 
     -- what a Sp spreads
     pub spread_type : Rec → Bool → ℕ → Out (Option Rec)

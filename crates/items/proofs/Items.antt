@@ -7,7 +7,7 @@ use Prim.Native.Nat.{ℕ, suc, ◌+◌, ◌-◌, ◌≤◌, ◌<◌}
 use native.Mathlib.Omega.{arith}
 use Rattle.definition.specs.Tree.{Head, Rec, Recs, rec, nil, cons, count, end_at, tree_at}
 use Rattle.definition.specs.Record.{mark_of, is, kid, one, listed, Out, Typing, flat}
-use Rattle.definition.specs.Items.{Item, i_kept, i_dropped, i_export, i_default, i_default_expr, i_decl, item_kind, Decl, d_class, d_fn, d_var, d_enum, d_module, d_using, d_type, decl_kind, Default, x_class, x_fn, x_other, default_kind, default_typed, export_of as exportWith, stmt_of as stmtWith, decl_to_type_decl, transform_module_stmt, export_decl, export_default_decl, export_default_expr, item_by, transform_module_items, transform_module_item, exported}
+use Rattle.definition.specs.Items.{Item, i_kept, i_dropped, i_export, i_default, i_default_expr, i_decl, item_kind, Decl, d_class, d_fn, d_var, d_enum, d_module, d_using, d_type, decl_kind, Default, x_class, x_fn, x_other, default_kind, default_typed, export_of as export_with, stmt_of as stmt_with, decl_to_type_decl, transform_module_stmt, export_decl, export_default_decl, export_default_expr, item_by, transform_module_items, transform_module_item, exported}
 use Rattle.definition.specs.Counting.{records}
 use Rattle.definition.proofs.Counting.{expr_to_ts_type-within}
 use Rattle.definition.proofs.CountingItems.{item-within}
@@ -24,17 +24,17 @@ use Rattle.items.specs.Steps.{records_at, item_of, items_of}
 
 -- ---- an item gives at most two records
 
-few_export : (h : Head) (ops : Recs) (o : Out (Option Rec)) → count (exportWith h ops o).0 ≤ 2
+few_export : (h : Head) (ops : Recs) (o : Out (Option Rec)) → count (export_with h ops o).0 ≤ 2
 few_export h ops o = go o.0
   where
-    go : (v : Option Rec) → count (exportWith h ops (v, o.1, o.2)).0 ≤ 2
+    go : (v : Option Rec) → count (export_with h ops (v, o.1, o.2)).0 ≤ 2
     go none = omega arith
     go (some d) = omega arith
 
-few_stmt : (h : Head) (o : Out (Option Rec)) → count (stmtWith h o).0 ≤ 2
+few_stmt : (h : Head) (o : Out (Option Rec)) → count (stmt_with h o).0 ≤ 2
 few_stmt h o = go o.0
   where
-    go : (v : Option Rec) → count (stmtWith h (v, o.1, o.2)).0 ≤ 2
+    go : (v : Option Rec) → count (stmt_with h (v, o.1, o.2)).0 ≤ 2
     go none = omega arith
     go (some d) = omega arith
 

@@ -16,7 +16,7 @@ use Rattle.definition.specs.Grammar.{mark, known}
 use Rattle.definition.specs.Children.{AcceptedAt}
 use Rattle.definition.specs.Record.{head_of, kids_of, mark_of, with_flags, flag1, one, given, Diag, diag, listed, Out, pure, if_m, on_value}
 use Rattle.definition.specs.Enums.{enum_member}
-use Rattle.definition.specs.Items.{Item, i_kept, i_dropped, i_export, i_default, i_default_expr, i_decl, item_kind, Decl, d_class, d_fn, d_var, d_enum, d_module, d_using, d_type, decl_kind, export_of as exportWith, stmt_of as stmtWith, decl_to_type_decl, transform_module_stmt, export_decl, export_default_expr, item_by, transform_module_item, exported, ns_parts}
+use Rattle.definition.specs.Items.{Item, i_kept, i_dropped, i_export, i_default, i_default_expr, i_decl, item_kind, Decl, d_class, d_fn, d_var, d_enum, d_module, d_using, d_type, decl_kind, export_of as export_with, stmt_of as stmt_with, decl_to_type_decl, transform_module_stmt, export_decl, export_default_expr, item_by, transform_module_item, exported, ns_parts}
 use Rattle.definition.specs.Transform.{all_texts_fit}
 use Rattle.definition.proofs.Kids.{head_is, mark-is, flags-is}
 use Rattle.definition.proofs.ItemKinds.{kind-class, kind-decl, kind-default, kind_dropped, kind-enum, kind_export, kind_expr, kind-fn, kind-kept, kind_module, kind-type, kind_using, kind-var}
@@ -121,7 +121,7 @@ module _ (list tree : List ℕ) (scope : Scope) (top : Bool) (r : Rec) (n : ℕ)
   stmt_fn d_using e = absurd (let z : ◌≡◌ {A = ℕ} 0 1 = cc in omega arith)
   stmt_fn d_type e = absurd (let z : ◌≡◌ {A = ℕ} 0 1 = cc in omega arith)
 
-  stmt_by : (k : Decl) → (is_fn k && listed list (head_of r)) ≡ false → is_made k ≡ true → stmtWith (head_of r) (decl_as list tree scope top r n k) ≡ stmt_as list tree scope top r n k
+  stmt_by : (k : Decl) → (is_fn k && listed list (head_of r)) ≡ false → is_made k ≡ true → stmt_with (head_of r) (decl_as list tree scope top r n k) ≡ stmt_as list tree scope top r n k
   unfolding transform_module_stmt
   stmt_by d_fn e q = rw e
   stmt_by d_class e q = refl
@@ -151,7 +151,7 @@ module _ (list tree : List ℕ) (scope : Scope) (top : Bool) (r : Rec) (n : ℕ)
       go d_type e = refl
 
   pub stmt_made : {b : Bool} → b ≡ (eqb (mark_of r) (mark "Fd") && listed list (head_of r)) → b ≡ false → is_made (decl_kind (mark_of r)) ≡ true
-      → stmtWith (head_of r) (decl_of list tree scope top r n) ≡ stmt_of list tree scope top r n
+      → stmt_with (head_of r) (decl_of list tree scope top r n) ≡ stmt_of list tree scope top r n
   stmt_made e q m = stmt_by (decl_kind (mark_of r)) (fn-told e ∙ q) m
 
 pub stmt_told : (list : List ℕ) (levels : ℕ) (tree : List ℕ) (at : ℕ) {b : Bool} → b ≡ (eqb (mark_at tree at) (mark "Fd") && listed list (head_at tree at))
@@ -246,7 +246,7 @@ module _ (list tree : List ℕ) (scope : Scope) (top : Bool) (h : Head) (ops : R
   unfolding exported
   exported-rec (rec dh ks) n = refl
 
-  export_by : (r : Rec) (n : ℕ) (k : Decl) → if_m (is_fn k && listed list h) (pure nil) (λ n. exportWith h ops (decl_as list tree scope top r n k)) n ≡ export_as r n k
+  export_by : (r : Rec) (n : ℕ) (k : Decl) → if_m (is_fn k && listed list h) (pure nil) (λ n. export_with h ops (decl_as list tree scope top r n k)) n ≡ export_as r n k
   unfolding export_decl
   export_by r n d_fn = refl
   export_by r n d_class = refl
@@ -256,15 +256,15 @@ module _ (list tree : List ℕ) (scope : Scope) (top : Bool) (h : Head) (ops : R
   export_by r n d_using = refl
   export_by r n d_type = refl
 
-  exported-is : (r : Rec) (n : ℕ) → if_m (eqb (mark_of r) (mark "Fd") && listed list h) (pure nil) (λ n. exportWith h ops (decl_of list tree scope top r n)) n
+  exported-is : (r : Rec) (n : ℕ) → if_m (eqb (mark_of r) (mark "Fd") && listed list h) (pure nil) (λ n. export_with h ops (decl_of list tree scope top r n)) n
       ≡ exported list scope.unresolved (typing_of tree scope) (cons r ops) h top n
   exported-is r n =
-      ap (λ (b : Bool). if_m (b && listed list h) (pure nil) (λ n. exportWith h ops (decl_of list tree scope top r n)) n) (is-fn (mark_of r)) ∙ (export_by r n (decl_kind (mark_of r)) ∙ exported-rec r n)
+      ap (λ (b : Bool). if_m (b && listed list h) (pure nil) (λ n. export_with h ops (decl_of list tree scope top r n)) n) (is-fn (mark_of r)) ∙ (export_by r n (decl_kind (mark_of r)) ∙ exported-rec r n)
 
 module _ (list tree : List ℕ) (scope : Scope) (top : Bool) (levels at : ℕ) {p0 p1 : ℕ} (u : One levels tree at p0 p1) where
   -- the declaration, once it has become another, or none
   abbrev export_made : ℕ → Out Recs
-  export_made n = exportWith (head_at tree at) (rest levels tree (count_at tree at - 1) p1) (decl_of list tree scope top (tree_at (levels - 1) tree p0) n)
+  export_made n = export_with (head_at tree at) (rest levels tree (count_at tree at - 1) p1) (decl_of list tree scope top (tree_at (levels - 1) tree p0) n)
 
   export_is : (n : ℕ) → if_m (eqb (mark_at tree p0) (mark "Fd") && listed list (head_at tree at)) (pure nil) export_made n ≡ export_of list tree scope top (tree_at levels tree at) n
   export_is n =
@@ -308,7 +308,7 @@ module _ (list tree : List ℕ) (scope : Scope) (top : Bool) (levels at : ℕ) {
 -- ---- a statement, once its declaration has become another, or none
 
 module _ (list tree : List ℕ) (scope : Scope) (top : Bool) (levels at : ℕ) {o o' g g' : List ℕ} {s : State} {t : Typed} (w : MakesMaybe o o' g g' s t (decl_of list tree scope top (tree_at levels tree at) s.counter))
-    (e : stmtWith (head_of (tree_at levels tree at)) (decl_of list tree scope top (tree_at levels tree at) s.counter) ≡ stmt_of list tree scope top (tree_at levels tree at) s.counter) where
+    (e : stmt_with (head_of (tree_at levels tree at)) (decl_of list tree scope top (tree_at levels tree at) s.counter) ≡ stmt_of list tree scope top (tree_at levels tree at) s.counter) where
   pub stmt_some : {next : State} → t ≡ Some next → MakesCounted o o' g g' s (record { s = next; count = 1 }) (stmt_of list tree scope top (tree_at levels tree at) s.counter)
   stmt_some {next} z =
       let x : Out (Option Rec) = decl_of list tree scope top (tree_at levels tree at) s.counter in

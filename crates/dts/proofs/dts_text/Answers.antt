@@ -4,7 +4,11 @@ use borrow.Author.Rules.{rules}
 use Rattle.dts.proofs.dts_text.Goals as goal
 
 pub returns-in-Done : goal.returns-in-Done
-returns-in-Done c = text-done _ c.text-made.ensures c.in-Done.is c.tell.ensures
+returns-in-Done c =
+    let z = text-done _ c.text-made.ensures c.in-Done.is c.tell.ensures in
+    record { number = z.0; pair = z.1.0; output = z.1.1 }
 
 pub returns-in-Refused : goal.returns-in-Refused
-returns-in-Refused c = text-refused _ c.text-made.ensures c.in-Refused.is c.tell-in-Refused.ensures
+returns-in-Refused c =
+    let z = text-refused _ c.text-made.ensures c.in-Refused.is c.tell-in-Refused.ensures in
+    record { number = z.0; pair = z.1.0; output = z.1.1 }

@@ -4,4 +4,6 @@ use borrow.Author.Rules.{rules}
 use Rattle.dts.proofs.dts_transform.Goals as goal
 
 pub returns : goal.returns
-returns c = coded _ c.transform-made.ensures c.tell.ensures
+returns c =
+    let z = coded _ c.transform-made.ensures c.tell.ensures in
+    record { number = z.0; pair = z.1.0; output = z.1.1.0; diagnostics = z.1.1.1 }
