@@ -1,7 +1,7 @@
 -- What parameters and members ask, from what was asked of the records that they stand in.
 use mathlib.Core.Path.{◌≡◌}
 use mathlib.Core.List.{List}
-use Prim.Native.Nat.{ℕ, ◌-◌, ◌≤◌}
+use Prim.Native.Nat.{ℕ, ◌≤◌}
 use native.Mathlib.Omega.{arith}
 use Rattle.definition.specs.Children.{AcceptedAt, AllAccepted}
 use Rattle.typing.specs.Did.{Ready}

@@ -1,10 +1,9 @@
 -- The typing that the definition's parameters and members are given, and what is asked of several records.
-use Rattle.std.specs.Prelude.{List, Bool, true, false, cond, ◌≡◌, ℕ, ◌≤◌}
-use Rattle.std.proofs.Math.Option.{Option, none, some}
-use Rattle.definition.specs.Children.{AcceptedAt, AllAccepted}
-use Rattle.definition.specs.Tree.{Rec, encode}
+use Rattle.std.specs.Prelude.{List, Bool, cond, ◌≡◌, ℕ, ◌≤◌}
+use Rattle.std.proofs.Math.Option.{Option}
+use Rattle.definition.specs.Children.{AllAccepted}
+use Rattle.definition.specs.Tree.{Rec}
 use Rattle.definition.specs.Record.{gone, Typing}
-use Rattle.definition.specs.Transform.{texts_fit}
 use Rattle.definition.specs.Typing.{expr_to_ts_type}
 use Rattle.prescan.specs.declared.Scope.{Scope}
 use Rattle.prescan.specs.Table.{Indexed}

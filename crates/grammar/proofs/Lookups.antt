@@ -1,13 +1,13 @@
 -- The code's tables of marks and of sets, and the look-ups in them: each table agrees with the grammar, by one computation over the whole of it.
 use mathlib.Core.Path.{◌≡◌, refl, sym, ◌∙◌, subst}
 use mathlib.Core.List.{List, [], ◌∷◌, map}
-use mathlib.Core.Bool.{Bool, true, false, ◌&&◌, ◌||◌, beq}
+use mathlib.Core.Bool.{Bool, true, false, ◌&&◌, beq}
 use Prim.Native.Nat.{ℕ, zero, suc, ◌+◌, ◌<◌, ◌≤◌}
 use Prim.Native.String.{String}
 use native.Mathlib.Nat.{add-zero, zero-add, add-suc, suc-add, le_of_suc-le-suc}
 use native.Mathlib.Omega.{arith}
 use borrow.Author.Tests.{lt-ltb, le-ltb, le-leb, lt-leb}
-use lib.Dec.{T, eqb, leb, ltb}
+use lib.Dec.{T, eqb}
 use lib.ListN.{length, get_or, get_or-map, get_or-eq_default}
 use Rattle.definition.specs.Grammar.{known, forms, slots, least, marks, member}
 use Rattle.grammar.specs.Printed.{sets_table, parts_table}

@@ -6,7 +6,7 @@ use native.Mathlib.Omega.{arith}
 use Rattle.definition.specs.Tree.{Head, Rec, Recs, rec, cons, mark_at, body_at, head_at, end_at, tree_at}
 use Rattle.definition.specs.Grammar.{mark}
 use Rattle.definition.specs.Children.{AcceptedAt}
-use Rattle.definition.specs.Record.{head_of, kids_of, is, dummy_sp, kid, set_kid, gone, Out, Typing, pure, on_value, wrap, at_kid}
+use Rattle.definition.specs.Record.{head_of, kids_of, dummy_sp, kid, set_kid, gone, Out, Typing, pure, on_value, wrap, at_kid}
 use Rattle.definition.specs.Helpers.{any_type_ann}
 use Rattle.definition.specs.Typing.{or_any}
 use Rattle.definition.specs.Classes.{type_or}

@@ -11,9 +11,9 @@ use mir.Val
 use lib.ListN.{length, get_or}
 use borrow.Author.Tests.{ne_eqb}
 use Rattle.definition.specs.Tree.{Head, Rec, Recs, rec, nil, cons, head_bytes, encode, encodes, mark_at, count_at, body_at, head_at, end_at, tree_at}
-use Rattle.definition.specs.Grammar.{mark, grammar, known, slots, place, least}
+use Rattle.definition.specs.Grammar.{mark, known}
 use Rattle.definition.specs.Children.{AcceptedAt, child_at}
-use Rattle.definition.specs.Record.{head_of, kids_of, mark_of, is, dummy_sp, listed, fresh, absent, ident, with_flags, kid, set_kid, one, Diag, Out, pure, if_m, on_value, single, second}
+use Rattle.definition.specs.Record.{head_of, kids_of, mark_of, dummy_sp, listed, fresh, absent, ident, with_flags, kid, set_kid, one, Diag, Out, pure, if_m, on_value, single, second}
 use Rattle.definition.specs.Names.{gen_unique_name}
 use Rattle.definition.specs.Classes.{class}
 use Rattle.definition.specs.Items.{Default, x_class, x_fn, x_other, default_kind, body_part, without_body, const_of, default_typed, export_default_decl, export_default_expr}
@@ -30,7 +30,6 @@ use Rattle.typing.specs.declared.State.{State}
 use Rattle.typing.specs.declared.Mode.{Mode}
 use Rattle.typing.specs.declared.Typed.{Typed}
 use Rattle.typing.specs.declared.Typed.TheVariants.{Some, None}
-use Rattle.typing.specs.declared.Counted.{Counted}
 use Rattle.typing.specs.Did.{Ready, type_of, Writes, Step, MakesMaybe, moved_to, back_to}
 use Rattle.typing.specs.Below.{MakesCounted}
 use Rattle.typing.proofs.Fits.{name-fits, all_one}

@@ -9,12 +9,11 @@ use mir.Val
 use lib.Dec.{eqb}
 use lib.ListN.{get_or}
 use borrow.Author.Tests.{eq-eqb, ne_eqb, eqb-true}
-use Rattle.definition.specs.Tree.{Rec, Recs, count, mark_at, body_at, head_at, end_at, tree_at}
+use Rattle.definition.specs.Tree.{Rec, Recs, mark_at, body_at, head_at, end_at, tree_at}
 use Rattle.definition.specs.Grammar.{mark, known}
 use Rattle.definition.specs.Children.{AcceptedAt}
 use Rattle.definition.specs.Record.{mark_of, one, listed, Out, pure}
 use Rattle.definition.specs.Items.{Decl, d_class, d_fn, d_var, d_enum, d_module, d_using, d_type, decl_kind}
-use Rattle.definition.proofs.Children.{others}
 use Rattle.definition.proofs.Kids.{mark-is, has}
 use Rattle.definition.proofs.Places.{count_small as head-count-small}
 use Rattle.records.specs.declared.Head.{Head as Fields}

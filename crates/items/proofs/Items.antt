@@ -6,9 +6,8 @@ use mathlib.Core.Option.{Option, none, some}
 use Prim.Native.Nat.{ℕ, suc, ◌+◌, ◌-◌, ◌≤◌, ◌<◌}
 use native.Mathlib.Omega.{arith}
 use Rattle.definition.specs.Tree.{Head, Rec, Recs, rec, nil, cons, count, end_at, tree_at}
-use Rattle.definition.specs.Record.{mark_of, is, kid, one, listed, Out, Typing, flat}
+use Rattle.definition.specs.Record.{mark_of, is, kid, listed, Out, Typing, flat}
 use Rattle.definition.specs.Items.{Item, i_kept, i_dropped, i_export, i_default, i_default_expr, i_decl, item_kind, Decl, d_class, d_fn, d_var, d_enum, d_module, d_using, d_type, decl_kind, Default, x_class, x_fn, x_other, default_kind, default_typed, export_of as export_with, stmt_of as stmt_with, decl_to_type_decl, transform_module_stmt, export_decl, export_default_decl, export_default_expr, item_by, transform_module_items, transform_module_item, exported}
-use Rattle.definition.specs.Counting.{records}
 use Rattle.definition.proofs.Counting.{expr_to_ts_type-within}
 use Rattle.definition.proofs.CountingItems.{item-within}
 use Rattle.prescan.specs.declared.Scope.{Scope}

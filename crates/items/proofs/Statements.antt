@@ -4,14 +4,14 @@ use mathlib.Core.List.{List, [], ◌∷◌, ◌++◌}
 use mathlib.Core.Bool.{Bool, true, false, cond, ◌&&◌}
 use mathlib.Core.Logic.{◌⊎◌, inl, inr, ⊎_elim}
 use mathlib.Core.Option.{Option, none, some}
-use Prim.Native.Nat.{ℕ, ◌+◌, ◌-◌, ◌≤◌}
+use Prim.Native.Nat.{ℕ, ◌-◌, ◌≤◌}
 use native.Mathlib.Omega.{arith}
 use mir.Syntax.{w8}
 use mir.Val
 use lib.Dec.{eqb}
 use lib.ListN.{get_or}
 use borrow.Author.Tests.{ne_eqb}
-use Rattle.definition.specs.Tree.{Head, Rec, Recs, rec, nil, cons, count, encodes, mark_at, count_at, head_at, tree_at}
+use Rattle.definition.specs.Tree.{Head, Rec, Recs, rec, nil, cons, encodes, mark_at, count_at, head_at, tree_at}
 use Rattle.definition.specs.Grammar.{mark, known}
 use Rattle.definition.specs.Children.{AcceptedAt}
 use Rattle.definition.specs.Record.{head_of, kids_of, mark_of, with_flags, flag1, one, given, Diag, diag, listed, Out, pure, if_m, on_value}

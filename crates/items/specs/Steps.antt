@@ -1,5 +1,5 @@
 -- The steps of the definition as the functions of the code have them: of the record at an offset.
-use Rattle.std.specs.Prelude.{List, [], ◌++◌, Bool, true, false, cond, ℕ, ◌-◌}
+use Rattle.std.specs.Prelude.{List, [], ◌++◌, Bool, true, false, ℕ}
 use Rattle.std.proofs.Math.Option.{Option}
 use Rattle.definition.specs.Tree.{Rec, Recs, head_bytes, encode, end_at, read_all, tree_at}
 use Rattle.definition.specs.Record.{head_of, kids_of, mark_of, dummy_sp, fresh, ident, with_flags, kid, Out, wrap, each, at_kid, second}

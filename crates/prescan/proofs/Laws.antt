@@ -3,18 +3,16 @@ use mathlib.Core.Path.{◌≡◌, refl, sym, ap, ◌∙◌}
 use mathlib.Core.List.{List}
 use mathlib.Core.Bool.{Bool, true, false, cond, ◌&&◌, ◌||◌}
 use mathlib.Core.Logic.{◌⊎◌, inl, inr, ⊎_elim}
-use Prim.Native.Nat.{ℕ, zero, suc, ◌-◌, ◌<◌, ◌≤◌}
-use native.Mathlib.Omega.{arith}
+use Prim.Native.Nat.{ℕ, ◌-◌}
 use lib.Dec.{eqb}
 use lib.ListN.{drop}
 use borrow.Author.Tests.{eq-eqb, ne_eqb}
-use Rattle.definition.specs.Tree.{Head, Rec, Recs, rec, nil, cons, mark_at, flags_at, count_at, text_at, body_at, head_at, read_all, end_at, tree_at}
+use Rattle.definition.specs.Tree.{Head, Rec, Recs, rec, nil, cons, mark_at, flags_at, text_at, body_at, head_at, end_at, tree_at}
 use Rattle.definition.specs.Grammar.{mark, marks, member, ◌or◌, declaration, type, expression, pattern, optional, grammar, known, slots, place}
-use Rattle.definition.specs.Check.{check_all}
-use Rattle.definition.specs.Children.{AcceptedAt, AllAccepted}
+use Rattle.definition.specs.Children.{AcceptedAt}
 use Rattle.definition.specs.Record.{text, same_text, kids_of, mark_of, is, is_no, has_flag, kid}
-use Rattle.definition.specs.Prescan.{ArrayType, ArrayType.a_array, ArrayType.a_readonly, ArrayType.a_ref, ArrayType.a_other, array_type_kind, refers_to_array, is_array_type_by, is_array_type, first_is_array_type, ArrayInit, ArrayInit.i_array, ArrayInit.i_through, ArrayInit.i_as, ArrayInit.i_other, array_init_kind, is_array_lit_init_by, is_array_lit_init, first_is_array_lit_init, Question, Question.typeof_safe, Question.non_generic_class, Question.array_typed, add_class, add_const, named, add_declarator, add_declarators, Declared, Declared.d_fn, Declared.d_class, Declared.d_var, Declared.d_other, declared_kind, add_decl_by, add_fn, add_decl, add_item, asked}
-use Rattle.definition.proofs.Kids.{fixed, Child, placed, wider, member-one, head_is, mark-is, flags-is, kids_are, first_in, second_in}
+use Rattle.definition.specs.Prescan.{ArrayType, ArrayType.a_array, ArrayType.a_readonly, ArrayType.a_ref, ArrayType.a_other, array_type_kind, refers_to_array, is_array_type_by, is_array_type, first_is_array_type, ArrayInit, ArrayInit.i_array, ArrayInit.i_through, ArrayInit.i_as, ArrayInit.i_other, array_init_kind, is_array_lit_init_by, is_array_lit_init, first_is_array_lit_init, Question, Question.typeof_safe, Question.non_generic_class, Question.array_typed, add_class, add_const, named, add_declarator, add_declarators, Declared, Declared.d_fn, Declared.d_class, Declared.d_var, Declared.d_other, declared_kind, add_decl_by, add_fn, add_decl, add_item}
+use Rattle.definition.proofs.Kids.{fixed, Child, placed, wider, member-one, head_is, mark-is, flags-is, first_in, second_in}
 use Rattle.prescan.specs.Question.{add_var}
 
 -- In each module m is the mark of the record at `at`, as the code read it, and p the place where its children begin.

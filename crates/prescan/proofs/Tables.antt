@@ -2,12 +2,12 @@
 use mathlib.Core.Path.{◌≡◌, refl, sym, ap, ◌∙◌}
 use mathlib.Core.List.{List}
 use mathlib.Core.Bool.{Bool, true, false, ◌&&◌, ◌||◌}
-use mathlib.Core.Logic.{◌⊎◌, ⊎_elim}
+use mathlib.Core.Logic.{⊎_elim}
 use Prim.Native.Nat.{ℕ, ◌+◌, ◌*◌, ◌-◌, ◌/◌, ◌<◌, ◌≤◌}
 use native.Mathlib.Omega.{arith}
 use lib.ListN.{length, get_or, take, drop, length-drop}
 use Rattle.definition.specs.Tree.{Rec, Recs, nil, cons, head_size, mark_at, count_at, text_at, body_at, end_of_all, end_at, tree_at}
-use Rattle.definition.specs.Grammar.{mark, marks, ◌or◌, optional, grammar, known, slots, place}
+use Rattle.definition.specs.Grammar.{mark, marks, optional, grammar, known, slots, place}
 use Rattle.definition.specs.Check.{deepest}
 use Rattle.definition.specs.Children.{AcceptedAt, AllAccepted}
 use Rattle.definition.specs.Record.{same_text, kids_of}

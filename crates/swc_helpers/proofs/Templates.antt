@@ -12,7 +12,6 @@ use Rattle.records.specs.declared.Head as Fields
 use Rattle.records.specs.Fields.{fields_at}
 use Rattle.records.specs.Wrote.{Put}
 use Rattle.swc_helpers.specs.declared.DeclMutabilityKind.{DeclMutabilityKind}
-use Rattle.swc_helpers.specs.declared.Found.{Found}
 use Rattle.swc_helpers.specs.declared.Found.TheVariants.{At, Nothing}
 use Rattle.swc_helpers.specs.Found.{found_if, is_const, is_quasi}
 use Rattle.swc_helpers.proofs.Answers.{nothing-found, found_at, is-nothing, is_found}

@@ -1,15 +1,14 @@
 -- The arms of `expr_to_ts_type` that type something below, and how their types are written where `readonly_of` them is wanted.
-use mathlib.Core.Path.{◌≡◌, refl, sym, ap, ◌∙◌, subst}
-use mathlib.Core.List.{List, [], ◌∷◌, ◌++◌}
-use mathlib.Core.Bool.{Bool, true, false, cond, ◌&&◌, ◌||◌}
+use mathlib.Core.Path.{◌≡◌, refl, sym, ap, ◌∙◌}
+use mathlib.Core.List.{List, []}
+use mathlib.Core.Bool.{Bool, true, false, ◌||◌}
 use mathlib.Core.Option.{Option, none, some}
-use Prim.Native.Nat.{ℕ, zero, suc, ◌+◌, ◌-◌, ◌≤◌, ◌<◌}
+use Prim.Native.Nat.{ℕ, zero, suc, ◌-◌, ◌<◌}
 use native.Mathlib.Omega.{arith}
-use lib.Dec.{eqb}
 use Rattle.definition.specs.Tree.{Head, Rec, Recs, rec, nil, cons, count, mark_at, count_at, tree_at}
 use Rattle.definition.specs.Grammar.{mark, marks, member, expression, type}
 use Rattle.definition.specs.Children.{AcceptedAt, child_at}
-use Rattle.definition.specs.Record.{head_of, kids_of, mark_of, is_no, dummy_sp, ranged, kid, one, join, given, present, Diag, Out, pure, if_m, on_value}
+use Rattle.definition.specs.Record.{head_of, kids_of, mark_of, is_no, dummy_sp, ranged, kid, given, present, Out, pure, if_m, on_value}
 use Rattle.definition.specs.Helpers.{ts_readonly, object_freeze_call_arg}
 use Rattle.definition.specs.Prescan.{PrescannedModuleIds}
 use Rattle.definition.specs.Typing.{
@@ -47,7 +46,7 @@ use Rattle.definition.proofs.Children.{child}
 use Rattle.typing.specs.declared.Mode.{Mode}
 use Rattle.typing.specs.Did.{Ready, ids_of, readonly_if, type_of}
 use Rattle.typing.specs.Parts.{members_if, as_type, has_readonly}
-use Rattle.typing.specs.Below.{tuple_type, param_of, params_by, behind, params_from, function_of}
+use Rattle.typing.specs.Below.{tuple_type, params_by, behind, function_of}
 use Rattle.typing.proofs.Frozen.{frozen-again, frozen-from, frozen-tuple, frozen-lit, frozen_same, plain-props}
 use Rattle.typing.proofs.Steps.{wrapped, kept_if}
 use Rattle.typing.proofs.HasReadonly.{has_readonly_lem}

@@ -1,49 +1,44 @@
 -- The parameters of functions and arrows: the definition's step by their kind, and what the code does for each.
 use mathlib.Core.Path.{◌≡◌, refl, sym, ap, ◌∙◌, subst}
 use mathlib.Core.List.{List, [], ◌∷◌, ◌++◌, append-nil, append_assoc}
-use mathlib.Core.Bool.{Bool, true, false, cond, ◌&&◌}
+use mathlib.Core.Bool.{Bool, true, false, ◌&&◌}
 use mathlib.Core.Logic.{◌⊎◌, inl, inr, ⊎_elim}
 use mathlib.Core.Option.{Option, none, some}
-use Prim.Native.Nat.{ℕ, suc, ◌+◌, ◌-◌, ◌≤◌, ◌<◌, ◌^◌}
+use Prim.Native.Nat.{ℕ, ◌+◌, ◌-◌, ◌≤◌, ◌<◌}
 use native.Mathlib.Numerals.{add-one}
 use native.Mathlib.Omega.{arith}
-use lib.Dec.{eqb}
 use mir.Syntax.{w8}
 use mir.Val
 use lib.ListN.{length, get_or, length-append, length-drop}
 use borrow.Author.Tests.{ne_eqb}
-use Rattle.definition.specs.Tree.{Head, Rec, Recs, rec, nil, cons, count, head_bytes, encode, encodes, head_size, mark_at, length_at, text_at, body_at, head_at, end_at, tree_at}
+use Rattle.definition.specs.Tree.{Head, Rec, Recs, rec, nil, count, head_bytes, encode, encodes, head_size, mark_at, length_at, text_at, body_at, head_at, end_at, tree_at}
 use Rattle.definition.specs.Grammar.{mark, marks, pattern, expression}
 use Rattle.definition.specs.Children.{AcceptedAt}
-use Rattle.definition.specs.Record.{head_of, kids_of, mark_of, symbol_of, is, Range, ranged, ident_at, kid, one, given, Diag, diag, diags_bytes, Out, pure, on_value}
+use Rattle.definition.specs.Record.{head_of, kids_of, mark_of, symbol_of, is, Range, ranged, ident_at, kid, one, given, Diag, diag, Out}
 use Rattle.definition.specs.Counting.{records}
 use Rattle.definition.specs.Names.{gen_unique_name}
 use Rattle.definition.specs.Prescan.{PrescannedModuleIds}
-use Rattle.definition.specs.Typing.{Param, q_keep, q_assign, q_expr, q_other, param_kind, param_by, binding_ident, default_param, expr_to_ts_type, type_second, pat_to_ts_fn_param, fn_param, param_first}
+use Rattle.definition.specs.Typing.{Param, q_keep, q_assign, q_expr, q_other, param_kind, param_by, binding_ident, default_param, expr_to_ts_type, type_second, pat_to_ts_fn_param}
 use Rattle.definition.specs.Transform.{texts_fit, all_texts_fit}
-use Rattle.definition.proofs.Round.{length-head_bytes}
 use Rattle.definition.proofs.Children.{itself, end_after, end-inside}
 use Rattle.definition.proofs.Counting.{counter-low, counter-high}
 use Rattle.definition.proofs.Kids.{Child, mark-is, head_is, text-is, text-length, left_of_lem, id-text, member-one}
 use Rattle.records.specs.Fields.{span, range_at}
-use Rattle.records.specs.Wrote.{highest, sat, Put, Ran}
+use Rattle.records.specs.Wrote.{highest, sat, Put}
 use Rattle.swc_helpers.proofs.Made.{encode-two}
 use Rattle.prescan.specs.declared.Scope.{Scope}
 use Rattle.typing.specs.declared.State.{State}
-use Rattle.typing.specs.declared.Typed.{Typed}
 use Rattle.typing.specs.declared.Typed.TheVariants.{Some, None}
-use Rattle.typing.specs.declared.Counted.{Counted}
-use Rattle.typing.specs.Did.{Ready, ids_of, mutable_mode, type_of, diag_at, Marks, Step, MakesMaybe, MakesAtMostOne, moved_to, back_to}
+use Rattle.typing.specs.Did.{Ready, ids_of, mutable_mode, type_of, diag_at, Marks, Step, MakesAtMostOne, moved_to, back_to}
 use Rattle.typing.specs.Parts.{binding_front, unique_front}
 use Rattle.typing.specs.Moved.{Unnamed}
-use Rattle.typing.specs.Below.{param_of, param_type, pat_type, MakesCounted, counted_of}
-use Rattle.typing.proofs.Steps.{and-true, step-none, step-put, step_then, step-as, step_back, step-lower, step-marks, IsSome, IsNone, did-some, did_none, Front}
+use Rattle.typing.specs.Below.{pat_type}
+use Rattle.typing.proofs.Steps.{and-true, step-none, step-put, step_then, step-as, step_back, step-lower, step-marks, IsSome, IsNone, did-some, did_none}
 use Rattle.typing.proofs.Fits.{name-fits, text-short}
 use Rattle.typing.proofs.Counter.{records-within}
 use Rattle.typing.proofs.Slots.{bd-ident}
 use Rattle.typing.proofs.Shift.{wrote-moved}
-use Rattle.typing.proofs.Loops.{encodes_one}
-use Rattle.typing.proofs.ByPlace.{kids-count, diag-is, second_is, param_first_is}
+use Rattle.typing.proofs.ByPlace.{kids-count, diag-is, second_is}
 
 -- ---- the kinds of patterns
 

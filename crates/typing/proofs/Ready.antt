@@ -1,13 +1,13 @@
 -- What a typing asks, of the children of a record of which it was asked.
-use mathlib.Core.Path.{◌≡◌, refl, sym, ap, ◌∙◌}
+use mathlib.Core.Path.{◌≡◌, ◌∙◌}
 use mathlib.Core.List.{List}
-use Prim.Native.Nat.{ℕ, ◌+◌, ◌-◌, ◌≤◌}
+use Prim.Native.Nat.{ℕ, ◌-◌}
 use Prim.Native.String.{String}
 use native.Mathlib.Omega.{arith}
 use Rattle.definition.specs.Tree.{body_at, end_at}
-use Rattle.definition.specs.Children.{AcceptedAt, child_at}
+use Rattle.definition.specs.Children.{child_at}
 use Rattle.definition.proofs.Children.{end_after, child_1}
-use Rattle.definition.proofs.Kids.{Child, placed}
+use Rattle.definition.proofs.Kids.{Child}
 use Rattle.typing.specs.Did.{Ready}
 
 module _ {levels : ℕ} {tree : List ℕ} {at n : ℕ} {index : List ℕ} (r : Ready levels tree at n index) where

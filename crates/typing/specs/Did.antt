@@ -1,7 +1,7 @@
 -- What a typing is asked, what it gives, and what it did to the two buffers.
 use Rattle.std.specs.Prelude.{◌≡◌, List, [], ◌∷◌, Bool, true, false, ◌&&◌, ℕ, ◌≤◌}
 use Rattle.std.proofs.Math.Option.{Option, none, some}
-use Rattle.definition.specs.Tree.{Rec, Recs, nil, cons, encode, encodes, start_at, last_at, tree_at}
+use Rattle.definition.specs.Tree.{Rec, Recs, nil, encode, start_at, last_at, tree_at}
 use Rattle.definition.specs.Check.{deepest}
 use Rattle.definition.specs.Children.{AcceptedAt}
 use Rattle.definition.specs.Record.{kids_of, dummy_sp, one, given, Diag, diag_bytes, diags_bytes, Out, on_value}

@@ -1,11 +1,6 @@
 -- `class_body_to_type` meets its contract.
 use Prim.Native.Nat.{◌-◌}
-use native.Mathlib.Omega.{arith}
-use borrow.Author.Rules.{rules}
-use Rattle.definition.proofs.Walk.{left-first}
-use Rattle.records.proofs.Accepted.{room, lies, level}
-use Rattle.parts.proofs.Ready.{ready_at}
-use Rattle.classes.proofs.Members.{cl_count, cl_params, cl_kids, Body, body-turn, body_more, class-body, class-made}
+use Rattle.classes.proofs.Members.{Body}
 use Rattle.classes.proofs.class_body_to_type.Given as goal
 
 abbrev pub invariant-loop-n : goal.invariant-loop-n

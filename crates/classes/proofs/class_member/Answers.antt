@@ -5,7 +5,6 @@ use Rattle.typing.proofs.Props.{gives_none}
 use Rattle.typing.proofs.Whole.{gives_as}
 use Rattle.parts.proofs.Makes.{makes-keeps, gives_one}
 use Rattle.classes.proofs.Members.{constructor-listed, constructor-stands, method-listed, method-stands, prop-stands, dropped_goes, other-stands}
-use borrow.Author.Rules.{rules}
 use Rattle.classes.proofs.class_member.Goals as goal
 
 pub mark_at-requires : goal.mark_at-requires

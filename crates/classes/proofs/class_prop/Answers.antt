@@ -6,7 +6,6 @@ use Rattle.definition.specs.Record.{without_flag}
 use Rattle.records.proofs.Accepted.{room, lies, level}
 use Rattle.parts.proofs.Ready.{ready_kid}
 use Rattle.classes.proofs.Members.{is-named, is_nameless, cp_count, cp_key_lem, cp_type_lem, cp_value_lem, cp_kids, prop-gone, prop-made, named-counter}
-use borrow.Author.Rules.{rules}
 use Rattle.classes.proofs.class_prop.Goals as goal
 
 pub read_head-head-requires : goal.read_head-head-requires

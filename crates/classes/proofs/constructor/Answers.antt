@@ -7,7 +7,6 @@ use Rattle.typing.proofs.Written.{puts-counter}
 use Rattle.classes.specs.Typings.{typing_of}
 use Rattle.classes.proofs.Ready.{ready_all}
 use Rattle.classes.proofs.Members.{constructor-made}
-use borrow.Author.Rules.{rules}
 use Rattle.classes.proofs.constructor.Goals as goal
 
 pub begin-body-requires : goal.begin-body-requires

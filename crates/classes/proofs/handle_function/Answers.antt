@@ -8,7 +8,6 @@ use Rattle.parts.proofs.Framing.{passed_first, kept_by}
 use Rattle.classes.specs.Typings.{typing_of}
 use Rattle.classes.proofs.Ready.{ready_all}
 use Rattle.classes.proofs.Members.{function-made}
-use borrow.Author.Rules.{rules}
 use Rattle.classes.proofs.handle_function.Goals as goal
 
 pub begin-type_params-requires : goal.begin-type_params-requires

@@ -1,5 +1,4 @@
 -- `keep_return_type` meets its contract.
-use borrow.Author.Rules.{rules}
 use Rattle.classes.proofs.keep_return_type.Goals as goal
 
 pub returns-then-setter : goal.returns-then-setter

@@ -9,7 +9,6 @@ use Rattle.parts.proofs.Kids.{kids-two}
 use Rattle.parts.proofs.Ready.{ready_kid}
 use Rattle.classes.proofs.Slots.{me_function_lem}
 use Rattle.classes.proofs.Members.{is-named, is_nameless, named-counter, method-gone, method-made}
-use borrow.Author.Rules.{rules}
 use Rattle.classes.proofs.method.Goals as goal
 
 pub read_head-head-requires : goal.read_head-head-requires

@@ -7,7 +7,6 @@ use Rattle.parts.proofs.Makes.{makes-as, makes-keeps}
 use Rattle.classes.specs.Typings.{typing_of}
 use Rattle.classes.proofs.Inferred.{mutable_type}
 use Rattle.classes.proofs.Members.{prop-bare, prop-typed, prop_inferred, made-typed, made-any}
-use borrow.Author.Rules.{rules}
 use Rattle.classes.proofs.prop_type.Goals as goal
 
 pub mark_at-requires : goal.mark_at-requires

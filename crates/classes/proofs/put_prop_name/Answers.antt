@@ -2,7 +2,6 @@
 use native.Mathlib.Omega.{arith}
 use Rattle.definition.proofs.Children.{itself}
 use Rattle.classes.proofs.Members.{stands-accepted, computed-accepted, named-stands, named-computed, named_none}
-use borrow.Author.Rules.{rules}
 use Rattle.classes.proofs.put_prop_name.Goals as goal
 
 pub keep-requires : goal.keep-requires

@@ -1,7 +1,6 @@
 -- `accepted` meets its contract: what a run alone wrote, the dry run's answer, or what the run behind it wrote.
 use native.Mathlib.Omega.{arith}
 use Rattle.declaration_text.proofs.Calls.{part_length, number-outside, text_too_long, text-done, accepted-root, accepted-short, certain_done}
-use borrow.Author.Rules.{rules}
 use Rattle.declaration_text.proofs.accepted.Goals as goal
 
 pub is_certain-requires : goal.is_certain-requires

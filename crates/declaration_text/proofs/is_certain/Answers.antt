@@ -2,7 +2,6 @@
 use native.Mathlib.Omega.{arith}
 use mathlib.Core.Path.{◌≡◌}
 use Prim.Native.Nat.{ℕ}
-use borrow.Author.Rules.{rules}
 use Rattle.declaration_text.proofs.is_certain.Goals as goal
 
 pub returns-then-room-tree : goal.returns-then-room-tree

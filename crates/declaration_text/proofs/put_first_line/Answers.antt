@@ -1,6 +1,5 @@
 -- `put_first_line` meets its contract: a dry run says whether the line is written.
 use Rattle.declaration_text.proofs.Calls.{first_some, first-none}
-use borrow.Author.Rules.{rules}
 use Rattle.declaration_text.proofs.put_first_line.Goals as goal
 
 pub returns-then-dry : goal.returns-then-dry

@@ -4,7 +4,6 @@ use Rattle.definition.proofs.Children.{children}
 use Rattle.records.proofs.Accepted.{room}
 use Rattle.declaration_text.proofs.LinesWritten.{lines_then, lines-as}
 use Rattle.declaration_text.proofs.Calls.{module_lines}
-use borrow.Author.Rules.{rules}
 use Rattle.declaration_text.proofs.put_module.Goals as goal
 
 pub body_at-requires : goal.body_at-requires

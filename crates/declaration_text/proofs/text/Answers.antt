@@ -1,6 +1,5 @@
 -- `text` meets its contract: what the check found, or the answer on an accepted tree.
 use Rattle.declaration_text.proofs.Calls.{call-refused, call-root, call-accepted}
-use borrow.Author.Rules.{rules}
 use Rattle.declaration_text.proofs.text.Goals as goal
 
 pub accepted-requires : goal.accepted-requires

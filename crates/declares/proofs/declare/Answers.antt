@@ -1,5 +1,4 @@
 -- `declares::declare` is safe: the diagnostics lie in their buffer.
-use borrow.Author.Rules.{rules}
 use Rattle.transform_dts.proofs.Calls.{marked-inside}
 use Rattle.declares.proofs.declare.Goals as goal
 

@@ -1,6 +1,5 @@
 -- `declares::show_diagnostics` is safe and ends: each turn passes one diagnostic.
 use Prim.Native.Nat.{◌+◌, ◌*◌, ◌≤◌}
-use borrow.Author.Rules.{rules}
 use lib.ListN.{length}
 use Rattle.declares.proofs.show_diagnostics.Given as goal
 

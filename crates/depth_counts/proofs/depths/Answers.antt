@@ -1,6 +1,5 @@
 -- `depth_counts::depths` meets its contract: the table is counted where the transform succeeds, and left as it is where it refuses.
 use Rattle.depth_counts.proofs.Whole.{done-accepted, done-short, done-holds, done_counted, refused_counted}
-use borrow.Author.Rules.{rules}
 use Rattle.depth_counts.proofs.depths.Goals as goal
 
 pub counted-requires : goal.counted-requires

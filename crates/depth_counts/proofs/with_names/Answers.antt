@@ -5,7 +5,6 @@ use native.Mathlib.Omega.{arith}
 use Rattle.definition.specs.Depths.{table_of}
 use Rattle.records.proofs.Accepted.{room}
 use Rattle.depth_counts.proofs.Whole.{table_is, blank-cells, blank-small, module_ready, module_placed, module_holds}
-use borrow.Author.Rules.{rules}
 use Rattle.depth_counts.proofs.with_names.Goals as goal
 
 pub body_at-first-requires : goal.body_at-first-requires

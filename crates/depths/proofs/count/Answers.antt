@@ -1,7 +1,6 @@
 -- `depths::count` is safe: the sum of the counts is the number of diagnostics.
 use native.Mathlib.Omega.{arith}
 use Rattle.depth_counts.proofs.Whole.{counted_small}
-use borrow.Author.Rules.{rules}
 use Rattle.depths.proofs.count.Goals as goal
 
 pub total-requires : goal.total-requires

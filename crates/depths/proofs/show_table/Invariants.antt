@@ -1,6 +1,5 @@
 -- `depths::show_table` is safe and ends: each turn passes one row.
 use Prim.Native.Nat.{◌-◌, ◌≤◌}
-use borrow.Author.Rules.{rules}
 use Rattle.depths.proofs.show_table.Given as goal
 
 abbrev pub invariant-loop-row : goal.invariant-loop-row

@@ -1,5 +1,4 @@
 -- `dts_check` meets its contract: both numbers are those of what `check_tree` found.
-use borrow.Author.Rules.{rules}
 use mathlib.Core.Path.{sym, ap, ◌∙◌}
 use Rattle.grammar.specs.Answers.{checked}
 use Rattle.dts.specs.Answers.{check_code, check_pair}

@@ -2,7 +2,6 @@
 use native.Mathlib.Omega.{arith}
 use Rattle.depth_counts.proofs.Whole.{counted_shape, counted_small}
 use Rattle.dts.proofs.Codes.{depths-done, depths-refused}
-use borrow.Author.Rules.{rules}
 use Rattle.dts.proofs.dts_depths.Goals as goal
 
 pub in_one-requires : goal.in_one-requires

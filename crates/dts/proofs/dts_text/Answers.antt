@@ -1,6 +1,5 @@
 -- `dts_text` meets its contract: both numbers and the buffer are those of the call.
 use Rattle.dts.proofs.Codes.{text-done, text-refused}
-use borrow.Author.Rules.{rules}
 use Rattle.dts.proofs.dts_text.Goals as goal
 
 pub returns-in-Done : goal.returns-in-Done

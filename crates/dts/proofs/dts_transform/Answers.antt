@@ -1,6 +1,5 @@
 -- `dts_transform` meets its contract: both numbers and both buffers are those of the call.
 use Rattle.dts.proofs.Codes.{coded}
-use borrow.Author.Rules.{rules}
 use Rattle.dts.proofs.dts_transform.Goals as goal
 
 pub returns : goal.returns

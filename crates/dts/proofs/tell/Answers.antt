@@ -1,6 +1,5 @@
 -- `tell` meets its contract.
 use Rattle.dts.proofs.Codes.{told-done, told-refused}
-use borrow.Author.Rules.{rules}
 use Rattle.dts.proofs.tell.Goals as goal
 
 pub returns-in-Done : goal.returns-in-Done

@@ -1,7 +1,5 @@
 -- `index::entry` meets its contract.
-use mathlib.Core.Path.{◌≡◌}
 use Rattle.index.specs.Index.{entry_of}
-use borrow.Author.Rules.{rules}
 use Rattle.index.proofs.entry.Goals as goal
 
 pub returns : goal.returns

@@ -1,6 +1,5 @@
 -- `index::insert_above` meets its contract.
 use Rattle.index.proofs.Laws.{inserted_above}
-use borrow.Author.Rules.{rules}
 use Rattle.index.proofs.insert_above.Goals as goal
 
 pub returns : goal.returns

@@ -1,6 +1,5 @@
 -- `index::insert_below` meets its contract.
 use Rattle.index.proofs.Laws.{inserted_below}
-use borrow.Author.Rules.{rules}
 use Rattle.index.proofs.insert_below.Goals as goal
 
 pub returns : goal.returns

@@ -1,5 +1,4 @@
 -- `index::join_at` meets its contract.
-use borrow.Author.Rules.{rules}
 use Rattle.index.proofs.join_at.Goals as goal
 
 pub returns : goal.returns

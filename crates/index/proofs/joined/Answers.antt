@@ -1,6 +1,5 @@
 -- `index::joined` meets its contract.
-use mathlib.Core.Path.{◌≡◌, ◌∙◌}
-use borrow.Author.Rules.{rules}
+use mathlib.Core.Path.{◌∙◌}
 use Rattle.index.proofs.joined.Goals as goal
 
 pub returns : goal.returns

@@ -1,12 +1,8 @@
 -- `index::less_text` meets its contract: up to the place i the two texts are equal.
-use native.Mathlib.Omega.{arith}
-use mathlib.Core.Path.{◌≡◌, sym, ◌∙◌}
-use borrow.Author.Rules.{rules}
+use mathlib.Core.Path.{◌≡◌}
 use Prim.Native.Nat.{◌-◌, ◌≤◌}
 use lib.ListN.{length, drop}
 use Rattle.index.specs.Index.{less_text}
-use Rattle.records.proofs.Texts.{front-passed}
-use Rattle.index.proofs.Laws.{less-short, less-on, less_off, less-end}
 use Rattle.index.proofs.less_text.Given as goal
 
 abbrev pub invariant-loop-i : goal.invariant-loop-i

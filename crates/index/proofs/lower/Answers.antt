@@ -1,7 +1,6 @@
 -- `index::lower` meets its contract: the first i entries have moved.
-use Prim.Native.Nat.{◌-◌}
 use native.Mathlib.Omega.{arith}
-use Rattle.index.proofs.Laws.{Lowering, lowering_start, lowering_turn, lowering_done}
+use Rattle.index.proofs.Laws.{lowering_start, lowering_turn, lowering_done}
 use Rattle.index.proofs.lower.Goals as goal
 
 pub loop-i-init : goal.loop-i-init

@@ -1,10 +1,8 @@
 -- `index::place` meets its contract: the names below `low` are before the name, those from `high` on are not.
-use borrow.Author.Rules.{rules}
 use native.Mathlib.Omega.{arith}
-use mathlib.Core.Path.{◌≡◌, sym, ◌∙◌, ap}
-use Prim.Native.Nat.{◌-◌}
+use mathlib.Core.Path.{sym, ◌∙◌, ap}
 use Rattle.index.specs.Index.{less_text}
-use Rattle.index.proofs.Laws.{Halving, halving_start, halving_up, halving_down, halving_done}
+use Rattle.index.proofs.Laws.{halving_start, halving_up, halving_down, halving_done}
 use Rattle.index.proofs.place.Goals as goal
 
 pub loop-low-init : goal.loop-low-init

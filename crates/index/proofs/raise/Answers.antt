@@ -1,6 +1,6 @@
 -- `index::raise` meets its contract: the entries from i on have moved.
 use native.Mathlib.Omega.{arith}
-use Rattle.index.proofs.Laws.{Shifting, shifting_start, shifting_turn, shifting_done}
+use Rattle.index.proofs.Laws.{shifting_start, shifting_turn, shifting_done}
 use Rattle.index.proofs.raise.Goals as goal
 
 pub loop-i-init : goal.loop-i-init

@@ -1,6 +1,5 @@
 -- `index::raise` meets its contract: the entries from i on have moved.
-use native.Mathlib.Omega.{arith}
-use Rattle.index.proofs.Laws.{Shifting, shifting_start, shifting_turn, shifting_done}
+use Rattle.index.proofs.Laws.{Shifting}
 use Rattle.index.proofs.raise.Given as goal
 
 abbrev pub invariant-loop-i : goal.invariant-loop-i

@@ -1,8 +1,7 @@
 -- `index::stands` meets its contract.
-use mathlib.Core.Path.{◌≡◌, sym, ◌∙◌, ap}
+use mathlib.Core.Path.{◌∙◌}
 use borrow.Author.Tests.{lt-ltb, le-ltb}
 use Rattle.index.specs.Index.{name_is}
-use borrow.Author.Rules.{rules}
 use Rattle.index.proofs.stands.Goals as goal
 
 pub name_at-requires : goal.name_at-requires

@@ -1,6 +1,4 @@
 -- The cycle of `transform_module_items`: each member meets its contract, and the remaining depth falls.
-use Prim.Native.Nat.{ℕ}
-use borrow.Author.Rules.{rules}
 use mathlib.Core.Path.{◌∙◌, refl}
 use mathlib.Core.Logic.{inl}
 use native.Mathlib.Omega.{arith}
@@ -21,7 +19,7 @@ use Rattle.items.proofs.Namespaces.{block_made, nested_is, body-other, body-made
 use Rattle.typing.proofs.Whole.{gives_as}
 use Rattle.definition.proofs.Walk.{left-first}
 use Rattle.parts.proofs.Each.{numbering_start}
-use Rattle.items.proofs.Items.{Itemizing, itemizing_few, itemizing_turn, itemizing_done}
+use Rattle.items.proofs.Items.{itemizing_few, itemizing_turn, itemizing_done}
 use Rattle.parts.proofs.Makes.{makes-as, makes-keeps}
 use Rattle.parts.proofs.Framing.{ready_second}
 use Rattle.items.proofs.+statements.Goals as goal

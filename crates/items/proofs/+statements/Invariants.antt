@@ -1,29 +1,6 @@
 -- The cycle of `transform_module_items`: each member meets its contract, and the remaining depth falls.
-use Prim.Native.Nat.{ℕ, ◌+◌, ◌*◌, suc}
-use borrow.Author.Rules.{rules}
-use mathlib.Core.Path.{◌∙◌, refl}
-use mathlib.Core.Logic.{inl}
-use native.Mathlib.Omega.{arith}
-use Rattle.definition.specs.Tree.{tree_at}
-use Rattle.definition.specs.Grammar.{mark}
-use Rattle.definition.proofs.Children.{itself, some_left}
-use Rattle.definition.proofs.Kids.{has}
-use Rattle.items.proofs.Inits.{told, told-not}
-use Rattle.items.proofs.ItemKinds.{mark_of_lem, ed_kids, count_small, told_in, told-out, Kept, kept_gives}
-use Rattle.items.proofs.Statements.{flags-made, did_made, did-kept, did-marked, members-silent, decl-class, decl-fn, decl-var, decl-enum, decl_module, decl_using, decl-type, export_gone, export_some, export_none, item-kept, item_dropped, item_export, item-default, item_expr, item-decl, Made, is_made_lem, not_made, stmt_told, stmt_gone, stmt_kept, stmt_made, stmt_some, stmt_none}
-use Rattle.swc_helpers.proofs.Made.{is_whole}
-use Rattle.typing.proofs.Props.{gives_none}
-use Rattle.typing.proofs.Written.{puts-counter}
-use Rattle.parts.proofs.Kept.{count-as, others-as}
-use Rattle.parts.proofs.Ready.{ready_kid}
-use Rattle.items.proofs.Declarators.{kids_ready, one_ready}
-use Rattle.items.proofs.Namespaces.{block_made, nested_is, body-other, body-made}
-use Rattle.typing.proofs.Whole.{gives_as}
-use Rattle.definition.proofs.Walk.{left-first}
-use Rattle.parts.proofs.Each.{numbering_start}
-use Rattle.items.proofs.Items.{Itemizing, itemizing_few, itemizing_turn, itemizing_done}
-use Rattle.parts.proofs.Makes.{makes-as, makes-keeps}
-use Rattle.parts.proofs.Framing.{ready_second}
+use Prim.Native.Nat.{◌+◌, ◌*◌}
+use Rattle.items.proofs.Items.{Itemizing}
 use Rattle.items.proofs.+statements.Given as goal
 
 abbrev pub decreases-with_body : goal.decreases-with_body

@@ -1,6 +1,5 @@
 -- `is_overloaded` meets its contract.
 use Rattle.items.proofs.ItemKinds.{goes-not, goes_if}
-use borrow.Author.Rules.{rules}
 use Rattle.items.proofs.is_overloaded.Goals as goal
 
 pub returns-then-mark_at-ne-FD : goal.returns-then-mark_at-ne-FD

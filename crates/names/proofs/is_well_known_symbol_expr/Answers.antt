@@ -1,7 +1,6 @@
 -- `names::is_well_known_symbol_expr` meets its contract: the object and the property are where the definition has them.
 use mathlib.Core.Path.{sym, ◌∙◌}
 use native.Mathlib.Omega.{arith}
-use borrow.Author.Rules.{rules}
 use Rattle.records.proofs.Accepted.{room, fits, lies, level}
 use Rattle.names.proofs.Keys.{well_other, object_child, well_local, property-child, well_computed, well_named}
 use Rattle.names.proofs.is_well_known_symbol_expr.Goals as goal

@@ -1,7 +1,6 @@
 -- `front_size` meets its contract.
 use native.Mathlib.Omega.{arith}
 use Rattle.parts.proofs.Kept.{text-small}
-use borrow.Author.Rules.{rules}
 use Rattle.parts.proofs.front_size.Goals as goal
 
 pub overflow_add-result : goal.overflow_add-result

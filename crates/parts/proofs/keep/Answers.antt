@@ -1,7 +1,6 @@
 -- `keep` meets its contract.
 use Rattle.swc_helpers.proofs.Made.{is_whole}
 use Rattle.parts.proofs.Kept.{kept}
-use borrow.Author.Rules.{rules}
 use Rattle.parts.proofs.keep.Goals as goal
 
 pub put_record-requires : goal.put_record-requires

@@ -1,10 +1,9 @@
 -- `keep_all` meets its contract.
 use mathlib.Core.Path.{refl}
 use native.Mathlib.Omega.{arith}
-use Rattle.definition.specs.Tree.{read_all, end_at, tree_at}
 use Rattle.definition.proofs.Walk.{left-first}
 use Rattle.swc_helpers.proofs.Made.{is_whole}
-use Rattle.parts.proofs.Kept.{puts-length, Keeping, keeping_start, keeping_turn, keeping_done}
+use Rattle.parts.proofs.Kept.{puts-length, keeping_start, keeping_turn, keeping_done}
 use Rattle.parts.proofs.keep_all.Goals as goal
 
 pub loop-k-init : goal.loop-k-init

@@ -1,10 +1,6 @@
 -- `keep_all` meets its contract.
-use mathlib.Core.Path.{refl}
-use native.Mathlib.Omega.{arith}
 use Rattle.definition.specs.Tree.{read_all, end_at, tree_at}
-use Rattle.definition.proofs.Walk.{left-first}
-use Rattle.swc_helpers.proofs.Made.{is_whole}
-use Rattle.parts.proofs.Kept.{puts-length, Keeping, keeping_start, keeping_turn, keeping_done}
+use Rattle.parts.proofs.Kept.{Keeping}
 use Rattle.parts.proofs.keep_all.Given as goal
 
 abbrev pub invariant-loop-k : goal.invariant-loop-k

@@ -1,7 +1,6 @@
 -- `put_any` meets its contract.
 use Rattle.records.specs.Fields.{span}
 use Rattle.parts.proofs.Kept.{any-put}
-use borrow.Author.Rules.{rules}
 use Rattle.parts.proofs.put_any.Goals as goal
 
 pub returns : goal.returns

@@ -4,7 +4,6 @@ use mathlib.Core.Logic.{inl}
 use native.Mathlib.Omega.{arith}
 use Rattle.definition.proofs.Children.{itself, some_left}
 use Rattle.parts.proofs.Kept.{flagged-children, flagged-put}
-use borrow.Author.Rules.{rules}
 use Rattle.parts.proofs.put_flagged.Goals as goal
 
 pub read_head-head-requires : goal.read_head-head-requires

@@ -2,7 +2,6 @@
 use native.Mathlib.Omega.{arith}
 use Rattle.definition.proofs.Children.{itself}
 use Rattle.parts.proofs.Kept.{front-put}
-use borrow.Author.Rules.{rules}
 use Rattle.parts.proofs.put_front.Goals as goal
 
 pub read_head-head-requires : goal.read_head-head-requires

@@ -2,7 +2,6 @@
 use Rattle.definition.proofs.Children.{itself}
 use Rattle.typing.proofs.Written.{puts-as}
 use Rattle.parts.proofs.Kept.{gone-kept, gone-absent, absent-put}
-use borrow.Author.Rules.{rules}
 use Rattle.parts.proofs.put_gone.Goals as goal
 
 pub mark_at-requires : goal.mark_at-requires

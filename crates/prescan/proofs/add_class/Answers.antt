@@ -1,6 +1,5 @@
 -- `prescan::add_class` meets its contract.
 use mathlib.Core.Path.{sym}
-use borrow.Author.Rules.{rules}
 use Rattle.records.proofs.Accepted.{room}
 use Rattle.prescan.proofs.Laws.{params-child, class-plain}
 use Rattle.prescan.proofs.add_class.Goals as goal

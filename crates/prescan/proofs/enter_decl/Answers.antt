@@ -4,7 +4,6 @@ use Rattle.definition.proofs.Children.{end_after, end-inside}
 use Rattle.records.proofs.Accepted.{room, fits, lies, level}
 use Rattle.prescan.proofs.Laws.{fn-ident, class-ident, class-child, class-mark, decl-var, decl-other}
 use Rattle.prescan.proofs.Tables.{room-one, filled_none, filled-one, filled_eq, fn-none, fn-one, fn-long, class-none, class-one, class-long}
-use borrow.Author.Rules.{rules}
 use Rattle.prescan.proofs.enter_decl.Goals as goal
 
 pub mark_at-requires : goal.mark_at-requires

@@ -1,6 +1,5 @@
 -- `prescan::enter_declarator` meets its contract: the children that it reads are where the definition has them.
 use native.Mathlib.Omega.{arith}
-use mathlib.Core.Path.{sym, ◌∙◌}
 use Rattle.definition.proofs.Children.{end_after, end-inside}
 use Rattle.records.proofs.Accepted.{room, fits, lies, level}
 use Rattle.prescan.proofs.Laws.{declarator-other, pattern-child, declarator-pattern, init-child, ident-child, type-child}

@@ -3,7 +3,6 @@ use native.Mathlib.Omega.{arith}
 use Rattle.records.proofs.Accepted.{room, level}
 use Rattle.prescan.proofs.Laws.{item-plain, export_child, item_export}
 use Rattle.prescan.proofs.Tables.{room-later, filled_eq, first_ends}
-use borrow.Author.Rules.{rules}
 use Rattle.prescan.proofs.enter_item.Goals as goal
 
 pub mark_at-requires : goal.mark_at-requires

@@ -1,24 +1,20 @@
 -- `prescan::enter_var` meets its contract: each turn of the loop enters one declarator.
 use native.Mathlib.Omega.{arith}
-use borrow.Author.Rules.{rules}
 use borrow.Author.Tests.{not-true, not-false}
 use mathlib.Core.Path.{sym, ap, ◌∙◌}
-use Prim.Native.Nat.{◌-◌}
-use Rattle.definition.specs.Tree.{end_at, tree_at}
-use Rattle.definition.specs.Record.{kids_of}
 use Rattle.definition.specs.Prescan.{add_declarator}
 use Rattle.definition.proofs.Children.{end_after}
 use Rattle.definition.proofs.Walk.{left-first}
 use Rattle.records.proofs.Accepted.{room, lies, level}
 use Rattle.prescan.proofs.Laws.{var-other, var-const, declares-step, declares-none}
-use Rattle.prescan.proofs.Tables.{Vars, Filling, filling_start, filling_turn, filling_done, filled_none, filled_eq}
+use Rattle.prescan.proofs.Tables.{Vars, filling_start, filling_turn, filling_done, filled_none, filled_eq}
 use Rattle.prescan.proofs.enter_var.Goals as goal
 
 pub read_head-head-requires : goal.read_head-head-requires
 read_head-head-requires c = room c.requires.accepted_at
 
 pub returns-then-not-has_flag : goal.returns-then-not-has_flag
-returns-then-not-has_flag c = filled_none c.requires.room (omega (arith, end_after _ _ _ c.requires.accepted_at)) (λ q t. var-other c.requires.accepted_at (ap (λ h. h.flags) c.read_head-head.ensures) q t (sym c.has_flag.ensures ∙ not-true _ c.if-not-has_flag.true-raw))
+returns-then-not-has_flag c = filled_none c.requires.room (omega (arith, end_after _ _ _ c.requires.accepted_at)) (λ q t. var-other c.requires.accepted_at (ap (λ h. h.flags) c.read_head-head.ensures) q t (sym c.has_flag.ensures ∙ c.if-not-has_flag.true))
 
 pub body_at-declarator-requires : goal.body_at-declarator-requires
 body_at-declarator-requires c = room c.requires.accepted_at
@@ -51,4 +47,4 @@ pub shape_of-table : goal.shape_of-table
 shape_of-table c = c.loop-rest.invariant.filled.same
 
 pub returns : goal.returns
-returns c = filled_eq (omega arith) (λ q t. var-const c.requires.accepted_at (ap (λ h. h.flags) c.read_head-head.ensures) q t (sym c.has_flag.ensures ∙ not-false _ c.if-not-has_flag.false-raw)) (filling_done c.loop-rest.invariant declares-none c.loop-rest-test.false)
+returns c = filled_eq (omega arith) (λ q t. var-const c.requires.accepted_at (ap (λ h. h.flags) c.read_head-head.ensures) q t (sym c.has_flag.ensures ∙ c.if-not-has_flag.false)) (filling_done c.loop-rest.invariant declares-none c.loop-rest-test.false)

@@ -1,15 +1,10 @@
 -- `prescan::index` meets its contract: each turn of the loop enters one item.
 use native.Mathlib.Omega.{arith}
-use mathlib.Core.Path.{refl, sym, ap, ◌∙◌}
-use Prim.Native.Nat.{◌-◌, ◌/◌}
-use lib.ListN.{length}
-use Rattle.definition.specs.Tree.{end_at, tree_at}
-use Rattle.definition.specs.Check.{deepest}
-use Rattle.definition.specs.Record.{kids_of}
+use mathlib.Core.Path.{refl}
 use Rattle.definition.specs.Prescan.{add_item}
 use Rattle.definition.proofs.Walk.{left-first}
 use Rattle.records.proofs.Accepted.{room, lies}
-use Rattle.prescan.proofs.Tables.{Items, Filling, room-start, filling_start, filling_turn, filling_done, items-step, items-none, indexed, inside}
+use Rattle.prescan.proofs.Tables.{Items, room-start, filling_start, filling_turn, filling_done, items-step, items-none, indexed, inside}
 use Rattle.prescan.proofs.index.Goals as goal
 
 pub count_at-rest-requires : goal.count_at-rest-requires

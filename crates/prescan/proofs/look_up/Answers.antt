@@ -1,12 +1,11 @@
 -- `prescan::look_up` meets its contract: the entry at the place of the name has the answer, or there is none.
 use native.Mathlib.Omega.{arith}
-use mathlib.Core.Path.{◌≡◌, sym, ap, ◌∙◌}
+use mathlib.Core.Path.{sym, ◌∙◌}
 use Rattle.definition.specs.Prescan.{Question.typeof_safe, Question.non_generic_class, Question.array_typed}
 use Rattle.index.proofs.Laws.{hit-within}
 use Rattle.records.proofs.Accepted.{fits}
 use Rattle.prescan.specs.Question.{meant}
 use Rattle.prescan.proofs.Tables.{look_hit, look-miss}
-use borrow.Author.Rules.{rules}
 use Rattle.prescan.proofs.look_up.Goals as goal
 
 pub text_at-name-requires : goal.text_at-name-requires

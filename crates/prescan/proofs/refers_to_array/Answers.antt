@@ -1,6 +1,5 @@
 -- `prescan::refers_to_array` meets its contract: the definition's answer is one of the head's mark and text.
 use mathlib.Core.Path.{sym, ◌∙◌}
-use borrow.Author.Rules.{rules}
 use Rattle.definition.proofs.Kids.{id-text}
 use Rattle.records.proofs.Accepted.{room, fits}
 use Rattle.prescan.proofs.Laws.{refers_other, refers_array, refers_readonly}

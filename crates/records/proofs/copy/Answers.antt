@@ -19,7 +19,8 @@ pub bounds-from-i : goal.bounds-from-i
 bounds-from-i c = omega arith
 
 pub bounds-to-i : goal.bounds-to-i
-bounds-to-i c = let l = c.loop-i in
+bounds-to-i c =
+    let l = c.loop-i in
     let a = c.args in
     omega (arith, kept a.to.now (take l.i a.from.now) l.invariant.1)
 
@@ -30,16 +31,19 @@ pub loop-i-smaller : goal.loop-i-smaller
 loop-i-smaller c = omega arith
 
 pub loop-i-preserved : goal.loop-i-preserved
-loop-i-preserved c = let l = c.loop-i in
+loop-i-preserved c =
+    let l = c.loop-i in
     let a = c.args in
     (omega arith, ap (λ (k : ℕ). set l.to k (get_or a.from.now l.i 0)) (sym (zero-add l.i)) ∙ copy_more a.to.now 0 l.i a.from.now c.loop-i-test.true l.invariant.1)
 
 pub shape_of-to : goal.shape_of-to
-shape_of-to c = let l = c.loop-i in
+shape_of-to c =
+    let l = c.loop-i in
     let a = c.args in
     kept a.to.now (take l.i a.from.now) l.invariant.1
 
 pub returns : goal.returns
-returns c = let l = c.loop-i in
+returns c =
+    let l = c.loop-i in
     let a = c.args in
     l.invariant.1 ∙ ap (λ (l : List ℕ). sets a.to.now 0 l) (take_all l.i a.from.now c.loop-i-test.false) ∙ copy-all a.to.now a.from.now c.requires

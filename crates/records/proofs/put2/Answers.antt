@@ -9,5 +9,6 @@ pub returns-then-p-out : goal.returns-then-p-out
 returns-then-p-out c = cc (c.put.ensures, c.put-then-p-out.ensures, add-one c.args.p)
 
 pub returns-else-p-out : goal.returns-else-p-out
-returns-else-p-out c = let a = c.args in
+returns-else-p-out c =
+    let a = c.args in
     sym (sets-out a.out.now a.p (le2 a.v) c.if-p-out.false)

@@ -6,9 +6,11 @@ use Rattle.records.proofs.Stores.{sets-out}
 use Rattle.records.proofs.put4.Goals as goal
 
 pub returns-then-p-out : goal.returns-then-p-out
-returns-then-p-out c = let a = c.args in
+returns-then-p-out c =
+    let a = c.args in
     cc (c.put.ensures, c.put-then-p-out.ensures, c.put-then-p-out-2.ensures, c.put-then-p-out-3.ensures, add-one a.p, add-two a.p, add-three a.p)
 
 pub returns-else-p-out : goal.returns-else-p-out
-returns-else-p-out c = let a = c.args in
+returns-else-p-out c =
+    let a = c.args in
     sym (sets-out a.out.now a.p (le4 a.v) c.if-p-out.false)

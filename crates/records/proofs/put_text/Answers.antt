@@ -8,7 +8,8 @@ use Rattle.records.proofs.Stores.{sets-out, part_sets, cut_sets}
 use Rattle.records.proofs.put_text.Goals as goal
 
 pub returns-then-end-out : goal.returns-then-end-out
-returns-then-end-out c = let a = c.args in
+returns-then-end-out c =
+    let a = c.args in
     let n : c.advance-end.result - a.p ≡ length a.text.now = omega (arith, c.advance-end.ensures) in
     record {
       bytes = rw (c.copy.ensures, n) (part_sets a.out.now a.p a.text.now (omega (arith, c.advance-end.ensures)));
@@ -16,18 +17,21 @@ returns-then-end-out c = let a = c.args in
     }
 
 pub returns-then-out-p : goal.returns-then-out-p
-returns-then-out-p c = let a = c.args in
+returns-then-out-p c =
+    let a = c.args in
     record { bytes = sym (sets-out a.out.now a.p a.text.now c.if-out-p.true); position = c.advance-end.ensures }
 
 pub slice_bounds-copy-end-3 : goal.slice_bounds-copy-end-3
-slice_bounds-copy-end-3 c = let a = c.args in
+slice_bounds-copy-end-3 c =
+    let a = c.args in
     sym (length-take-le (length a.out.now - a.p) a.text.now (omega (arith, c.advance-end.ensures)))
 
 pub copy-requires-2 : goal.copy-requires-2
 copy-requires-2 c = simp (length-take, length-drop) (omega (arith, c.advance-end.ensures))
 
 pub returns : goal.returns
-returns c = let n = c.advance-end in
+returns c =
+    let n = c.advance-end in
     let a = c.args in
     record {
       bytes = rw c.copy-2.ensures (cut_sets a.out.now a.p (length a.out.now - a.p) a.text.now (omega arith) (omega (arith, n.ensures)));

@@ -7,6 +7,7 @@ use Rattle.definition.specs.Tree.{head_size, length_at}
 use Rattle.records.proofs.text_at.Goals as goal
 
 pub returns : goal.returns
-returns c = let a = c.args in
+returns c =
+    let a = c.args in
     let n : c.body_at-end.result - (a.at + head_size) ≡ length_at a.tree.now a.at = omega (arith, c.body_at-end.ensures) in
     ap (λ (k : ℕ). take k (drop (a.at + head_size) a.tree.now)) n

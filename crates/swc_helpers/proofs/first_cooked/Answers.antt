@@ -1,5 +1,5 @@
 -- `first_cooked` meets its contract.
-use Rattle.std.proofs.Common.{sym, ◌∙◌, rules}
+use Rattle.std.proofs.Common.{sym, ◌∙◌}
 use Rattle.definition.proofs.Children.{itself}
 use Rattle.swc_helpers.proofs.Calls.{first-accepted}
 use Rattle.swc_helpers.proofs.Templates.{no_quasi, other_part, cooked, not-cooked, some-children}

@@ -1,5 +1,5 @@
 -- `maybe_lit_to_ts_type` meets its contract.
-use Rattle.std.proofs.Common.{refl, rules}
+use Rattle.std.proofs.Common.{refl}
 use Rattle.definition.specs.Helpers.{maybe_lit_to_ts_type}
 use Rattle.swc_helpers.proofs.Answers.{some-type, no_type}
 use Rattle.swc_helpers.proofs.Lits.{lit-put}

@@ -1,15 +1,10 @@
 -- `no_exprs` meets its contract. The loop's invariant: the children that are left are accepted, and those before them are no expressions; the
 -- measure is their number.
-use Rattle.std.proofs.Common.{◌-◌, ◌^◌, ◌<◌, sym, refl, ap, ◌∙◌, arith, rules}
+use Rattle.std.proofs.Common.{◌-◌, ◌^◌, ◌<◌}
 use Rattle.definition.specs.Tree.{tree_at}
-use Rattle.definition.specs.Record.{mark_of, kids_of}
+use Rattle.definition.specs.Record.{kids_of}
 use Rattle.definition.specs.Helpers.{no_exprs}
-use Rattle.definition.proofs.Children.{itself}
-use Rattle.definition.proofs.Kids.{mark-is}
-use Rattle.definition.proofs.Walk.{Left, left-kids, left-first, left-done, all-turn, all-stop}
-use Rattle.swc_helpers.specs.Found.{is_quasi}
-use Rattle.swc_helpers.proofs.Made.{is_whole}
-use Rattle.swc_helpers.proofs.Calls.{level}
+use Rattle.definition.proofs.Walk.{Left}
 use Rattle.swc_helpers.proofs.no_exprs.Given as goal
 
 abbrev pub invariant-loop-n : goal.invariant-loop-n

@@ -1,5 +1,5 @@
 -- `reference_to` meets its contract.
-use Rattle.std.proofs.Common.{refl, arith, rules}
+use Rattle.std.proofs.Common.{refl, arith}
 use Rattle.swc_helpers.proofs.Made.{put-put, put_as, encode-two, is_whole, copied}
 use Rattle.swc_helpers.proofs.reference_to.Goals as goal
 

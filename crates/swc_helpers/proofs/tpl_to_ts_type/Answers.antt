@@ -1,5 +1,5 @@
 -- `tpl_to_ts_type` meets its contract.
-use Rattle.std.proofs.Common.{sym, refl, ◌∙◌, arith, rules}
+use Rattle.std.proofs.Common.{sym, refl, ◌∙◌, arith}
 use borrow.Author.Tests.{not-true, not-false}
 use Rattle.definition.proofs.Children.{itself}
 use Rattle.swc_helpers.proofs.Made.{put-put, put_as, encode_one}
@@ -10,7 +10,7 @@ pub returns-in-Mutable : goal.returns-in-Mutable
 returns-in-Mutable c = tpl_put _ c.in-Mutable.is (mutable_is _) c.ts_keyword_type.ensures
 
 pub returns-then-not-no_exprs : goal.returns-then-not-no_exprs
-returns-then-not-no_exprs c = tpl_put _ c.in_default.is (with_exprs _ (sym c.no_exprs.ensures ∙ not-true _ c.if-not-no_exprs.true-raw)) c.ts_keyword_type-then-not-no_exprs.ensures
+returns-then-not-no_exprs c = tpl_put _ c.in_default.is (with_exprs _ (sym c.no_exprs.ensures ∙ c.if-not-no_exprs.true)) c.ts_keyword_type-then-not-no_exprs.ensures
 
 pub returns-in_default-first_cooked : goal.returns-in_default-first_cooked
 returns-in_default-first_cooked c = tpl_put _ c.in_default.is (not_found _ _ (sym c.in_default-first_cooked.is ∙ c.first_cooked.ensures)) c.ts_keyword_type-in_default-first_cooked.ensures
@@ -20,5 +20,5 @@ text_at-requires c = (itself _ _ _ (found-accepted _ _ _ c.requires _ (sym c.in-
 
 pub returns : goal.returns
 returns c = tpl_put _ c.in_default.is
-    (found_type _ _ _ c.requires _ (sym c.in-At.is ∙ c.first_cooked.ensures) (sym c.no_exprs.ensures ∙ not-false _ c.if-not-no_exprs.false-raw) _ c.text_at.ensures)
+    (found_type _ _ _ c.requires _ (sym c.in-At.is ∙ c.first_cooked.ensures) (sym c.no_exprs.ensures ∙ c.if-not-no_exprs.false) _ c.text_at.ensures)
     (put_as (put-put (omega arith) c.put_made_front-q.ensures c.put_made_leaf.ensures) (encode_one _ _ refl))

@@ -1,7 +1,6 @@
 -- `ts_keyword_type` meets its contract.
 use Rattle.records.specs.Fields.{span}
 use Rattle.swc_helpers.proofs.Made.{keyword-put}
-use Rattle.std.proofs.Common.{rules}
 use Rattle.swc_helpers.proofs.ts_keyword_type.Goals as goal
 
 pub returns-in-TsAnyKeyword : goal.returns-in-TsAnyKeyword

@@ -1,5 +1,5 @@
 -- `ts_lit_type` meets its contract.
-use Rattle.std.proofs.Common.{refl, arith, rules}
+use Rattle.std.proofs.Common.{refl, arith}
 use Rattle.swc_helpers.proofs.Made.{put-put, put_as, encode_one, is_whole, copied}
 use Rattle.swc_helpers.proofs.ts_lit_type.Goals as goal
 

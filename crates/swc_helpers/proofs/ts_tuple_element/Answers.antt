@@ -1,5 +1,5 @@
 -- `ts_tuple_element` meets its contract.
-use Rattle.std.proofs.Common.{arith, rules}
+use Rattle.std.proofs.Common.{arith}
 use Rattle.swc_helpers.proofs.Made.{put-put}
 use Rattle.swc_helpers.proofs.ts_tuple_element.Goals as goal
 

@@ -1,5 +1,5 @@
 -- `type_ref` meets its contract.
-use Rattle.std.proofs.Common.{refl, arith, rules}
+use Rattle.std.proofs.Common.{refl, arith}
 use Rattle.swc_helpers.proofs.Made.{put-put, put_as, encode-two}
 use Rattle.swc_helpers.proofs.type_ref.Goals as goal
 

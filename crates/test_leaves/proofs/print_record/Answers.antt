@@ -1,5 +1,4 @@
 -- `test_leaves::print_record` is safe: an accepted record lies in the tree.
-use borrow.Author.Rules.{rules}
 use Rattle.test_leaves.proofs.Laws.{lies}
 use Rattle.test_leaves.proofs.print_record.Goals as goal
 

@@ -1,6 +1,5 @@
 -- `test_leaves::show_call` is safe: the argument that is found is a child of the call.
 use mathlib.Core.Path.{sym, ◌∙◌}
-use borrow.Author.Rules.{rules}
 use native.Mathlib.Omega.{arith}
 use Rattle.test_leaves.proofs.Laws.{level, argument}
 use Rattle.test_leaves.proofs.show_call.Goals as goal

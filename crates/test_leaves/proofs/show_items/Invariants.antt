@@ -1,10 +1,7 @@
 -- `test_leaves::show_items` is safe and ends: each item of an accepted module is accepted.
 use Prim.Native.Nat.{◌-◌}
-use native.Mathlib.Omega.{arith}
 use Rattle.definition.specs.Check.{deepest}
 use Rattle.definition.specs.Children.{AllAccepted}
-use Rattle.definition.proofs.Children.{itself, children, first_one, others}
-use Rattle.records.proofs.Whole.{accepted-whole}
 use Rattle.test_leaves.proofs.show_items.Given as goal
 
 abbrev pub invariant-loop-n : goal.invariant-loop-n

@@ -1,6 +1,5 @@
 -- `test_leaves::show_key` is safe: the record that a key names was accepted.
 use mathlib.Core.Path.{subst}
-use borrow.Author.Rules.{rules}
 use Rattle.names.specs.Keys.{KeyAccepted}
 use Rattle.test_leaves.proofs.show_key.Goals as goal
 

@@ -1,7 +1,5 @@
 -- `test_leaves::show_large_names` is safe and ends: the power rises and stays in its range.
 use Prim.Native.Nat.{◌≤◌, ◌-◌}
-use borrow.Author.Rules.{rules}
-use native.Mathlib.Omega.{arith}
 use Rattle.test_leaves.proofs.show_large_names.Given as goal
 
 abbrev pub invariant-loop-power : goal.invariant-loop-power

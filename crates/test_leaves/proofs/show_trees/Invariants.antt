@@ -1,10 +1,6 @@
 -- `test_leaves::show_trees` is safe and ends: each turn raises the tree's number.
 use Prim.Native.Nat.{◌-◌}
-use borrow.Author.Rules.{rules}
 use Rattle.test_leaves.proofs.show_trees.Given as goal
-
-abbrev pub invariant-loop-number : goal.invariant-loop-number
-invariant-loop-number g l = Unit {0}
 
 abbrev pub decreases-loop-number : goal.decreases-loop-number
 decreases-loop-number g l = 65537 - l.number

@@ -1,8 +1,5 @@
 -- `test_limits::entries` is safe and ends: each turn leaves one entry less.
-use mathlib.Core.Path.{◌≡◌, refl, ap, ◌∙◌}
-use borrow.Author.Rules.{rules}
-use lib.ListN.{length}
-use lib.Seq.{length-sets}
+use mathlib.Core.Path.{refl, ◌∙◌}
 use Rattle.test_limits.proofs.entries.Goals as goal
 
 pub loop-n-init : goal.loop-n-init

@@ -1,8 +1,6 @@
 -- `test_limits::entries` is safe and ends: each turn leaves one entry less.
-use mathlib.Core.Path.{◌≡◌, refl, ap, ◌∙◌}
-use borrow.Author.Rules.{rules}
+use mathlib.Core.Path.{◌≡◌}
 use lib.ListN.{length}
-use lib.Seq.{length-sets}
 use Rattle.test_limits.proofs.entries.Given as goal
 
 abbrev pub invariant-loop-n : goal.invariant-loop-n

@@ -1,7 +1,5 @@
 -- `test_limits::nest` is safe and ends: each turn leaves one level less.
-use mathlib.Core.Path.{◌≡◌, refl, ap, ◌∙◌}
-use borrow.Author.Rules.{rules}
-use lib.ListN.{length}
+use mathlib.Core.Path.{refl, ◌∙◌}
 use Rattle.test_limits.proofs.nest.Goals as goal
 
 pub loop-n-init : goal.loop-n-init

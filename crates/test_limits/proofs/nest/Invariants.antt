@@ -1,6 +1,5 @@
 -- `test_limits::nest` is safe and ends: each turn leaves one level less.
-use mathlib.Core.Path.{◌≡◌, refl, ap, ◌∙◌}
-use borrow.Author.Rules.{rules}
+use mathlib.Core.Path.{◌≡◌}
 use lib.ListN.{length}
 use Rattle.test_limits.proofs.nest.Given as goal
 

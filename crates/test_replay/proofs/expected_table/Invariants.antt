@@ -1,7 +1,6 @@
 -- `expected_table` is safe and ends: each turn passes one cell.
 use Prim.Native.Nat.{◌-◌, ◌≤◌}
 use lib.ListN.{length}
-use borrow.Author.Rules.{rules}
 use Rattle.test_replay.proofs.expected_table.Given as goal
 
 abbrev pub invariant-loop-at : goal.invariant-loop-at

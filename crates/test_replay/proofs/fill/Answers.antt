@@ -1,9 +1,6 @@
 -- `fill` is safe and ends: each turn fills one byte more.
-use mathlib.Core.Path.{◌≡◌}
-use Prim.Native.Nat.{◌≤◌, ◌-◌}
 use native.Mathlib.Omega.{arith}
-use lib.ListN.{length, length-set}
-use borrow.Author.Rules.{rules}
+use lib.ListN.{length-set}
 use Rattle.test_replay.proofs.fill.Goals as goal
 
 pub loop-i-smaller : goal.loop-i-smaller

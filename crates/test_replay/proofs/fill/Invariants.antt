@@ -1,9 +1,7 @@
 -- `fill` is safe and ends: each turn fills one byte more.
 use mathlib.Core.Path.{◌≡◌}
 use Prim.Native.Nat.{◌≤◌, ◌-◌}
-use native.Mathlib.Omega.{arith}
-use lib.ListN.{length, length-set}
-use borrow.Author.Rules.{rules}
+use lib.ListN.{length}
 use Rattle.test_replay.proofs.fill.Given as goal
 
 abbrev pub invariant-loop-i : goal.invariant-loop-i

@@ -1,7 +1,6 @@
 -- `is_noise` is safe and ends: each turn looks at one byte more.
 use Prim.Native.Nat.{◌-◌}
 use lib.ListN.{length}
-use borrow.Author.Rules.{rules}
 use Rattle.test_replay.proofs.is_noise.Given as goal
 
 abbrev pub invariant-loop-i : goal.invariant-loop-i

@@ -1,6 +1,5 @@
 -- `noise_table` is safe and ends: each turn fills one cell more.
 use Prim.Native.Nat.{◌-◌, ◌≤◌}
-use borrow.Author.Rules.{rules}
 use Rattle.test_replay.proofs.noise_table.Given as goal
 
 abbrev pub invariant-loop-i : goal.invariant-loop-i

@@ -1,8 +1,6 @@
 -- `replay` is safe and ends: each turn reads one case more.
 use mathlib.Core.Path.{◌≡◌}
 use Prim.Native.Nat.{◌+◌, ◌-◌, ◌≤◌}
-use native.Mathlib.Omega.{arith}
-use borrow.Author.Rules.{rules}
 use lib.ListN.{length}
 use Rattle.test_replay.proofs.replay.Given as goal
 

@@ -1,6 +1,5 @@
 -- `same_table` is safe and ends: each turn compares one cell more.
 use Prim.Native.Nat.{◌-◌, ◌≤◌}
-use borrow.Author.Rules.{rules}
 use Rattle.test_replay.proofs.same_table.Given as goal
 
 abbrev pub invariant-loop-i : goal.invariant-loop-i

@@ -1,7 +1,6 @@
 -- `replay` is safe and ends: each turn reads one case more.
 use mathlib.Core.Path.{◌≡◌}
 use Prim.Native.Nat.{◌+◌, ◌-◌, ◌≤◌}
-use borrow.Author.Rules.{rules}
 use lib.ListN.{length}
 use Rattle.test_text.proofs.replay.Given as goal
 

@@ -2,7 +2,6 @@
 use Prim.Native.Nat.{◌-◌}
 use native.Mathlib.Omega.{arith}
 use Rattle.definition.specs.Check.{deepest}
-use Rattle.definition.specs.Children.{AllAccepted}
 use Rattle.definition.proofs.Children.{itself, children, first_one, others}
 use Rattle.records.proofs.Whole.{accepted-whole}
 use Rattle.test_types.proofs.show_items.Goals as goal

@@ -1,6 +1,5 @@
 -- `text::declare` is safe: what was written lies in its buffer.
 use Rattle.transform_dts.proofs.Calls.{wrote-inside, wrote-length}
-use borrow.Author.Rules.{rules}
 use Rattle.text.proofs.declare.Goals as goal
 
 pub slice_bounds-out-end : goal.slice_bounds-out-end

@@ -1,6 +1,5 @@
 -- `text::show` is safe: what was written lies in its buffer.
 use Rattle.declaration_text.proofs.Calls.{text-inside, text-length}
-use borrow.Author.Rules.{rules}
 use Rattle.text.proofs.show.Goals as goal
 
 pub slice_bounds-out-end : goal.slice_bounds-out-end

@@ -1,11 +1,8 @@
 -- `text_tokens::put_escaped` meets its contract. The loop's invariant: the bytes passed were written, escaped. The measure is how many are left.
 use Prim.Native.Nat.{◌-◌, ◌≤◌}
-use native.Mathlib.Omega.{arith}
 use lib.ListN.{length, take}
 use Rattle.definition.specs.Text.{escaped}
 use Rattle.text_tokens.specs.Writes.{PutLast}
-use Rattle.text_tokens.proofs.Leaves.{escaping_start, escaping_turn, escaping_done, put_last_same}
-use borrow.Author.Rules.{rules}
 use Rattle.text_tokens.proofs.put_escaped.Given as goal
 
 abbrev pub invariant-loop-i : goal.invariant-loop-i

@@ -2,7 +2,6 @@
 use mathlib.Core.Path.{sym, ◌∙◌}
 use native.Mathlib.Omega.{arith}
 use Rattle.text_tokens.proofs.Leaves.{byte_escaped, byte_plain}
-use borrow.Author.Rules.{rules}
 use Rattle.text_tokens.proofs.put_escaped_byte.Goals as goal
 
 pub returns-then-is_escaped : goal.returns-then-is_escaped

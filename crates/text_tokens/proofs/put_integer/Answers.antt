@@ -1,7 +1,6 @@
 -- `text_tokens::put_integer` meets its contract: a minus, the digits, `n`.
 use native.Mathlib.Omega.{arith}
 use Rattle.text_tokens.proofs.Leaves.{writes-integer, writes_no_digits}
-use borrow.Author.Rules.{rules}
 use Rattle.text_tokens.proofs.put_integer.Goals as goal
 
 pub returns-then-text-eq0 : goal.returns-then-text-eq0

@@ -2,7 +2,6 @@
 use native.Mathlib.Omega.{arith}
 use Rattle.records.proofs.Puts.{put_byte}
 use Rattle.text_tokens.proofs.Leaves.{put-none}
-use borrow.Author.Rules.{rules}
 use Rattle.text_tokens.proofs.put_minus.Goals as goal
 
 pub returns-then-negative : goal.returns-then-negative

@@ -1,7 +1,6 @@
 -- `text_tokens::put_number` meets its contract: a whole number in decimal, or the place of another.
 use native.Mathlib.Omega.{arith}
 use Rattle.text_tokens.proofs.Leaves.{number-decimal, number-outside}
-use borrow.Author.Rules.{rules}
 use Rattle.text_tokens.proofs.put_number.Goals as goal
 
 pub returns-in-Number : goal.returns-in-Number

@@ -1,7 +1,6 @@
 -- `text_tokens::put_own` meets its contract: the text, with no space before it.
 use native.Mathlib.Omega.{arith}
 use Rattle.text_tokens.proofs.Leaves.{some-text, last-at, no_own, writes-own}
-use borrow.Author.Rules.{rules}
 use Rattle.text_tokens.proofs.put_own.Goals as goal
 
 pub returns-then-text-eq0 : goal.returns-then-text-eq0

@@ -1,7 +1,6 @@
 -- `text_tokens::put_own_escaped` meets its contract: the text, escaped, with no space before it.
 use native.Mathlib.Omega.{arith}
 use Rattle.text_tokens.proofs.Leaves.{full-escaped, no_escaped, writes-own}
-use borrow.Author.Rules.{rules}
 use Rattle.text_tokens.proofs.put_own_escaped.Goals as goal
 
 pub returns-then-text-eq0 : goal.returns-then-text-eq0

@@ -2,7 +2,6 @@
 use native.Mathlib.Omega.{arith}
 use Rattle.records.proofs.Puts.{put_byte}
 use Rattle.text_tokens.proofs.Leaves.{put-none}
-use borrow.Author.Rules.{rules}
 use Rattle.text_tokens.proofs.put_space.Goals as goal
 
 pub returns-then-s : goal.returns-then-s

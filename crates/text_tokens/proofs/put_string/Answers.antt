@@ -1,7 +1,6 @@
 -- `text_tokens::put_string` meets its contract: the text, escaped, between quotes.
 use native.Mathlib.Omega.{arith}
 use Rattle.text_tokens.proofs.Leaves.{writes_string}
-use borrow.Author.Rules.{rules}
 use Rattle.text_tokens.proofs.put_string.Goals as goal
 
 pub returns : goal.returns

@@ -1,7 +1,6 @@
 -- `text_tokens::put_token` meets its contract: nothing of an empty text, or the space and the text.
 use native.Mathlib.Omega.{arith}
 use Rattle.text_tokens.proofs.Leaves.{some-text, last-at, no_token, writes-token}
-use borrow.Author.Rules.{rules}
 use Rattle.text_tokens.proofs.put_token.Goals as goal
 
 pub returns-then-text-eq0 : goal.returns-then-text-eq0

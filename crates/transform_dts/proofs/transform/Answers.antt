@@ -1,6 +1,5 @@
 -- `transform` meets its contract: what the check found, or the answer on an accepted tree.
 use Rattle.transform_dts.proofs.Calls.{call-refused, call-root, call-short, call-accepted}
-use borrow.Author.Rules.{rules}
 use Rattle.transform_dts.proofs.transform.Goals as goal
 
 pub accepted-requires : goal.accepted-requires

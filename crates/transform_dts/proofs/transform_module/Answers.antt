@@ -1,7 +1,6 @@
 -- `transform_module` meets its contract.
 use Rattle.definition.proofs.Children.{itself}
 use Rattle.transform_dts.proofs.Module.{items_ready, module_made}
-use borrow.Author.Rules.{rules}
 use Rattle.transform_dts.proofs.transform_module.Goals as goal
 
 pub read_head-head-requires : goal.read_head-head-requires

@@ -2,7 +2,6 @@
 use mathlib.Core.Path.{◌≡◌}
 use Prim.Native.Nat.{◌+◌, ◌-◌}
 use native.Mathlib.Omega.{arith}
-use borrow.Author.Rules.{rules}
 use Rattle.transform_dts.proofs.with_table.Goals as goal
 
 pub dry_run_and_run-requires : goal.dry_run_and_run-requires

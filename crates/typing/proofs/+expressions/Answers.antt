@@ -1,5 +1,5 @@
 -- The cycle of `expr_to_ts_type` and `pat_to_ts_fn_param`: each member meets its contract, and the remaining depth falls.
-use Prim.Native.Nat.{ℕ, ◌-◌}
+use Prim.Native.Nat.{◌-◌}
 use borrow.Author.Rules.{rules}
 use mathlib.Core.Path.{◌≡◌, sym, ◌∙◌, refl, ap}
 use native.Mathlib.Omega.{arith}
@@ -25,7 +25,7 @@ use Rattle.records.specs.declared.Head.{Head}
 use Rattle.swc_helpers.proofs.Made.{is_whole, copied}
 use Rattle.typing.specs.Below.{params_from}
 use Rattle.typing.proofs.Loops.{child-after}
-use Rattle.typing.proofs.Whole.{count_small, ParamLoop, param-start, param-turn, function-done, ObjectLoop, object_start, object_turn, object_done, gave_counted, gives_as, param-arrow, param-other, param_pa, TupleLoop, tuple-start, tuple-turn, tuple-stop, tuple-done}
+use Rattle.typing.proofs.Whole.{count_small, param-start, param-turn, function-done, object_start, object_turn, object_done, gave_counted, gives_as, param-arrow, param-other, param_pa, tuple-start, tuple-turn, tuple-stop, tuple-done}
 use mathlib.Core.Bool.{◌||◌}
 use Rattle.definition.specs.Tree.{end_at, mark_at, text_at}
 use Rattle.typing.proofs.Written.{puts-counter}
@@ -37,7 +37,7 @@ pub array_type-tuple_type-requires : goal.array_type-tuple_type-requires
 array_type-tuple_type-requires t c = (omega (arith, c.decreases), c.requires.0)
 
 pub array_type-returns-then-not-is_readonly : goal.array_type-returns-then-not-is_readonly
-array_type-returns-then-not-is_readonly t c = did-as c.tuple_type.ensures (array_plain c.args.tree.now c.args.mode c.args.levels c.args.at c.args.s.counter c.requires.1 (sym c.is_readonly.ensures ∙ not-true _ c.if-not-is_readonly.true-raw))
+array_type-returns-then-not-is_readonly t c = did-as c.tuple_type.ensures (array_plain c.args.tree.now c.args.mode c.args.levels c.args.at c.args.s.counter c.requires.1 (sym c.is_readonly.ensures ∙ c.if-not-is_readonly.true))
 
 pub array_type-shape_of-out-then-not-is_readonly : goal.array_type-shape_of-out-then-not-is_readonly
 array_type-shape_of-out-then-not-is_readonly t c = (array_type-returns-then-not-is_readonly t c).step.ran.out.same
@@ -49,7 +49,7 @@ pub array_type-tuple_type-requires-2 : goal.array_type-tuple_type-requires-2
 array_type-tuple_type-requires-2 t c = (omega (arith, c.decreases), c.requires.0)
 
 pub array_type-returns-in-Some : goal.array_type-returns-in-Some
-array_type-returns-in-Some t c = did-as (wrap-some (ts_readonly dummy_sp) (step-put _ c.args.s c.ts_readonly.ensures (omega (arith, c.well_formed))) readonly_front (is_some c.tuple_type-2.ensures c.in-Some.is)) (array_readonly c.args.tree.now c.args.mode c.args.levels c.args.at c.args.s.counter c.requires.1 (sym c.is_readonly.ensures ∙ not-false _ c.if-not-is_readonly.false-raw))
+array_type-returns-in-Some t c = did-as (wrap-some (ts_readonly dummy_sp) (step-put _ c.args.s c.ts_readonly.ensures (omega (arith, c.well_formed))) readonly_front (is_some c.tuple_type-2.ensures c.in-Some.is)) (array_readonly c.args.tree.now c.args.mode c.args.levels c.args.at c.args.s.counter c.requires.1 (sym c.is_readonly.ensures ∙ c.if-not-is_readonly.false))
 
 pub array_type-shape_of-out-in-Some : goal.array_type-shape_of-out-in-Some
 array_type-shape_of-out-in-Some t c = (array_type-returns-in-Some t c).step.ran.out.same
@@ -58,7 +58,7 @@ pub array_type-shape_of-diagnostics-in-Some : goal.array_type-shape_of-diagnosti
 array_type-shape_of-diagnostics-in-Some t c = (array_type-returns-in-Some t c).step.ran.dia.same
 
 pub array_type-returns-in-None : goal.array_type-returns-in-None
-array_type-returns-in-None t c = did-as (did_at c.back.ensures (wrap-none (ts_readonly dummy_sp) (step-put _ c.args.s c.ts_readonly.ensures (omega (arith, c.well_formed))) (omega (arith, c.well_formed)) (is_none c.tuple_type-2.ensures c.in-None.is))) (array_readonly c.args.tree.now c.args.mode c.args.levels c.args.at c.args.s.counter c.requires.1 (sym c.is_readonly.ensures ∙ not-false _ c.if-not-is_readonly.false-raw))
+array_type-returns-in-None t c = did-as (did_at c.back.ensures (wrap-none (ts_readonly dummy_sp) (step-put _ c.args.s c.ts_readonly.ensures (omega (arith, c.well_formed))) (omega (arith, c.well_formed)) (is_none c.tuple_type-2.ensures c.in-None.is))) (array_readonly c.args.tree.now c.args.mode c.args.levels c.args.at c.args.s.counter c.requires.1 (sym c.is_readonly.ensures ∙ c.if-not-is_readonly.false))
 
 pub array_type-shape_of-out-in-None : goal.array_type-shape_of-out-in-None
 array_type-shape_of-out-in-None t c = (array_type-returns-in-None t c).step.ran.out.same
@@ -94,7 +94,7 @@ pub call_type-has_readonly-requires : goal.call_type-has_readonly-requires
 call_type-has_readonly-requires t c = (freeze_ready c.args.tree.now c.args.mode c.args.levels c.args.at c.args.s.counter c.requires.0 c.requires.1 (is_found _ _ _ (sym c.in-At.is ∙ c.object_freeze_call_arg-found.ensures))).accepted
 
 pub call_type-returns-then-not-has_readonly : goal.call_type-returns-then-not-has_readonly
-call_type-returns-then-not-has_readonly t c = did-as (did_at c.back.ensures (kept_back _ c.expr_to_ts_type-inner_type.ensures (sym c.has_readonly.ensures ∙ not-true _ c.if-not-has_readonly.true-raw) (omega (arith, c.well_formed)) c.in-Some.is)) (freeze-is c.args.tree.now c.args.mode c.args.levels c.args.at c.args.s.counter c.requires.0.accepted c.requires.1 (is_found _ _ _ (sym c.in-At.is ∙ c.object_freeze_call_arg-found.ensures)))
+call_type-returns-then-not-has_readonly t c = did-as (did_at c.back.ensures (kept_back _ c.expr_to_ts_type-inner_type.ensures (sym c.has_readonly.ensures ∙ c.if-not-has_readonly.true) (omega (arith, c.well_formed)) c.in-Some.is)) (freeze-is c.args.tree.now c.args.mode c.args.levels c.args.at c.args.s.counter c.requires.0.accepted c.requires.1 (is_found _ _ _ (sym c.in-At.is ∙ c.object_freeze_call_arg-found.ensures)))
 
 pub call_type-shape_of-out-then-not-has_readonly : goal.call_type-shape_of-out-then-not-has_readonly
 call_type-shape_of-out-then-not-has_readonly t c = (call_type-returns-then-not-has_readonly t c).step.ran.out.same
@@ -103,7 +103,7 @@ pub call_type-shape_of-diagnostics-then-not-has_readonly : goal.call_type-shape_
 call_type-shape_of-diagnostics-then-not-has_readonly t c = (call_type-returns-then-not-has_readonly t c).step.ran.dia.same
 
 pub call_type-returns : goal.call_type-returns
-call_type-returns t c = did-as (kept-some _ c.expr_to_ts_type-inner_type.ensures (sym c.has_readonly.ensures ∙ not-false _ c.if-not-has_readonly.false-raw) c.in-Some.is) (freeze-is c.args.tree.now c.args.mode c.args.levels c.args.at c.args.s.counter c.requires.0.accepted c.requires.1 (is_found _ _ _ (sym c.in-At.is ∙ c.object_freeze_call_arg-found.ensures)))
+call_type-returns t c = did-as (kept-some _ c.expr_to_ts_type-inner_type.ensures (sym c.has_readonly.ensures ∙ c.if-not-has_readonly.false) c.in-Some.is) (freeze-is c.args.tree.now c.args.mode c.args.levels c.args.at c.args.s.counter c.requires.0.accepted c.requires.1 (is_found _ _ _ (sym c.in-At.is ∙ c.object_freeze_call_arg-found.ensures)))
 
 pub call_type-shape_of-out : goal.call_type-shape_of-out
 call_type-shape_of-out t c = (call_type-returns t c).step.ran.out.same

@@ -1,36 +1,6 @@
 -- The cycle of `expr_to_ts_type` and `pat_to_ts_fn_param`: each member meets its contract, and the remaining depth falls.
-use Prim.Native.Nat.{ℕ, ◌-◌, ◌+◌, ◌*◌, suc}
-use borrow.Author.Rules.{rules}
-use mathlib.Core.Path.{sym, ◌∙◌, refl, ap}
-use native.Mathlib.Omega.{arith}
-use borrow.Author.Tests.{not-true, not-false}
-use Rattle.definition.specs.Helpers.{ts_readonly}
-use Rattle.typing.proofs.Steps.{did-as, did_at, is_some, is_none, step-put, wrap-some, wrap-none, did_none, step-none, kept-none, kept-some, kept_back, did-put}
-use Rattle.definition.specs.Record.{dummy_sp}
-use Rattle.typing.proofs.Arrays.{readonly_front, element-op, element_hole, element_expr, all-op, all_hole, all_expr, rest-ident, rest-array, rest-other, element_spread, all-spread, all_fail}
-use Rattle.typing.proofs.ExprArms.{array_plain, array_readonly, type_other_call, freeze_ready, freeze-is, type-const, type-satisfies, type-as, type-fn, type-arrow}
-use Rattle.definition.proofs.Children.{some_left, itself}
-use Rattle.swc_helpers.proofs.Answers.{is-nothing, is_found}
-use Rattle.typing.specs.Did.{type_of, ids_of}
-use Rattle.definition.specs.Grammar.{marks}
-use Rattle.definition.proofs.Kids.{placed, member-one, left_of_lem, right_of}
-use Rattle.typing.proofs.Slots.{tc_expr, ts_expr, fx_ident, fx_function, as-type as as-type-of, params-there, params-two, kv-key, kv-value, pa_pattern_lem, pe_expr, sp_expr}
-use Rattle.typing.proofs.Ready.{ready_first, ready_second, second_at, ready_on}
-use Rattle.typing.proofs.Fits.{tree-fits}
-use Rattle.typing.proofs.LeafFits.{kids-fit, kid-fits, as_fits, leaf-fits, query_fits_if}
-use Rattle.typing.proofs.Maybe.{did_maybe}
-use Rattle.typing.proofs.LeafArms.{leaf-is}
-use Rattle.definition.proofs.Walk.{left-first}
-use Rattle.records.specs.declared.Head.{Head}
-use Rattle.swc_helpers.proofs.Made.{is_whole, copied}
-use Rattle.typing.specs.Below.{params_from}
-use Rattle.typing.proofs.Loops.{child-after}
-use Rattle.typing.proofs.Whole.{count_small, ParamLoop, param-start, param-turn, function-done, ObjectLoop, object_start, object_turn, object_done, gave_counted, gives_as, param-arrow, param-other, param_pa, TupleLoop, tuple-start, tuple-turn, tuple-stop, tuple-done}
-use mathlib.Core.Bool.{◌||◌}
-use Rattle.definition.specs.Tree.{end_at, mark_at, text_at}
-use Rattle.typing.proofs.Written.{puts-counter}
-use Rattle.typing.proofs.Props.{member_key_value, gives-value, gives_none, member-spread, member-op, member-other, gives-mark}
-use Rattle.typing.proofs.Patterns.{pat_named, named-fits, gave-named, gave_left_out, gave_at, pat_keep, pat_expr, pat_other, gave-keep, gave-none, gave-mark, pat_unnamed, unnamed_ready, gave-unnamed, gave_skipped}
+use Prim.Native.Nat.{◌+◌, ◌*◌}
+use Rattle.typing.proofs.Whole.{ParamLoop, ObjectLoop, TupleLoop}
 use Rattle.typing.proofs.+expressions.Given as goal
 
 abbrev pub decreases-unnamed_param : goal.decreases-unnamed_param

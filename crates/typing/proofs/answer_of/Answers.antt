@@ -1,6 +1,5 @@
 -- `answer_of` meets its contract.
 use mathlib.Core.Path.{refl}
-use borrow.Author.Rules.{rules}
 use Rattle.typing.proofs.answer_of.Goals as goal
 
 pub returns-in-Typed : goal.returns-in-Typed

@@ -1,6 +1,5 @@
 -- `mark_diagnostic` meets its contract.
 use Rattle.typing.proofs.Steps.{marks}
-use borrow.Author.Rules.{rules}
 use Rattle.typing.proofs.mark_diagnostic.Goals as goal
 
 pub returns : goal.returns

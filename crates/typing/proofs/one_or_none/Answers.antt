@@ -1,6 +1,5 @@
 -- `one_or_none` meets its contract.
 use mathlib.Core.Path.{refl}
-use borrow.Author.Rules.{rules}
 use Rattle.typing.proofs.one_or_none.Goals as goal
 
 pub returns-in-Some : goal.returns-in-Some

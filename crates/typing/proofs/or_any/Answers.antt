@@ -1,7 +1,6 @@
 -- `or_any` meets its contract.
 use native.Mathlib.Omega.{arith}
 use Rattle.typing.proofs.Steps.{filled-typed, filled-any}
-use borrow.Author.Rules.{rules}
 use Rattle.typing.proofs.or_any.Goals as goal
 
 pub returns-in-Some : goal.returns-in-Some

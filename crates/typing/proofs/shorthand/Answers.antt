@@ -14,7 +14,6 @@ use Rattle.typing.proofs.Steps.{step-drop}
 use Rattle.typing.proofs.Fits.{tree-fits}
 use Rattle.typing.proofs.LeafFits.{ident-fits}
 use Rattle.typing.proofs.Props.{member-shorthand, gives-mark, gives-short, short-fits}
-use borrow.Author.Rules.{rules}
 use Rattle.typing.proofs.shorthand.Goals as goal
 
 pub body_at-ident-requires : goal.body_at-ident-requires
@@ -39,13 +38,15 @@ skipped-requires c = (itself _ _ _ c.requires.0.accepted).room
 
 pub returns-in_default : goal.returns-in_default
 unfolding marks
-returns-in_default c = let u = is-untyped _ c.in_default.is c.ident_to_ts_type-made.ensures in
+returns-in_default c =
+    let u = is-untyped _ c.in_default.is c.ident_to_ts_type-made.ensures in
     gives-mark c.args.s (subst (λ (x : List ℕ). Step c.args.out.now x c.args.diagnostics.now c.args.diagnostics.now c.args.s c.args.s [] [] c.args.s.counter true) (sym u.1) (step-drop _ c.args.s c.put_shorthand-q.ensures (omega (arith, c.well_formed)) (omega (arith, c.well_formed))))
     (omega (arith, c.well_formed)) c.skipped.ensures.0 c.skipped.ensures.1 (member-shorthand _ c.args.mode _ _ _ c.requires.1 (placed (sh-ident _ _ _ c.requires.0.accepted c.requires.1) c.body_at-ident.ensures) u.0)
 
 pub returns : goal.returns
 unfolding marks
-returns c = let k = placed (sh-ident _ _ _ c.requires.0.accepted c.requires.1) c.body_at-ident.ensures in
+returns c =
+    let k = placed (sh-ident _ _ _ c.requires.0.accepted c.requires.1) c.body_at-ident.ensures in
     let u = is-typed _ c.in-Typed.is c.ident_to_ts_type-made.ensures in
     let f = tree-fits _ _ _ k.accepted c.shared_slice_known-1.given in
     gives-short _ c.args.s _ u.0 (c.args.mode.as_readonly || c.args.mode.frozen) (omega (arith, c.well_formed)) (omega (arith, c.well_formed)) (short-fits _ _ _ k.accepted (member-one _ _ k.marks) c.shared_slice_known-1.given)

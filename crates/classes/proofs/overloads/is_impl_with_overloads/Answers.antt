@@ -1,8 +1,6 @@
 -- `overloads::is_impl_with_overloads` meets its contract: the entries before `entry` have another range.
 use native.Mathlib.Omega.{arith}
-use mathlib.Core.Logic.{⊎_elim}
-use Rattle.definition.specs.Tree.{head_at}
-use Rattle.classes.proofs.Members.{Looking, looking_start, looking_done, looking_found, looking_start_other, looking_end_other}
+use Rattle.classes.proofs.Members.{looking_start, looking_done, looking_found, looking_start_other, looking_end_other}
 use Rattle.classes.proofs.overloads.is_impl_with_overloads.Goals as goal
 use Rattle.classes.proofs.overloads.is_impl_with_overloads.Goals.{then-u32_at-head+else-u32_at-head-2, else-u32_at-head}
 
@@ -38,8 +36,9 @@ loop-n-smaller c = omega arith
 
 pub loop-n-preserved : goal.loop-n-preserved
 loop-n-preserved c = elim c.if-u32_at-head.branch [
-      then-u32_at-head+else-u32_at-head-2 w ↦ looking_end_other _ _ c.loop-n.invariant c.loop-n-test.true c.read_head-head.ensures c.u32_at.ensures.0 w.u32_at-then-u32_at-head.ensures.0 w.if-u32_at-head-2.false
-    | else-u32_at-head w ↦ looking_start_other _ _ c.loop-n.invariant c.loop-n-test.true c.read_head-head.ensures c.u32_at.ensures.0 w.if-u32_at-head.false ]
+  | then-u32_at-head+else-u32_at-head-2 w ↦ looking_end_other _ _ c.loop-n.invariant c.loop-n-test.true c.read_head-head.ensures c.u32_at.ensures.0 w.u32_at-then-u32_at-head.ensures.0 w.if-u32_at-head-2.false
+  | else-u32_at-head w ↦ looking_start_other _ _ c.loop-n.invariant c.loop-n-test.true c.read_head-head.ensures c.u32_at.ensures.0 w.if-u32_at-head.false
+]
 
 pub returns : goal.returns
 returns c = looking_done _ _ c.loop-n.invariant (omega arith)

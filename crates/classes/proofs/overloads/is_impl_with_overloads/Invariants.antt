@@ -1,8 +1,6 @@
 -- `overloads::is_impl_with_overloads` meets its contract: the entries before `entry` have another range.
-use native.Mathlib.Omega.{arith}
-use mathlib.Core.Logic.{⊎_elim}
 use Rattle.definition.specs.Tree.{head_at}
-use Rattle.classes.proofs.Members.{Looking, looking_start, looking_done, looking_found, looking_start_other, looking_end_other}
+use Rattle.classes.proofs.Members.{Looking}
 use Rattle.classes.proofs.overloads.is_impl_with_overloads.Given as goal
 
 abbrev pub invariant-loop-n : goal.invariant-loop-n

@@ -11,7 +11,6 @@ use Rattle.parts.proofs.Ready.{ready_kid}
 use Rattle.classes.specs.Typings.{typing_of}
 use Rattle.classes.proofs.Slots.{param-one}
 use Rattle.classes.proofs.Parameters.{param-made, param-kept, either-mark, neither_mark}
-use borrow.Author.Rules.{rules}
 use Rattle.classes.proofs.params.handle_func_param.Goals as goal
 
 pub mark_at-requires : goal.mark_at-requires

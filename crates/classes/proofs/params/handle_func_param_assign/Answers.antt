@@ -10,7 +10,6 @@ use Rattle.parts.proofs.Makes.{makes-as, makes-keeps}
 use Rattle.parts.proofs.Ready.{ready_kid}
 use Rattle.classes.specs.Typings.{typing_of}
 use Rattle.classes.proofs.Parameters.{assign_ident, assign_box, assign_kept, either-mark, neither_mark}
-use borrow.Author.Rules.{rules}
 use Rattle.classes.proofs.params.handle_func_param_assign.Goals as goal
 
 pub body_at-pattern-requires : goal.body_at-pattern-requires

@@ -9,7 +9,6 @@ use Rattle.parts.proofs.Kept.{count-as, others-as}
 use Rattle.parts.proofs.Kids.{kids-two}
 use Rattle.parts.proofs.Makes.{makes-as, makes-keeps}
 use Rattle.classes.proofs.Parameters.{ident-given, ident-any}
-use borrow.Author.Rules.{rules}
 use Rattle.classes.proofs.params.handle_func_param_ident.Goals as goal
 
 pub read_head-head-requires : goal.read_head-head-requires

@@ -1,10 +1,8 @@
 -- `params::handle_func_params` meets its contract.
 use native.Mathlib.Omega.{arith}
-use Rattle.definition.specs.Classes.{handle_func_param}
 use Rattle.definition.proofs.Walk.{left-first}
 use Rattle.swc_helpers.proofs.Made.{is_whole}
-use Rattle.parts.proofs.Each.{making-done, making-out, making-diagnostics, Eaching, eaching_start}
-use Rattle.classes.specs.Typings.{typing_of}
+use Rattle.parts.proofs.Each.{making-done, making-out, making-diagnostics, eaching_start}
 use Rattle.classes.proofs.Ready.{ready_one}
 use Rattle.classes.proofs.Parameters.{handling_turn}
 use Rattle.classes.proofs.params.handle_func_params.Goals as goal

@@ -5,7 +5,6 @@ use Rattle.definition.proofs.Children.{itself}
 use Rattle.parts.proofs.Makes.{makes-as, makes-keeps}
 use Rattle.classes.specs.Typings.{typing_of}
 use Rattle.classes.proofs.Parameters.{pattern-ident, pattern_assign, pattern-kept}
-use borrow.Author.Rules.{rules}
 use Rattle.classes.proofs.params.handle_pattern.Goals as goal
 
 pub mark_at-requires : goal.mark_at-requires

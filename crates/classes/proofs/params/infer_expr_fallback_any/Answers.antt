@@ -1,7 +1,6 @@
 -- `params::infer_expr_fallback_any` meets its contract.
 use Rattle.definition.proofs.Children.{itself}
 use Rattle.classes.proofs.Inferred.{infer}
-use borrow.Author.Rules.{rules}
 use Rattle.classes.proofs.params.infer_expr_fallback_any.Goals as goal
 
 pub expr_to_ts_type-t-requires : goal.expr_to_ts_type-t-requires

@@ -11,7 +11,6 @@ use Rattle.parts.proofs.Kids.{kids-one}
 use Rattle.classes.specs.Typings.{typing_of}
 use Rattle.classes.proofs.Slots.{box-one}
 use Rattle.classes.proofs.Parameters.{box-optional}
-use borrow.Author.Rules.{rules}
 use Rattle.classes.proofs.params.optional_box.Goals as goal
 
 pub read_head-head-requires : goal.read_head-head-requires

@@ -11,7 +11,6 @@ use Rattle.parts.proofs.Kept.{count-as, others-as}
 use Rattle.parts.proofs.Kids.{kids-two}
 use Rattle.classes.specs.Typings.{typing_of}
 use Rattle.classes.proofs.Parameters.{ident-optional}
-use borrow.Author.Rules.{rules}
 use Rattle.classes.proofs.params.optional_ident.Goals as goal
 
 pub read_head-head-requires : goal.read_head-head-requires

@@ -4,7 +4,6 @@ use mathlib.Core.Path.{sym, ◌∙◌}
 use Rattle.definition.proofs.Children.{itself, some_left}
 use Rattle.parts.proofs.Makes.{makes-as, makes-keeps}
 use Rattle.classes.proofs.Inferred.{or_given, or_made}
-use borrow.Author.Rules.{rules}
 use Rattle.classes.proofs.params.type_or_infer.Goals as goal
 
 pub mark_at-requires : goal.mark_at-requires

@@ -5,7 +5,6 @@ use mathlib.Core.Path.{sym, ap, ◌∙◌}
 use Rattle.records.specs.declared.Head.{Head}
 use Rattle.definition.specs.Record.{has_flag}
 use Rattle.declaration_text.proofs.Conditions.{no_flag}
-use borrow.Author.Rules.{rules}
 use Rattle.declaration_text.proofs.asks.flag_is_set.Goals as goal
 
 pub returns-then-flag-eq0 : goal.returns-then-flag-eq0

@@ -3,7 +3,6 @@ use Rattle.definition.specs.Tree.{end_of_all}
 use native.Mathlib.Omega.{arith}
 use Rattle.records.proofs.Accepted.{room, fits}
 use Rattle.declaration_text.proofs.Children.{kid-accepted, no_name, name_empty, name_double, name-single}
-use borrow.Author.Rules.{rules}
 use Rattle.declaration_text.proofs.asks.name_is_quoted.Goals as goal
 
 pub count_at-requires : goal.count_at-requires

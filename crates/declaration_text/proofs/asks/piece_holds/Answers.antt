@@ -3,7 +3,6 @@ use native.Mathlib.Omega.{arith}
 use Rattle.records.proofs.Accepted.{room}
 use Rattle.definition.specs.Tree.{head_at}
 use Rattle.declaration_text.proofs.Conditions.{held-always, held-set, held_unset, held_setter, held-getter, held-there, held-dotted, held_quoted, held_unquoted, held_chained, held_under, held_linked}
-use borrow.Author.Rules.{rules}
 use Rattle.declaration_text.proofs.asks.piece_holds.Goals as goal
 
 pub cell-number-requires : goal.cell-number-requires

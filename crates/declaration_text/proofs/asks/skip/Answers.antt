@@ -1,8 +1,7 @@
 -- `skip` meets its contract: each turn passes one record.
 use native.Mathlib.Omega.{arith}
-use Rattle.definition.specs.Tree.{end_of_all, end_at}
 use Rattle.records.proofs.Accepted.{lies}
-use Rattle.declaration_text.proofs.Children.{Passing, passing_start, passing_first, passing_turn, passing_done}
+use Rattle.declaration_text.proofs.Children.{passing_start, passing_first, passing_turn, passing_done}
 use Rattle.declaration_text.proofs.asks.skip.Goals as goal
 
 pub loop-k-init : goal.loop-k-init

@@ -1,8 +1,6 @@
 -- `skip` meets its contract: each turn passes one record.
-use native.Mathlib.Omega.{arith}
 use Rattle.definition.specs.Tree.{end_of_all, end_at}
-use Rattle.records.proofs.Accepted.{lies}
-use Rattle.declaration_text.proofs.Children.{Passing, passing_start, passing_first, passing_turn, passing_done}
+use Rattle.declaration_text.proofs.Children.{Passing}
 use Rattle.declaration_text.proofs.asks.skip.Given as goal
 
 abbrev pub invariant-loop-k : goal.invariant-loop-k

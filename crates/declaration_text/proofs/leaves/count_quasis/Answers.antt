@@ -1,8 +1,7 @@
 -- `declaration_text::leaves::count_quasis` meets its contract: the loop counts the children that it passes.
 use native.Mathlib.Omega.{arith}
 use Rattle.records.proofs.Accepted.{room, lies}
-use Rattle.declaration_text.specs.Templates.{Quasis}
-use Rattle.declaration_text.proofs.Templates.{Counting, counting_start, counting_first, counting_turn, counting_stop, counting_done, quasis-none, quasis-stop, quasis-more}
+use Rattle.declaration_text.proofs.Templates.{counting_start, counting_first, counting_turn, counting_stop, counting_done, quasis-none, quasis-stop, quasis-more}
 use mathlib.Core.Path.{◌∙◌, sym}
 use Rattle.declaration_text.proofs.leaves.count_quasis.Goals as goal
 

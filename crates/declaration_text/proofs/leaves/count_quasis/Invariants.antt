@@ -1,9 +1,6 @@
 -- `declaration_text::leaves::count_quasis` meets its contract: the loop counts the children that it passes.
-use native.Mathlib.Omega.{arith}
-use Rattle.records.proofs.Accepted.{room, lies}
 use Rattle.declaration_text.specs.Templates.{Quasis}
-use Rattle.declaration_text.proofs.Templates.{Counting, counting_start, counting_first, counting_turn, counting_stop, counting_done, quasis-none, quasis-stop, quasis-more}
-use mathlib.Core.Path.{◌∙◌, sym}
+use Rattle.declaration_text.proofs.Templates.{Counting}
 use Rattle.declaration_text.proofs.leaves.count_quasis.Given as goal
 
 abbrev pub invariant-loop-k : goal.invariant-loop-k

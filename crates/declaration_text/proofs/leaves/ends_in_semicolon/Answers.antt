@@ -1,5 +1,4 @@
 -- `declaration_text::leaves::ends_in_semicolon` meets its contract.
-use borrow.Author.Rules.{rules}
 use Rattle.declaration_text.proofs.leaves.ends_in_semicolon.Goals as goal
 
 pub returns-then-s : goal.returns-then-s

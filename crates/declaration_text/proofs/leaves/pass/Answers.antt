@@ -3,7 +3,6 @@ use native.Mathlib.Omega.{arith}
 use Rattle.records.proofs.Accepted.{lies}
 use Rattle.declaration_text.proofs.Words.{passed_first}
 use mathlib.Core.Path.{◌∙◌}
-use borrow.Author.Rules.{rules}
 use Rattle.declaration_text.proofs.leaves.pass.Goals as goal
 
 pub record_end-requires : goal.record_end-requires

@@ -7,7 +7,6 @@ use mathlib.Core.Path.{◌∙◌, sym, ap}
 use mathlib.Core.List.{List, [], ◌∷◌}
 use Prim.Native.Nat.{ℕ}
 use Rattle.definition.specs.Text.{own, escaped}
-use borrow.Author.Rules.{rules}
 use Rattle.declaration_text.proofs.leaves.put_quasi.Goals as goal
 
 pub returns-then-n-eq0 : goal.returns-then-n-eq0

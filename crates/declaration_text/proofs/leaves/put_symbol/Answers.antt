@@ -3,7 +3,6 @@ use native.Mathlib.Omega.{arith}
 use Rattle.records.proofs.Accepted.{fits}
 use Rattle.declaration_text.proofs.Words.{writes_empty, symbol-none, symbol-is}
 use Rattle.text_tokens.proofs.Writes.{writes_as}
-use borrow.Author.Rules.{rules}
 use Rattle.declaration_text.proofs.leaves.put_symbol.Goals as goal
 
 pub text_at-text-requires : goal.text_at-text-requires

@@ -4,7 +4,6 @@ use Rattle.declaration_text.proofs.Words.{writes_empty, words_length, word-past,
 use Rattle.text_tokens.proofs.Writes.{writes_as}
 use mathlib.Core.Path.{ap}
 use lib.ListN.{length}
-use borrow.Author.Rules.{rules}
 use Rattle.declaration_text.proofs.leaves.put_word.Goals as goal
 
 pub returns-then-start-gt-WORDS_SIZE : goal.returns-then-start-gt-WORDS_SIZE

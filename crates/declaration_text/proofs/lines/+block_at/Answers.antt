@@ -2,7 +2,7 @@
 -- a mark that is one of two
 use mathlib.Core.Path.{◌≡◌, sym, ◌∙◌}
 use mathlib.Core.Logic.{◌⊎◌, inl, inr, ⊎_elim}
-use Prim.Native.Nat.{ℕ, ◌<◌}
+use Prim.Native.Nat.{ℕ}
 use native.Mathlib.Omega.{arith}
 use Rattle.records.proofs.Accepted.{room, lies, level}
 use Rattle.declaration_text.proofs.Blocks.{block_here, block_none, first-none, first_found, second_none, second-found, first-kid, second-kid}

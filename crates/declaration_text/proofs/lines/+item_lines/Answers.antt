@@ -4,15 +4,13 @@
 -- ---- the items one after the other
 use mathlib.Core.Path.{◌≡◌, refl, subst}
 use mathlib.Core.List.{List}
-use Prim.Native.Nat.{ℕ, suc, ◌*◌, ◌<◌}
+use Prim.Native.Nat.{ℕ}
 use native.Mathlib.Omega.{arith}
-use borrow.Author.Rules.{rules}
-use Rattle.definition.specs.Text.{items_lines}
 use Rattle.records.proofs.Accepted.{room, lies, level}
 use Rattle.declaration_text.specs.declared.lines.Block.{Block}
-use Rattle.declaration_text.specs.Lines.{records_at, Found}
+use Rattle.declaration_text.specs.Lines.{Found}
 use Rattle.declaration_text.proofs.LinesWritten.{lines_none, lines-as}
-use Rattle.declaration_text.proofs.Blocks.{item_star, item-op, item_line_lem, item-block, block-items, Listing, listing_start, listing-first, listing-turn, listing-done, listing-same}
+use Rattle.declaration_text.proofs.Blocks.{item_star, item-op, item_line_lem, item-block, block-items, listing_start, listing-first, listing-turn, listing-done, listing-same}
 use Rattle.declaration_text.proofs.lines.+item_lines.Goals as goal
 
 found : (levels : ℕ) (tree : List ℕ) (at : ℕ) {f g : Block} → f ≡ g → Found levels tree at f → Found levels tree at g

@@ -2,17 +2,10 @@
 -- the block that was found
 -- ---- one item
 -- ---- the items one after the other
-use mathlib.Core.Path.{◌≡◌, refl, subst}
-use mathlib.Core.List.{List}
-use Prim.Native.Nat.{ℕ, suc, ◌*◌, ◌<◌, ◌+◌}
-use native.Mathlib.Omega.{arith}
-use borrow.Author.Rules.{rules}
+use Prim.Native.Nat.{suc, ◌*◌}
 use Rattle.definition.specs.Text.{items_lines}
-use Rattle.records.proofs.Accepted.{room, lies, level}
-use Rattle.declaration_text.specs.declared.lines.Block.{Block}
-use Rattle.declaration_text.specs.Lines.{records_at, Found}
-use Rattle.declaration_text.proofs.LinesWritten.{lines_none, lines-as}
-use Rattle.declaration_text.proofs.Blocks.{item_star, item-op, item_line_lem, item-block, block-items, Listing, listing_start, listing-first, listing-turn, listing-done, listing-same}
+use Rattle.declaration_text.specs.Lines.{records_at}
+use Rattle.declaration_text.proofs.Blocks.{Listing}
 use Rattle.declaration_text.proofs.lines.+item_lines.Given as goal
 
 abbrev pub decreases-put_items : goal.decreases-put_items

@@ -1,6 +1,5 @@
 -- `put_closing` meets its contract: the indent, one token, and a line feed.
 use native.Mathlib.Omega.{arith}
-use borrow.Author.Rules.{rules}
 use Rattle.declaration_text.proofs.LinesWritten.{line_put}
 use Rattle.declaration_text.proofs.lines.put_closing.Goals as goal
 

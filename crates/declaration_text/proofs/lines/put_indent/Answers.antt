@@ -1,7 +1,6 @@
 -- `put_indent` meets its contract: two spaces for each turn of the loop.
 use native.Mathlib.Omega.{arith}
-use borrow.Author.Rules.{rules}
-use Rattle.declaration_text.proofs.LinesWritten.{Indenting, indenting_start, indenting_turn, indenting_done, indenting_same}
+use Rattle.declaration_text.proofs.LinesWritten.{indenting_start, indenting_turn, indenting_done, indenting_same}
 use Rattle.declaration_text.proofs.lines.put_indent.Goals as goal
 
 pub loop-k-init : goal.loop-k-init

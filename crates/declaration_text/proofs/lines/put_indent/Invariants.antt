@@ -1,7 +1,5 @@
 -- `put_indent` meets its contract: two spaces for each turn of the loop.
-use native.Mathlib.Omega.{arith}
-use borrow.Author.Rules.{rules}
-use Rattle.declaration_text.proofs.LinesWritten.{Indenting, indenting_start, indenting_turn, indenting_done, indenting_same}
+use Rattle.declaration_text.proofs.LinesWritten.{Indenting}
 use Rattle.declaration_text.proofs.lines.put_indent.Given as goal
 
 abbrev pub invariant-loop-k : goal.invariant-loop-k

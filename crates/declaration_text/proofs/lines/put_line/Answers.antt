@@ -1,6 +1,5 @@
 -- `put_line` meets its contract: the indent, the tokens of the record, and a line feed.
 use native.Mathlib.Omega.{arith}
-use borrow.Author.Rules.{rules}
 use Rattle.declaration_text.proofs.LinesWritten.{line_put}
 use Rattle.declaration_text.proofs.lines.put_line.Goals as goal
 

@@ -1,7 +1,6 @@
 -- `declaration_text::numbers::number_fits` meets its contract: another mark, a child, or what `whole_of` found.
 use mathlib.Core.Path.{◌∙◌}
 use native.Mathlib.Omega.{arith}
-use borrow.Author.Rules.{rules}
 use Rattle.definition.proofs.Tests.{never}
 use Rattle.declaration_text.proofs.NumbersFit.{found-fits}
 use Rattle.declaration_text.proofs.numbers.number_fits.Goals as goal

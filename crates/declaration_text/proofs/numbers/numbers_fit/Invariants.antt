@@ -1,13 +1,8 @@
 -- `declaration_text::numbers::numbers_fit` meets its contract: each turn puts a record's children in its place among the records that are pending.
 use Prim.Native.Nat.{◌-◌}
-use native.Mathlib.Omega.{arith}
 use lib.ListN.{length}
-use borrow.Author.Tests.{not-false}
 use Rattle.definition.specs.Check.{deepest}
-use Rattle.definition.proofs.Tests.{never}
-use Rattle.records.proofs.Accepted.{lies}
-use Rattle.records.proofs.Whole.{pending_body, pending_room}
-use Rattle.declaration_text.proofs.NumbersFit.{Walks, walks_start, walks_turn, walks_done}
+use Rattle.declaration_text.proofs.NumbersFit.{Walks}
 use Rattle.declaration_text.proofs.numbers.numbers_fit.Given as goal
 
 abbrev pub invariant-loop-pending : goal.invariant-loop-pending

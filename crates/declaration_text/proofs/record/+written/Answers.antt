@@ -8,14 +8,11 @@ use Rattle.records.proofs.Accepted.{room, level, fits, lies}
 use Rattle.definition.proofs.Kids.{rest-accepted, all_others}
 use Rattle.text_tokens.proofs.Writes.{writes_as, writes-same, writes_then}
 use Rattle.declaration_text.specs.Table.{each_by}
-use Rattle.declaration_text.proofs.Written.{writes_nothing, none-behind, some-behind, braced-some, braced-none, braces_none, braces_some, no_child_lem, child-tokens, number-alone, number-spelt, piece-not, piece-token, piece-child, piece-ops, piece-list, piece-members, piece-template, piece-text, piece-symbol, piece_string, piece-number, piece-integer, template_of_lem, op-written, no_op, op_left_out, element-comma, element-last, no_member, member-closed, member-ends, member_follows, Telling, telling_start, telling_first, telling_turn, telling_done, Turning, turns_of, template-is, turning_start, turning_quasi, turning_expression, turning_turn, turning_done, Reading, reading-start, reading-turn, reading-end, reading-done, plain-token, name-token}
-use borrow.Author.Rules.{rules}
+use Rattle.declaration_text.proofs.Written.{writes_nothing, none-behind, some-behind, braced-some, braced-none, braces_none, braces_some, no_child_lem, child-tokens, number-alone, number-spelt, piece-not, piece-token, piece-child, piece-ops, piece-list, piece-members, piece-template, piece-text, piece-symbol, piece_string, piece-number, piece-integer, template_of_lem, op-written, no_op, op_left_out, element-comma, element-last, no_member, member-closed, member-ends, member_follows, telling_start, telling_first, telling_turn, telling_done, template-is, turning_start, turning_quasi, turning_expression, turning_turn, turning_done, reading-start, reading-turn, reading-end, reading-done, plain-token, name-token}
 use Rattle.declaration_text.proofs.Children.{kid-accepted}
 use borrow.Author.Tests.{not-true, not-false}
 use Rattle.definition.proofs.Children.{children, first_one}
-use Rattle.definition.specs.Tree.{head_at, tree_at}
-use Rattle.definition.specs.Text.{each_of, tokens}
-use Rattle.declaration_text.specs.Steps.{children_at, children_of}
+use Rattle.definition.specs.Tree.{head_at}
 use Rattle.declaration_text.proofs.record.+written.Goals as goal
 
 pub behind-count_at-n-requires : goal.behind-count_at-n-requires
@@ -112,7 +109,7 @@ pub piece-piece_holds-requires : goal.piece-piece_holds-requires
 piece-piece_holds-requires t c = record { rows_value = (c.requires.0.rows_are, c.requires.2); accepted_at = c.requires.1 }
 
 pub piece-returns-then-not-piece_holds : goal.piece-returns-then-not-piece_holds
-piece-returns-then-not-piece_holds t c = writes_nothing _ _ (omega (arith, c.well_formed)) (piece-not _ _ _ _ _ _ c.piece_holds.ensures (not-true _ c.if-not-piece_holds.true-raw))
+piece-returns-then-not-piece_holds t c = writes_nothing _ _ (omega (arith, c.well_formed)) (piece-not _ _ _ _ _ _ c.piece_holds.ensures c.if-not-piece_holds.true)
 
 pub piece-overflow_add-i : goal.piece-overflow_add-i
 piece-overflow_add-i t c = omega (arith, c.requires.2)
@@ -187,42 +184,42 @@ pub piece-text_at-requires-in_default : goal.piece-text_at-requires-in_default
 piece-text_at-requires-in_default t c = fits c.requires.1
 
 pub piece-returns-in-1 : goal.piece-returns-in-1
-piece-returns-in-1 t c = writes_as c.put_word.ensures (piece-token _ _ _ _ _ _ c.piece_holds.ensures (not-false _ c.if-not-piece_holds.false-raw) c.cell-what.ensures c.in-1.is c.cell-a.ensures c.cell.ensures)
+piece-returns-in-1 t c = writes_as c.put_word.ensures (piece-token _ _ _ _ _ _ c.piece_holds.ensures c.if-not-piece_holds.false c.cell-what.ensures c.in-1.is c.cell-a.ensures c.cell.ensures)
 
 pub piece-returns-in-2 : goal.piece-returns-in-2
-piece-returns-in-2 t c = writes_as c.child.ensures (piece-child _ _ _ _ _ _ c.piece_holds.ensures (not-false _ c.if-not-piece_holds.false-raw) c.cell-what.ensures c.in-2.is c.cell-a.ensures)
+piece-returns-in-2 t c = writes_as c.child.ensures (piece-child _ _ _ _ _ _ c.piece_holds.ensures c.if-not-piece_holds.false c.cell-what.ensures c.in-2.is c.cell-a.ensures)
 
 pub piece-returns-in-3 : goal.piece-returns-in-3
-piece-returns-in-3 t c = writes_as c.behind.ensures (piece-ops _ _ _ _ _ _ c.piece_holds.ensures (not-false _ c.if-not-piece_holds.false-raw) c.cell-what.ensures c.in-3.is c.cell-in-3.ensures)
+piece-returns-in-3 t c = writes_as c.behind.ensures (piece-ops _ _ _ _ _ _ c.piece_holds.ensures c.if-not-piece_holds.false c.cell-what.ensures c.in-3.is c.cell-in-3.ensures)
 
 pub piece-returns-in-4 : goal.piece-returns-in-4
-piece-returns-in-4 t c = writes_as c.behind-in-4.ensures (piece-list _ _ _ _ _ _ c.piece_holds.ensures (not-false _ c.if-not-piece_holds.false-raw) c.cell-what.ensures c.in-4.is c.cell-in-4.ensures)
+piece-returns-in-4 t c = writes_as c.behind-in-4.ensures (piece-list _ _ _ _ _ _ c.piece_holds.ensures c.if-not-piece_holds.false c.cell-what.ensures c.in-4.is c.cell-in-4.ensures)
 
 pub piece-returns-in-5 : goal.piece-returns-in-5
-piece-returns-in-5 t c = writes_as c.behind-in-5.ensures (piece-members _ _ _ _ _ _ c.piece_holds.ensures (not-false _ c.if-not-piece_holds.false-raw) c.cell-what.ensures c.in-5.is c.cell-in-5.ensures)
+piece-returns-in-5 t c = writes_as c.behind-in-5.ensures (piece-members _ _ _ _ _ _ c.piece_holds.ensures c.if-not-piece_holds.false c.cell-what.ensures c.in-5.is c.cell-in-5.ensures)
 
 pub piece-returns-in-6 : goal.piece-returns-in-6
-piece-returns-in-6 t c = writes_as c.template.ensures (template_of_lem _ _ _ (ap (λ (m : ℕ). eqb m (mark "Oc")) c.mark_at.ensures.0) c.count_at.ensures.0 c.body_at.ensures ∙ (piece-template _ _ _ _ _ _ c.piece_holds.ensures (not-false _ c.if-not-piece_holds.false-raw) c.cell-what.ensures c.in-6.is))
+piece-returns-in-6 t c = writes_as c.template.ensures (template_of_lem _ _ _ (ap (λ (m : ℕ). eqb m (mark "Oc")) c.mark_at.ensures.0) c.count_at.ensures.0 c.body_at.ensures ∙ (piece-template _ _ _ _ _ _ c.piece_holds.ensures c.if-not-piece_holds.false c.cell-what.ensures c.in-6.is))
 
 pub piece-returns-in-7 : goal.piece-returns-in-7
 unfolding head_at
-piece-returns-in-7 t c = writes_as c.put_token.ensures (piece-text _ _ _ _ _ _ c.piece_holds.ensures (not-false _ c.if-not-piece_holds.false-raw) c.cell-what.ensures c.in-7.is c.text_at.ensures)
+piece-returns-in-7 t c = writes_as c.put_token.ensures (piece-text _ _ _ _ _ _ c.piece_holds.ensures c.if-not-piece_holds.false c.cell-what.ensures c.in-7.is c.text_at.ensures)
 
 pub piece-returns-in-8 : goal.piece-returns-in-8
 unfolding head_at
-piece-returns-in-8 t c = writes_as c.put_symbol.ensures (piece-symbol _ _ _ _ _ _ c.piece_holds.ensures (not-false _ c.if-not-piece_holds.false-raw) c.cell-what.ensures c.in-8.is)
+piece-returns-in-8 t c = writes_as c.put_symbol.ensures (piece-symbol _ _ _ _ _ _ c.piece_holds.ensures c.if-not-piece_holds.false c.cell-what.ensures c.in-8.is)
 
 pub piece-returns-in-9 : goal.piece-returns-in-9
 unfolding head_at
-piece-returns-in-9 t c = writes_as c.put_string.ensures (piece_string _ _ _ _ _ _ c.piece_holds.ensures (not-false _ c.if-not-piece_holds.false-raw) c.cell-what.ensures c.in-9.is c.text_at-in-9.ensures)
+piece-returns-in-9 t c = writes_as c.put_string.ensures (piece_string _ _ _ _ _ _ c.piece_holds.ensures c.if-not-piece_holds.false c.cell-what.ensures c.in-9.is c.text_at-in-9.ensures)
 
 pub piece-returns-in-10 : goal.piece-returns-in-10
 unfolding head_at
-piece-returns-in-10 t c = writes_as c.number.ensures (piece-number _ _ _ _ _ _ c.piece_holds.ensures (not-false _ c.if-not-piece_holds.false-raw) c.cell-what.ensures c.in-10.is)
+piece-returns-in-10 t c = writes_as c.number.ensures (piece-number _ _ _ _ _ _ c.piece_holds.ensures c.if-not-piece_holds.false c.cell-what.ensures c.in-10.is)
 
 pub piece-returns-in_default : goal.piece-returns-in_default
 unfolding head_at
-piece-returns-in_default t c = writes_as c.put_integer.ensures (piece-integer _ _ _ _ _ _ c.piece_holds.ensures (not-false _ c.if-not-piece_holds.false-raw) c.cell-what.ensures c.in_default.in_default-own.rest.0.0.0.0.0.0.0.0.0.1 c.in_default.in_default-own.rest.0.0.0.0.0.0.0.0.1 c.in_default.in_default-own.rest.0.0.0.0.0.0.0.1 c.in_default.in_default-own.rest.0.0.0.0.0.0.1 c.in_default.in_default-own.rest.0.0.0.0.0.1 c.in_default.in_default-own.rest.0.0.0.0.1 c.in_default.in_default-own.rest.0.0.0.1 c.in_default.in_default-own.rest.0.0.1 c.in_default.in_default-own.rest.0.1 c.in_default.in_default-own.rest.1 c.text_at-in_default.ensures)
+piece-returns-in_default t c = writes_as c.put_integer.ensures (piece-integer _ _ _ _ _ _ c.piece_holds.ensures c.if-not-piece_holds.false c.cell-what.ensures c.in_default.in_default-own.rest.0.0.0.0.0.0.0.0.0.1 c.in_default.in_default-own.rest.0.0.0.0.0.0.0.0.1 c.in_default.in_default-own.rest.0.0.0.0.0.0.0.1 c.in_default.in_default-own.rest.0.0.0.0.0.0.1 c.in_default.in_default-own.rest.0.0.0.0.0.1 c.in_default.in_default-own.rest.0.0.0.0.1 c.in_default.in_default-own.rest.0.0.0.1 c.in_default.in_default-own.rest.0.0.1 c.in_default.in_default-own.rest.0.1 c.in_default.in_default-own.rest.1 c.text_at-in_default.ensures)
 
 pub piece-shape_of-out-in-1 : goal.piece-shape_of-out-in-1
 piece-shape_of-out-in-1 t c = writes-same (piece-returns-in-1 t c)

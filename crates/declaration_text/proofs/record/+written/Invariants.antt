@@ -1,18 +1,7 @@
 -- The cycle of `write`: each member meets its contract, and the levels that are left fall.
-use Prim.Native.Nat.{ℕ, ◌+◌, ◌*◌, suc}
-use native.Mathlib.Omega.{arith}
-use mathlib.Core.Path.{ap, ◌∙◌, sym}
-use lib.Dec.{eqb}
-use Rattle.definition.specs.Grammar.{mark}
-use Rattle.records.proofs.Accepted.{room, level, fits, lies}
-use Rattle.definition.proofs.Kids.{rest-accepted, all_others}
-use Rattle.text_tokens.proofs.Writes.{writes_as, writes-same, writes_then}
+use Prim.Native.Nat.{◌+◌, ◌*◌}
 use Rattle.declaration_text.specs.Table.{each_by}
-use Rattle.declaration_text.proofs.Written.{writes_nothing, none-behind, some-behind, braced-some, braced-none, braces_none, braces_some, no_child_lem, child-tokens, number-alone, number-spelt, piece-not, piece-token, piece-child, piece-ops, piece-list, piece-members, piece-template, piece-text, piece-symbol, piece_string, piece-number, piece-integer, template_of_lem, op-written, no_op, op_left_out, element-comma, element-last, no_member, member-closed, member-ends, member_follows, Telling, telling_start, telling_first, telling_turn, telling_done, Turning, turns_of, template-is, turning_start, turning_quasi, turning_expression, turning_turn, turning_done, Reading, reading-start, reading-turn, reading-end, reading-done, plain-token, name-token}
-use borrow.Author.Rules.{rules}
-use Rattle.declaration_text.proofs.Children.{kid-accepted}
-use borrow.Author.Tests.{not-true, not-false}
-use Rattle.definition.proofs.Children.{children, first_one}
+use Rattle.declaration_text.proofs.Written.{Telling, Turning, turns_of, Reading}
 use Rattle.definition.specs.Tree.{head_at, tree_at}
 use Rattle.definition.specs.Text.{each_of, tokens}
 use Rattle.declaration_text.specs.Steps.{children_at, children_of}

@@ -4,7 +4,6 @@ use mathlib.Core.List.{List, []}
 use Prim.Native.Nat.{ℕ}
 use lib.ListN.{get_or}
 use Rattle.declaration_text.proofs.RowsRead.{no_row}
-use borrow.Author.Rules.{rules}
 use Rattle.declaration_text.proofs.table.cell.Goals as goal
 
 pub returns-then-row-ge-KNOWN : goal.returns-then-row-ge-KNOWN

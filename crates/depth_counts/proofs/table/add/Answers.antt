@@ -1,6 +1,5 @@
 -- `depth_counts::table::add` meets its contract.
 use mathlib.Core.Path.{refl}
-use borrow.Author.Rules.{rules}
 use Rattle.depth_counts.proofs.Cells.{added}
 use Rattle.depth_counts.proofs.table.add.Goals as goal
 

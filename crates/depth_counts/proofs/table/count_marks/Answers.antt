@@ -1,7 +1,7 @@
 -- `depth_counts::table::count_marks` meets its contract: the diagnostics before p are counted.
 use mathlib.Core.Path.{◌∙◌}
 use native.Mathlib.Omega.{arith}
-use Rattle.depth_counts.proofs.Cells.{Marking, marking_start, marking_mark, marking_turn, marking_done}
+use Rattle.depth_counts.proofs.Cells.{marking_start, marking_mark, marking_turn, marking_done}
 use Rattle.depth_counts.proofs.table.count_marks.Goals as goal
 
 pub loop-k-init : goal.loop-k-init

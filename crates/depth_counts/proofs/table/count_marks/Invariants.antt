@@ -1,7 +1,5 @@
 -- `depth_counts::table::count_marks` meets its contract: the diagnostics before p are counted.
-use mathlib.Core.Path.{◌∙◌}
-use native.Mathlib.Omega.{arith}
-use Rattle.depth_counts.proofs.Cells.{Marking, marking_start, marking_mark, marking_turn, marking_done}
+use Rattle.depth_counts.proofs.Cells.{Marking}
 use Rattle.depth_counts.proofs.table.count_marks.Given as goal
 
 abbrev pub invariant-loop-k : goal.invariant-loop-k

@@ -1,10 +1,8 @@
 -- `depth_counts::table::in_one` meets its contract: the counts below i are copied.
 use mathlib.Core.Path.{refl}
-use Prim.Native.Nat.{◌-◌, ◌/◌, ◌%◌}
+use Prim.Native.Nat.{◌/◌, ◌%◌}
 use native.Mathlib.Omega.{arith}
-use borrow.Author.Rules.{rules}
-use Rattle.depth_counts.specs.Tables.{Shape}
-use Rattle.depth_counts.proofs.Rows.{cell_most, Copying, copying_turn, copying_done}
+use Rattle.depth_counts.proofs.Rows.{cell_most, copying_turn, copying_done}
 use Rattle.depth_counts.proofs.table.in_one.Goals as goal
 
 pub loop-i-init : goal.loop-i-init

@@ -1,10 +1,7 @@
 -- `depth_counts::table::in_one` meets its contract: the counts below i are copied.
-use mathlib.Core.Path.{refl}
-use Prim.Native.Nat.{◌-◌, ◌/◌, ◌%◌}
-use native.Mathlib.Omega.{arith}
-use borrow.Author.Rules.{rules}
+use Prim.Native.Nat.{◌-◌}
 use Rattle.depth_counts.specs.Tables.{Shape}
-use Rattle.depth_counts.proofs.Rows.{cell_most, Copying, copying_turn, copying_done}
+use Rattle.depth_counts.proofs.Rows.{Copying}
 use Rattle.depth_counts.proofs.table.in_one.Given as goal
 
 abbrev pub invariant-loop-i : goal.invariant-loop-i

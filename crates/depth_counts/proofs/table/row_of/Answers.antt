@@ -1,6 +1,5 @@
 -- `depth_counts::table::row_of` meets its contract.
 use native.Mathlib.Omega.{arith}
-use borrow.Author.Rules.{rules}
 use Rattle.depth_counts.proofs.Cells.{last_row}
 use Rattle.depth_counts.proofs.table.row_of.Goals as goal
 

@@ -1,12 +1,9 @@
 -- `depth_counts::table::row_total` meets its contract: what is summed and what is left are the whole.
 use mathlib.Core.Path.{◌≡◌}
 use Prim.Native.Nat.{◌+◌, ◌-◌, ◌≤◌}
-use native.Mathlib.Omega.{arith}
-use borrow.Author.Rules.{rules}
 use lib.ListN.{drop}
 use Rattle.definition.specs.Depths as Depths
 use Rattle.definition.specs.Depths.{columns}
-use Rattle.depth_counts.proofs.Cells.{sum_more, sum-none}
 use Rattle.depth_counts.proofs.table.row_total.Given as goal
 
 abbrev pub invariant-loop-depth : goal.invariant-loop-depth

@@ -1,12 +1,9 @@
 -- `depth_counts::table::total` meets its contract: what is summed and what is left are the whole.
 use mathlib.Core.Path.{◌≡◌}
 use Prim.Native.Nat.{◌+◌, ◌-◌, ◌≤◌}
-use native.Mathlib.Omega.{arith}
-use borrow.Author.Rules.{rules}
 use lib.ListN.{drop}
 use Rattle.definition.specs.Depths as Depths
 use Rattle.depth_counts.specs.Tables.{rows}
-use Rattle.depth_counts.proofs.Cells.{total-more, total-none}
 use Rattle.depth_counts.proofs.table.total.Given as goal
 
 abbrev pub invariant-loop-row : goal.invariant-loop-row

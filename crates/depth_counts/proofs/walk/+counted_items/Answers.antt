@@ -4,15 +4,13 @@
 -- ---- one after the other
 use mathlib.Core.Path.{◌≡◌, refl, subst}
 use mathlib.Core.List.{List}
-use Prim.Native.Nat.{ℕ, suc, ◌*◌, ◌-◌, ◌<◌}
+use Prim.Native.Nat.{ℕ, ◌-◌}
 use native.Mathlib.Omega.{arith}
-use borrow.Author.Rules.{rules}
 use Rattle.records.proofs.Accepted.{room, lies, level}
 use Rattle.definition.specs.Tree.{tree_at}
 use Rattle.depth_counts.specs.declared.walk.Space.{Space}
 use Rattle.depth_counts.specs.Walks.{FoundItem}
-use Rattle.depth_counts.proofs.Walking.{plain-holds, plain-counts, empty_counts, block_ready, block-deep, block-holds, block-counts, Walking, walking_start, walking_first, walking_holds, walking_turn, walking_done, placed_of_all}
-use Rattle.items.specs.Steps.{records_at, items_of}
+use Rattle.depth_counts.proofs.Walking.{plain-holds, plain-counts, empty_counts, block_ready, block-deep, block-holds, block-counts, walking_start, walking_first, walking_holds, walking_turn, walking_done}
 use Rattle.depth_counts.proofs.walk.+counted_items.Goals as goal
 
 found : (levels : ℕ) (tree : List ℕ) (at : ℕ) {f g : Space} → f ≡ g → FoundItem (levels - 1) tree at (tree_at levels tree at) f → FoundItem (levels - 1) tree at (tree_at levels tree at) g

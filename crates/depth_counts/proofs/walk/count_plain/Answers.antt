@@ -3,7 +3,6 @@ use mathlib.Core.Path.{refl}
 use native.Mathlib.Omega.{arith}
 use Rattle.definition.proofs.MarkedItems.{item-kinds}
 use Rattle.depth_counts.proofs.Walking.{dry_asked, dry_done}
-use borrow.Author.Rules.{rules}
 use Rattle.depth_counts.proofs.walk.count_plain.Goals as goal
 
 pub count_marks-requires : goal.count_marks-requires

@@ -1,8 +1,7 @@
 -- `grammar::overloads::list_fine` meets its contract: the entries before i are in order.
 use mathlib.Core.Path.{sym, ◌∙◌}
-use Prim.Native.Nat.{◌-◌}
 use native.Mathlib.Omega.{arith}
-use Rattle.grammar.proofs.Entries.{Passed, list-long, list-parts, passed_start, wrong_mark, backward, passed-turn, passed-all}
+use Rattle.grammar.proofs.Entries.{list-long, list-parts, passed_start, wrong_mark, backward, passed-turn, passed-all}
 use Rattle.grammar.proofs.overloads.list_fine.Goals as goal
 
 pub returns-then-list-gt-LONGEST_LIST : goal.returns-then-list-gt-LONGEST_LIST

@@ -1,18 +1,9 @@
 -- The proof of the cycle of calls {check_all}: the measure is what is left of the levels, and the loop's invariant that the records before the next
 -- one are accepted.
 -- what the callees ask and give, at the measure t
-use mathlib.Core.Path.{◌≡◌, refl, sym, ap, ◌∙◌, subst}
-use mathlib.Core.Logic.{⊎_elim}
-use Prim.Native.Nat.{ℕ, ◌<◌}
-use native.Mathlib.Omega.{arith}
-use borrow.Author.Rules.{rules}
-use Rattle.definition.specs.Tree.{mark_at}
-use Rattle.definition.specs.Grammar.{after}
 use Rattle.definition.specs.Check.{check_all, check_at}
 use Rattle.grammar.specs.Slots.{parts_from}
-use Rattle.grammar.specs.Answers.{Before, opening, checked}
-use Rattle.grammar.specs.declared.record.Opening.{Opening}
-use Rattle.grammar.proofs.Children.{body-inside, Passed, passed-all, no_level, stopped-here, passed-turn, passed-leaf, passed-refused}
+use Rattle.grammar.proofs.Children.{Passed}
 use Rattle.grammar.proofs.record.+check_all.Given as goal
 
 abbrev pub decreases-check_all : goal.decreases-check_all

@@ -1,6 +1,5 @@
 -- `grammar::record::check_record` meets its contract: one record is a row of one.
 use mathlib.Core.Path.{◌∙◌}
-use borrow.Author.Rules.{rules}
 use Rattle.grammar.proofs.Children.{check_alone}
 use Rattle.grammar.proofs.record.check_record.Goals as goal
 

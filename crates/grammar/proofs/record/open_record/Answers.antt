@@ -2,7 +2,6 @@
 use mathlib.Core.Path.{sym, ◌∙◌}
 use native.Mathlib.Omega.{arith}
 use borrow.Author.Tests.{leb-true, leb-false, not-true, not-false}
-use borrow.Author.Rules.{rules}
 use Rattle.grammar.specs.Slots.{parts_from}
 use Rattle.grammar.proofs.Openings.{cut_head, unknown_mark, slots-after, wrong_slot, backward, head_fine}
 use Rattle.grammar.proofs.record.open_record.Goals as goal

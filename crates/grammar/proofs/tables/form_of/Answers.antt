@@ -1,5 +1,4 @@
 -- `grammar::tables::form_of` meets its contract.
-use borrow.Author.Rules.{rules}
 use Rattle.grammar.proofs.Lookups.{no_form}
 use Rattle.grammar.proofs.tables.form_of.Goals as goal
 

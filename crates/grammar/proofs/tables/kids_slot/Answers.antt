@@ -1,7 +1,6 @@
 -- `grammar::tables::kids_slot` meets its contract.
 use mathlib.Core.Path.{◌∙◌}
 use borrow.Author.Tests.{eq-eqb, ne_eqb}
-use borrow.Author.Rules.{rules}
 use Rattle.definition.specs.Grammar.{is_property}
 use Rattle.grammar.specs.Slots.{parts_from}
 use Rattle.grammar.proofs.Places.{property-yes, property_no, either_way, undestructured-is}

@@ -1,6 +1,5 @@
 -- `grammar::tables::least_of` meets its contract.
 use mathlib.Core.Path.{◌∙◌}
-use borrow.Author.Rules.{rules}
 use Rattle.grammar.proofs.Lookups.{no_least}
 use Rattle.grammar.proofs.tables.least_of.Goals as goal
 

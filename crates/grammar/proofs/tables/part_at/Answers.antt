@@ -4,7 +4,6 @@ use mathlib.Core.List.{List}
 use Prim.Native.Nat.{ℕ}
 use native.Mathlib.Omega.{arith}
 use lib.ListN.{get_or, get_or-eq_default}
-use borrow.Author.Rules.{rules}
 use Rattle.grammar.specs.Printed.{parts_table}
 use Rattle.grammar.proofs.Places.{parts-long}
 use Rattle.grammar.proofs.tables.part_at.Goals as goal

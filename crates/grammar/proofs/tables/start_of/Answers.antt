@@ -1,5 +1,4 @@
 -- `grammar::tables::start_of` meets its contract.
-use borrow.Author.Rules.{rules}
 use Rattle.grammar.proofs.Lookups.{no_start}
 use Rattle.grammar.proofs.tables.start_of.Goals as goal
 

@@ -1,13 +1,10 @@
 -- `grammar::tables::take_slot` meets its contract: what is allowed from the place i on, and what comes after it, is so from k on.
-use mathlib.Core.Path.{◌≡◌, refl, sym, ◌∙◌}
+use mathlib.Core.Path.{◌≡◌}
 use Prim.Native.Nat.{◌-◌}
-use native.Mathlib.Omega.{arith}
 use lib.ListN.{get_or}
-use borrow.Author.Rules.{rules}
 use Rattle.definition.specs.Grammar.{known, allowed, after}
 use Rattle.grammar.specs.Slots.{parts_from}
 use Rattle.grammar.proofs.Printed.{places}
-use Rattle.grammar.proofs.Places.{ allowed-end, after-end, allowed-one, after_one, allowed-property, after-property, allowed_in, after_in, allowed-out, after-out, allowed-none, after_none, }
 use Rattle.grammar.proofs.tables.take_slot.Given as goal
 
 abbrev pub invariant-loop-i : goal.invariant-loop-i

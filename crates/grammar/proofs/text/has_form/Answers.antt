@@ -1,7 +1,6 @@
 -- `grammar::text::has_form` meets its contract, form by form.
 use mathlib.Core.Path.{sym, ◌∙◌}
 use mathlib.Core.Bool.{true, false}
-use borrow.Author.Rules.{rules}
 use Rattle.definition.specs.Check.{has_form}
 use Rattle.grammar.specs.Slots.{form_at}
 use Rattle.grammar.proofs.Forms.{form_empty, cooked-told}

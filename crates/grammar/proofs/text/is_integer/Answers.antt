@@ -1,11 +1,9 @@
 -- `grammar::text::is_integer` meets its contract: the digits before i are in order.
 use mathlib.Core.Path.{sym}
-use Prim.Native.Nat.{◌-◌}
 use native.Mathlib.Omega.{arith}
-use lib.ListN.{length}
 use borrow.Author.Tests.{eq-eqb, ne_eqb, lt-ltb, le-ltb}
 use Rattle.definition.specs.Check.{is_integer}
-use Rattle.grammar.proofs.Forms.{Digits, digits-start, digits_low, digits-high, digits-turn, digits-done}
+use Rattle.grammar.proofs.Forms.{digits-start, digits_low, digits-high, digits-turn, digits-done}
 use Rattle.grammar.proofs.text.is_integer.Goals as goal
 
 pub returns-then-t-lt2 : goal.returns-then-t-lt2

@@ -4,7 +4,6 @@ use Rattle.definition.specs.Classes.{class}
 use Rattle.parts.proofs.Framing.{second-place, ready_second, makes-second}
 use Rattle.classes.specs.Typings.{typing_of}
 use Rattle.items.proofs.Declarations.{class-two, class_cl}
-use borrow.Author.Rules.{rules}
 use Rattle.items.proofs.decls.with_class.Goals as goal
 
 pub begin_with-ident-requires : goal.begin_with-ident-requires

@@ -1,6 +1,5 @@
 -- `with_declarators` meets its contract.
 use Rattle.items.proofs.Declarations.{declarators_made, begun_ready}
-use borrow.Author.Rules.{rules}
 use Rattle.items.proofs.decls.with_declarators.Goals as goal
 
 pub begin_with-first-requires : goal.begin_with-first-requires

@@ -7,7 +7,6 @@ use Rattle.definition.proofs.Kids.{has}
 use Rattle.parts.proofs.Framing.{second-place, ready_second, makes-second}
 use Rattle.classes.specs.Typings.{typing_of}
 use Rattle.items.proofs.Declarations.{fd_fu}
-use borrow.Author.Rules.{rules}
 use Rattle.items.proofs.decls.with_function.Goals as goal
 
 pub begin_with-ident-requires : goal.begin_with-ident-requires

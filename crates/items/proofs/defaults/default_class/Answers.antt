@@ -7,7 +7,6 @@ use Rattle.definition.proofs.Children.{itself}
 use Rattle.definition.proofs.Kids.{has}
 use Rattle.parts.proofs.Framing.{begun_first, ready_first}
 use Rattle.items.proofs.Exports.{xd_kids, mark-there, default_class}
-use borrow.Author.Rules.{rules}
 use Rattle.items.proofs.defaults.default_class.Goals as goal
 
 pub begin-class-requires : goal.begin-class-requires

@@ -4,7 +4,6 @@ use native.Mathlib.Omega.{arith}
 use Rattle.definition.proofs.Children.{itself}
 use Rattle.items.proofs.Inits.{told, told-not}
 use Rattle.items.proofs.Exports.{xd_kids, mark_at_body, default-gone, default-bare, default-other}
-use borrow.Author.Rules.{rules}
 use Rattle.items.proofs.defaults.export_default_decl.Goals as goal
 
 pub body_at-requires : goal.body_at-requires

@@ -5,7 +5,6 @@ use Rattle.definition.proofs.Children.{itself, some_left}
 use Rattle.swc_helpers.proofs.Made.{is_whole}
 use Rattle.items.proofs.Inits.{told, told-not}
 use Rattle.items.proofs.Exports.{xe-kids, second-there, expr_ready, expr_name, expr_typed, expr_untyped}
-use borrow.Author.Rules.{rules}
 use Rattle.items.proofs.defaults.export_default_expr.Goals as goal
 
 pub body_at-expr-requires : goal.body_at-expr-requires

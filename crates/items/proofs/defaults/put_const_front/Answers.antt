@@ -1,7 +1,6 @@
 -- `put_const_front` meets its contract.
 use native.Mathlib.Omega.{arith}
 use Rattle.swc_helpers.proofs.Made.{put-put}
-use borrow.Author.Rules.{rules}
 use Rattle.items.proofs.defaults.put_const_front.Goals as goal
 
 pub returns : goal.returns

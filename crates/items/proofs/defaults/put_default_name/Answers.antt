@@ -5,7 +5,6 @@ use Rattle.definition.specs.Grammar.{mark}
 use Rattle.definition.proofs.Children.{itself, some_left}
 use Rattle.parts.proofs.Kept.{count-as, others-as}
 use Rattle.items.proofs.Exports.{name-kids, name-written}
-use borrow.Author.Rules.{rules}
 use Rattle.items.proofs.defaults.put_default_name.Goals as goal
 
 pub read_head-head-requires : goal.read_head-head-requires

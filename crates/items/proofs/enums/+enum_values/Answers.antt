@@ -47,14 +47,11 @@
 -- src/enums.rt:96:1
 use mathlib.Core.Path.{refl, sym}
 use native.Mathlib.Omega.{arith}
-use Rattle.definition.specs.Tree.{tree_at}
-use Rattle.definition.specs.Record.{kids_of}
 use Rattle.definition.specs.Enums.{valid_all}
 use Rattle.definition.proofs.Children.{itself, some_left}
-use Rattle.definition.proofs.Walk.{Left, left-kids, left-first, left-done, all-turn, all-stop}
+use Rattle.definition.proofs.Walk.{left-kids, left-first, left-done, all-turn, all-stop}
 use Rattle.swc_helpers.proofs.Made.{is_whole}
 use Rattle.items.proofs.Inits.{told, told-either, told-any, told-not, bn_first, bn_second, bn_false, bn_true, over_first, over-is, oc_first, oc_false, oc_is, typed-first, typed-second, typed-is, always, template-is, never, valid_part, part_other, part_expr}
-use Prim.Native.Nat.{ℕ, ◌+◌, ◌-◌, ◌*◌, ◌<◌}
 use Rattle.items.proofs.enums.+enum_values.Goals as goal
 
 pub valid_enum_init_expr-mark_at-requires : goal.valid_enum_init_expr-mark_at-requires

@@ -3,7 +3,6 @@ use Rattle.definition.proofs.Children.{itself}
 use Rattle.typing.proofs.Written.{puts-as}
 use Rattle.parts.proofs.Kept.{absent-put}
 use Rattle.items.proofs.Inits.{told, told-not, init-none, init-kept, init-gone}
-use borrow.Author.Rules.{rules}
 use Rattle.items.proofs.enums.enum_init.Goals as goal
 
 pub mark_at-requires : goal.mark_at-requires

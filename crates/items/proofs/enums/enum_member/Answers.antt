@@ -9,7 +9,6 @@ use Rattle.typing.proofs.Written.{puts-as}
 use Rattle.parts.proofs.Kept.{puts-length}
 use Rattle.parts.proofs.Framing.{passed_first, keeps-second}
 use Rattle.items.proofs.Inits.{told, told-not, member-other, member_is}
-use borrow.Author.Rules.{rules}
 use Rattle.items.proofs.enums.enum_member.Goals as goal
 
 pub mark_at-requires : goal.mark_at-requires

@@ -5,9 +5,8 @@ use Rattle.definition.specs.Record.{each}
 use Rattle.definition.proofs.Walk.{left-first}
 use Rattle.swc_helpers.proofs.Made.{is_whole}
 use Rattle.typing.proofs.Written.{puts-counter}
-use Rattle.parts.proofs.Kept.{puts-length, Keeping, keeping_start, keeping_turn, keeping_done}
-use Rattle.items.specs.Steps.{records_at}
-use Rattle.items.proofs.Inits.{members_of, members-cons}
+use Rattle.parts.proofs.Kept.{puts-length, keeping_start, keeping_turn, keeping_done}
+use Rattle.items.proofs.Inits.{members-cons}
 use Rattle.items.proofs.enums.enum_members.Goals as goal
 
 pub loop-k-init : goal.loop-k-init

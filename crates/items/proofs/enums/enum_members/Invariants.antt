@@ -1,13 +1,7 @@
 -- `enum_members` meets its contract.
-use mathlib.Core.Path.{refl}
-use native.Mathlib.Omega.{arith}
-use Rattle.definition.specs.Record.{each}
-use Rattle.definition.proofs.Walk.{left-first}
-use Rattle.swc_helpers.proofs.Made.{is_whole}
-use Rattle.typing.proofs.Written.{puts-counter}
-use Rattle.parts.proofs.Kept.{puts-length, Keeping, keeping_start, keeping_turn, keeping_done}
+use Rattle.parts.proofs.Kept.{Keeping}
 use Rattle.items.specs.Steps.{records_at}
-use Rattle.items.proofs.Inits.{members_of, members-cons}
+use Rattle.items.proofs.Inits.{members_of}
 use Rattle.items.proofs.enums.enum_members.Given as goal
 
 abbrev pub invariant-loop-k : goal.invariant-loop-k

@@ -7,7 +7,6 @@ use Rattle.typing.proofs.Ready.{ready_on}
 use Rattle.typing.proofs.Written.{puts-counter}
 use Rattle.items.proofs.Inits.{told, told-not}
 use Rattle.items.proofs.Declarators.{declarator-other, declarator-made}
-use borrow.Author.Rules.{rules}
 use Rattle.items.proofs.vars.declarator.Goals as goal
 
 pub mark_at-requires : goal.mark_at-requires

@@ -9,7 +9,6 @@ use Rattle.typing.proofs.Written.{puts-counter}
 use Rattle.parts.proofs.Framing.{passed_first}
 use Rattle.items.proofs.Inits.{told, told-not}
 use Rattle.items.proofs.Declarators.{binding_kept, binding_typed}
-use borrow.Author.Rules.{rules}
 use Rattle.items.proofs.vars.declarator_ident.Goals as goal
 
 pub begin-ident-requires : goal.begin-ident-requires

@@ -6,7 +6,6 @@ use Rattle.swc_helpers.proofs.Made.{is_whole}
 use Rattle.parts.proofs.Ready.{ready_kid}
 use Rattle.items.proofs.Inits.{told, told-not}
 use Rattle.items.proofs.Declarators.{vr-kids, pattern-other, pattern-ident}
-use borrow.Author.Rules.{rules}
 use Rattle.items.proofs.vars.declarator_pattern.Goals as goal
 
 pub body_at-pattern-requires : goal.body_at-pattern-requires

@@ -3,7 +3,6 @@ use native.Mathlib.Omega.{arith}
 use Rattle.definition.proofs.Children.{itself}
 use Rattle.items.proofs.Inits.{told, told-not}
 use Rattle.items.proofs.Declarators.{type-any, type-init}
-use borrow.Author.Rules.{rules}
 use Rattle.items.proofs.vars.declarator_type.Goals as goal
 
 pub mark_at-requires : goal.mark_at-requires

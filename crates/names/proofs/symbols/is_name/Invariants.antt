@@ -1,13 +1,10 @@
 -- `names::symbols::is_name` meets its contract: up to the place i the text and the name, of one length, are equal.
-use mathlib.Core.Path.{◌≡◌, refl, sym, ◌∙◌}
+use mathlib.Core.Path.{◌≡◌}
 use mathlib.Core.List.{[]}
 use Prim.Native.Nat.{◌-◌, ◌≤◌}
-use native.Mathlib.Omega.{arith}
-use borrow.Author.Rules.{rules}
 use lib.ListN.{length, get_or, drop}
 use Rattle.definition.specs.Record.{same_text}
 use Rattle.definition.specs.Names.{well_known_symbol_names}
-use Rattle.records.proofs.Texts.{same-longer, same-on, same_off, same_end}
 use Rattle.names.proofs.symbols.is_name.Given as goal
 
 abbrev pub invariant-loop-i : goal.invariant-loop-i

@@ -1,10 +1,7 @@
 -- `names::symbols::is_well_known` meets its contract: none of the names before k is the symbol.
 use mathlib.Core.Path.{◌≡◌, refl, sym, ◌∙◌}
-use Prim.Native.Nat.{◌-◌, ◌≤◌}
 use native.Mathlib.Omega.{arith}
-use borrow.Author.Rules.{rules}
-use lib.ListN.{drop}
-use Rattle.definition.specs.Names.{well_known_symbol_names, any_text}
+use Rattle.definition.specs.Names.{well_known_symbol_names}
 use Rattle.names.proofs.Table.{names-long, any_here, any_next, any-end}
 use Rattle.names.proofs.symbols.is_well_known.Goals as goal
 

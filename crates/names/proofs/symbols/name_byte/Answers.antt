@@ -1,6 +1,5 @@
 -- `names::symbols::name_byte` meets its contract: the constant is the definition's table.
 use Rattle.names.proofs.Table.{padded, byte_is, byte_past, byte_none}
-use borrow.Author.Rules.{rules}
 use Rattle.names.proofs.symbols.name_byte.Goals as goal
 
 pub returns-then-k-ge-COUNT : goal.returns-then-k-ge-COUNT

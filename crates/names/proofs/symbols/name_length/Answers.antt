@@ -4,7 +4,6 @@ use Rattle.definition.specs.Names.{well_known_symbol_names}
 use lib.ListN.{length, get_or-eq_default}
 use native.Mathlib.Omega.{arith}
 use mathlib.Core.Path.{sym, ap}
-use borrow.Author.Rules.{rules}
 use Rattle.names.proofs.symbols.name_length.Goals as goal
 
 pub returns-then-k-lt-COUNT : goal.returns-then-k-lt-COUNT

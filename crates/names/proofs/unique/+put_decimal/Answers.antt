@@ -1,7 +1,6 @@
 -- `names::unique::put_decimal` meets its contract: the last digit stands behind the others. The measure is the number.
-use Prim.Native.Nat.{ℕ, ◌<◌, ◌%◌}
+use Prim.Native.Nat.{◌%◌}
 use native.Mathlib.Omega.{arith}
-use borrow.Author.Rules.{rules}
 use Rattle.definition.specs.Names.{digit}
 use Rattle.records.proofs.Puts.{put_byte, put-put}
 use Rattle.names.proofs.Decimals.{decimal-one, decimal-more}

@@ -1,6 +1,6 @@
 -- `names::unique::decimal_length` meets its contract: each turn counts one digit.
 use native.Mathlib.Omega.{arith}
-use Rattle.names.proofs.Decimals.{at_most_twenty, Counted, count-start, count_turn, count-done}
+use Rattle.names.proofs.Decimals.{at_most_twenty, count-start, count_turn, count-done}
 use Rattle.names.proofs.unique.decimal_length.Goals as goal
 
 pub loop-rest-init : goal.loop-rest-init
@@ -16,5 +16,6 @@ pub loop-rest-preserved : goal.loop-rest-preserved
 loop-rest-preserved c = count_turn c.args.n c.loop-rest.rest c.loop-rest.digits c.loop-rest.invariant c.loop-rest-test.true
 
 pub returns : goal.returns
-returns c = let e = count-done c.args.n c.loop-rest.rest c.loop-rest.digits c.loop-rest.invariant c.loop-rest-test.false in
+returns c =
+    let e = count-done c.args.n c.loop-rest.rest c.loop-rest.digits c.loop-rest.invariant c.loop-rest-test.false in
     (e, omega (arith, e, at_most_twenty c.args.n c.ranges.n.fits))

@@ -1,7 +1,6 @@
 -- `unique::put_unique_ident` meets its contract.
 use native.Mathlib.Omega.{arith}
 use Rattle.records.proofs.Puts.{ident-put}
-use borrow.Author.Rules.{rules}
 use Rattle.names.proofs.unique.put_unique_ident.Goals as goal
 
 pub returns : goal.returns

@@ -2,7 +2,6 @@
 use native.Mathlib.Omega.{arith}
 use Rattle.definition.specs.Names.{gen_unique_name}
 use Rattle.records.proofs.Puts.{put-put}
-use borrow.Author.Rules.{rules}
 use Rattle.names.proofs.unique.put_unique_name.Goals as goal
 
 pub returns : goal.returns

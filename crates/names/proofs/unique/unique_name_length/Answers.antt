@@ -1,7 +1,6 @@
 -- `names::unique::unique_name_length` meets its contract.
 use native.Mathlib.Omega.{arith}
 use Rattle.names.proofs.Decimals.{length_unique}
-use borrow.Author.Rules.{rules}
 use Rattle.names.proofs.unique.unique_name_length.Goals as goal
 
 pub overflow_add-result : goal.overflow_add-result

@@ -1,7 +1,6 @@
 -- `begin` meets its contract.
 use Rattle.definition.proofs.Children.{itself}
 use Rattle.parts.proofs.Framing.{begun-same}
-use borrow.Author.Rules.{rules}
 use Rattle.parts.proofs.frame.begin.Goals as goal
 
 pub read_head-head-requires : goal.read_head-head-requires

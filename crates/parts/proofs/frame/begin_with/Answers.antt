@@ -2,7 +2,6 @@
 use native.Mathlib.Omega.{arith}
 use Rattle.definition.proofs.Children.{itself, some_left}
 use Rattle.parts.proofs.Framing.{begun}
-use borrow.Author.Rules.{rules}
 use Rattle.parts.proofs.frame.begin_with.Goals as goal
 
 pub read_head-head-requires : goal.read_head-head-requires

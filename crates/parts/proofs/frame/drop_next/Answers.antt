@@ -1,6 +1,5 @@
 -- `drop_next` meets its contract.
 use Rattle.parts.proofs.Framing.{first_of, kept_by}
-use borrow.Author.Rules.{rules}
 use Rattle.parts.proofs.frame.drop_next.Goals as goal
 
 pub put_gone-next-requires : goal.put_gone-next-requires

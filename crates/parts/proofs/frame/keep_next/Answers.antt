@@ -1,6 +1,5 @@
 -- `keep_next` meets its contract.
 use Rattle.parts.proofs.Framing.{first_of, kept_by}
-use borrow.Author.Rules.{rules}
 use Rattle.parts.proofs.frame.keep_next.Goals as goal
 
 pub keep-next-requires : goal.keep-next-requires

@@ -21,5 +21,6 @@ pub slice_bounds-result-start : goal.slice_bounds-result-start
 slice_bounds-result-start c = omega (arith, long c)
 
 pub returns : goal.returns
-returns c = let t : List ℕ = c.text_at-text.result.now in
+returns c =
+    let t : List ℕ = c.text_at-text.result.now in
     take_all (length t - 4) (drop 4 t) (simp length-drop (omega arith)) ∙ ap (drop 4) c.text_at-text.ensures

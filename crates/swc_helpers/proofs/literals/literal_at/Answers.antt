@@ -1,5 +1,5 @@
 -- `literals::literal_at` meets its contract.
-use Rattle.std.proofs.Common.{ap, ◌∙◌, rules}
+use Rattle.std.proofs.Common.{ap, ◌∙◌}
 use Rattle.definition.specs.Grammar.{mark}
 use Rattle.definition.specs.Helpers.{lit_kind}
 use Rattle.definition.proofs.Children.{itself}

@@ -1,5 +1,4 @@
 -- `literals::negated` meets its contract.
-use Rattle.std.proofs.Common.{rules}
 use Rattle.swc_helpers.proofs.Sign.{negation_is_no_nan, turned-is}
 use Rattle.swc_helpers.proofs.literals.negated.Goals as goal
 

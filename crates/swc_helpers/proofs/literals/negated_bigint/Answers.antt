@@ -1,5 +1,5 @@
 -- `literals::negated_bigint` meets its contract.
-use Rattle.std.proofs.Common.{ℕ, List, length, get_or, ap, ◌∙◌, arith, rules}
+use Rattle.std.proofs.Common.{ℕ, List, length, get_or, ap, ◌∙◌, arith}
 use Rattle.records.specs.Fields.{span}
 use Rattle.swc_helpers.specs.Literal.{turned_sign}
 use Rattle.swc_helpers.proofs.Made.{put-put, put_as}
@@ -25,7 +25,8 @@ pub slice_bounds-put_text-start : goal.slice_bounds-put_text-start
 slice_bounds-put_text-start c = omega (arith, ap length c.text_at-text.ensures, integer-long _ _ _ c.requires.0 c.requires.1)
 
 pub returns : goal.returns
-returns c = let t = c.text_at-text.ensures in
+returns c =
+    let t = c.text_at-text.ensures in
     put_as
     (put-put (omega arith) c.put_respelled-q.ensures (put-put (omega arith) c.put_text-r.ensures (put_as c.put_text.ensures (rest-is _ _ t))))
     (negated_integer_lem _ _ _ c.requires.0 c.requires.1 (span c.args.range) _ (c.turned_sign.ensures ∙ ap (λ (x : List ℕ). turned_sign (get_or x 0 0) (get_or x 1 0)) t))

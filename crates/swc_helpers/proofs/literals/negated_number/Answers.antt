@@ -1,5 +1,5 @@
 -- `literals::negated_number` meets its contract.
-use Rattle.std.proofs.Common.{sym, ap, ◌∙◌, arith, rules}
+use Rattle.std.proofs.Common.{sym, ap, ◌∙◌, arith}
 use lib.Ieee.{binary64, of_bits}
 use Rattle.records.specs.Fields.{span}
 use Rattle.records.proofs.Whole.{slice_bytes}

@@ -1,5 +1,5 @@
 -- `literals::number_at` meets its contract.
-use Rattle.std.proofs.Common.{ap, ◌∙◌, rules}
+use Rattle.std.proofs.Common.{ap, ◌∙◌}
 use lib.Ieee.{binary64, of_bits}
 use Rattle.swc_helpers.proofs.Texts.{number_fits_lem, number_is}
 use Rattle.swc_helpers.proofs.literals.number_at.Goals as goal

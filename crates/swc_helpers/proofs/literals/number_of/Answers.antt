@@ -1,5 +1,4 @@
 -- `literals::number_of` meets its contract.
-use Rattle.std.proofs.Common.{rules}
 use Rattle.swc_helpers.proofs.Sign.{nan-read, no_nan}
 use Rattle.swc_helpers.proofs.literals.number_of.Goals as goal
 

@@ -1,5 +1,5 @@
 -- `literals::put_respelled` meets its contract.
-use Rattle.std.proofs.Common.{arith, rules}
+use Rattle.std.proofs.Common.{arith}
 use Rattle.swc_helpers.proofs.Made.{put-put, put_as}
 use Rattle.swc_helpers.proofs.Texts.{bare_head}
 use Rattle.swc_helpers.proofs.literals.put_respelled.Goals as goal

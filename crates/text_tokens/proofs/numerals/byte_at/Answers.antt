@@ -2,7 +2,6 @@
 use mathlib.Core.Path.{refl, sym}
 use native.Mathlib.Omega.{arith}
 use lib.ListN.{get_or-eq_default}
-use borrow.Author.Rules.{rules}
 use Rattle.text_tokens.proofs.numerals.byte_at.Goals as goal
 
 pub overflow_cast-result : goal.overflow_cast-result

@@ -1,7 +1,6 @@
 -- `text_tokens::numerals::halve` meets its contract. The loop's invariant: what is left to halve has the same halves. The measure is how often.
-use mathlib.Core.Path.{◌≡◌, refl, sym, ◌∙◌}
+use mathlib.Core.Path.{refl, sym, ◌∙◌}
 use native.Mathlib.Omega.{arith}
-use Rattle.definition.specs.Numerals.{halved}
 use Rattle.text_tokens.proofs.Wholes.{halve_odd, halve_even, halve_done}
 use Rattle.text_tokens.proofs.numerals.halve.Goals as goal
 

@@ -1,7 +1,6 @@
 -- `text_tokens::numerals::whole_of` meets its contract, by the cases of `whole_of`.
 use mathlib.Core.Path.{sym, ◌∙◌}
 use Rattle.text_tokens.proofs.Wholes.{whole-zero, whole-small, whole_large, whole-halved}
-use borrow.Author.Rules.{rules}
 use Rattle.text_tokens.proofs.numerals.whole_of.Goals as goal
 
 pub returns-then-bits-eq0 : goal.returns-then-bits-eq0

@@ -2,7 +2,6 @@
 use Rattle.records.proofs.Whole.{slice_bytes}
 use Rattle.transform_dts.proofs.Calls.{wrote-inside, wrote-length}
 use Rattle.transform_dts.proofs.SecondCall.{again-all, once-all}
-use borrow.Author.Rules.{rules}
 use Rattle.transform_dts.proofs.twice.transform_twice.Goals as goal
 
 pub slice_bounds-transform-end : goal.slice_bounds-transform-end

@@ -2,7 +2,6 @@
 use mathlib.Core.Path.{refl}
 use Rattle.typing.proofs.Maybe.{maybe_some, maybe_none}
 use Rattle.typing.proofs.Arms.{array_test}
-use borrow.Author.Rules.{rules}
 use Rattle.typing.proofs.leaves.array_ident.Goals as goal
 
 pub returns-then-look_up : goal.returns-then-look_up

@@ -8,7 +8,6 @@ use Rattle.definition.proofs.Kids.{placed}
 use Rattle.swc_helpers.proofs.Made.{is_whole, copied, put_as}
 use Rattle.typing.specs.Parts.{readonly_or_same}
 use Rattle.typing.proofs.Slots.{as_expr, as-type as as-type-of}
-use borrow.Author.Rules.{rules}
 use Rattle.typing.proofs.leaves.as_type.Goals as goal
 
 pub body_at-expr-requires : goal.body_at-expr-requires

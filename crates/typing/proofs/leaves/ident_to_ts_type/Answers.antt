@@ -4,7 +4,6 @@ use Rattle.definition.proofs.Kids.{id-text}
 use Rattle.swc_helpers.proofs.Answers.{as-type}
 use Rattle.typing.proofs.Maybe.{maybe_some, maybe_none}
 use Rattle.typing.proofs.Arms.{safe_test, ident-global, ident_safe, ident_unsafe}
-use borrow.Author.Rules.{rules}
 use Rattle.typing.proofs.leaves.ident_to_ts_type.Goals as goal
 
 pub context_at-requires : goal.context_at-requires

@@ -6,7 +6,6 @@ use Rattle.swc_helpers.proofs.Answers.{as-type}
 use Rattle.typing.proofs.Slots.{mi_expr}
 use Rattle.typing.proofs.Maybe.{maybe_some, maybe_none}
 use Rattle.typing.proofs.LeafArms.{leaf-lit, leaf_tpl, leaf-ident, leaf_unary, leaf-new, leaf-none}
-use borrow.Author.Rules.{rules}
 use Rattle.typing.proofs.leaves.leaf_type.Goals as goal
 
 pub mark_at-requires : goal.mark_at-requires

@@ -6,7 +6,6 @@ use Rattle.definition.proofs.Kids.{id-text}
 use Rattle.swc_helpers.proofs.Answers.{as-type}
 use Rattle.typing.proofs.Maybe.{maybe_none}
 use Rattle.typing.proofs.Arms.{name_test, number-nan, number_infinity, number-other}
-use borrow.Author.Rules.{rules}
 use Rattle.typing.proofs.leaves.number_name.Goals as goal
 
 pub symbol_at-name-requires : goal.symbol_at-name-requires

@@ -1,7 +1,6 @@
 -- `made::move_up` meets its contract.
 use native.Mathlib.Omega.{arith}
-use borrow.Author.Rules.{rules}
-use Rattle.typing.proofs.Shift.{Moving, moving_start, moving_turn, moving_done, moved_none}
+use Rattle.typing.proofs.Shift.{moving_start, moving_turn, moving_done, moved_none}
 use Rattle.typing.proofs.made.move_up.Goals as goal
 
 pub returns-then-out-start : goal.returns-then-out-start

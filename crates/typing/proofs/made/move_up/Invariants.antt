@@ -1,7 +1,5 @@
 -- `made::move_up` meets its contract.
-use native.Mathlib.Omega.{arith}
-use borrow.Author.Rules.{rules}
-use Rattle.typing.proofs.Shift.{Moving, moving_start, moving_turn, moving_done, moved_none}
+use Rattle.typing.proofs.Shift.{Moving}
 use Rattle.typing.proofs.made.move_up.Given as goal
 
 abbrev pub invariant-loop-i : goal.invariant-loop-i

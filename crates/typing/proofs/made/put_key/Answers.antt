@@ -7,7 +7,6 @@ use Rattle.swc_helpers.proofs.Made.{is_whole, copied}
 use Rattle.typing.proofs.Slots.{kc_expr}
 use Rattle.typing.proofs.Fits.{tree-fits}
 use Rattle.typing.proofs.Written.{puts-as, puts_fitting, key_is_name, key_is_below, key-copied}
-use borrow.Author.Rules.{rules}
 use Rattle.typing.proofs.made.put_key.Goals as goal
 
 pub mark_at-requires : goal.mark_at-requires
@@ -32,7 +31,8 @@ pub returns-in-26955 : goal.returns-in-26955
 returns-in-26955 c = puts-as c.put_name.ensures (key_is_name c.args.levels _ _ (sym c.mark_at.ensures.0 ∙ c.in-26955.is))
 
 pub returns-in-25419 : goal.returns-in-25419
-returns-in-25419 c = let e = sym c.mark_at.ensures.0 ∙ c.in-25419.is in
+returns-in-25419 c =
+    let e = sym c.mark_at.ensures.0 ∙ c.in-25419.is in
     let k = placed (kc_expr _ _ _ c.requires e) c.body_at-expr.ensures in
     puts-as (puts_fitting c.args.s (copied _ _ _ k.accepted c.shared_slice_known-1.given c.put_record.ensures) (tree-fits _ _ _ k.accepted c.shared_slice_known-1.given)) (key_is_below k e)
 

@@ -2,7 +2,6 @@
 use native.Mathlib.Omega.{arith}
 use Rattle.definition.proofs.Children.{itself}
 use Rattle.typing.proofs.Written.{puts_then, signature_is}
-use borrow.Author.Rules.{rules}
 use Rattle.typing.proofs.made.put_keyed.Goals as goal
 
 pub mark_at-requires : goal.mark_at-requires

@@ -3,7 +3,6 @@ use Rattle.definition.specs.Tree.{head_at}
 use Rattle.definition.proofs.Children.{itself}
 use Rattle.typing.proofs.Fits.{name-fits, name-long}
 use Rattle.typing.proofs.Written.{puts, named_put, fits_still, fits_no_more}
-use borrow.Author.Rules.{rules}
 use Rattle.typing.proofs.made.put_name.Goals as goal
 
 pub range_at-range-requires : goal.range_at-range-requires

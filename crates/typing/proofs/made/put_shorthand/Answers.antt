@@ -6,7 +6,6 @@ use Rattle.definition.proofs.Children.{itself}
 use Rattle.definition.proofs.Kids.{id-text}
 use Rattle.swc_helpers.proofs.Made.{put-put, put_as}
 use Rattle.typing.proofs.Written.{flag_is, short-name}
-use borrow.Author.Rules.{rules}
 use Rattle.typing.proofs.made.put_shorthand.Goals as goal
 
 pub range_at-range-requires : goal.range_at-range-requires

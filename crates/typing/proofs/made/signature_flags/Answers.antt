@@ -1,7 +1,6 @@
 -- `made::signature_flags` meets its contract.
 use mathlib.Core.Logic.{inl, inr}
 use Rattle.typing.proofs.Written.{plain-flags, computed-flags, bool_flag}
-use borrow.Author.Rules.{rules}
 use Rattle.typing.proofs.made.signature_flags.Goals as goal
 
 pub overflow_add-result : goal.overflow_add-result

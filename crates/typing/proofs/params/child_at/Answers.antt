@@ -2,7 +2,7 @@
 use native.Mathlib.Omega.{arith}
 use Rattle.definition.proofs.Children.{itself, some_left}
 use Rattle.swc_helpers.proofs.Made.{is_whole}
-use Rattle.typing.proofs.Loops.{Skipping, skipping_start, skipping_first, skipping_turn, skipping_done}
+use Rattle.typing.proofs.Loops.{skipping_start, skipping_first, skipping_turn, skipping_done}
 use Rattle.typing.proofs.params.child_at.Goals as goal
 
 pub body_at-child-requires : goal.body_at-child-requires

@@ -1,8 +1,5 @@
 -- `params::child_at` meets its contract.
-use native.Mathlib.Omega.{arith}
-use Rattle.definition.proofs.Children.{itself, some_left}
-use Rattle.swc_helpers.proofs.Made.{is_whole}
-use Rattle.typing.proofs.Loops.{Skipping, skipping_start, skipping_first, skipping_turn, skipping_done}
+use Rattle.typing.proofs.Loops.{Skipping}
 use Rattle.typing.proofs.params.child_at.Given as goal
 
 abbrev pub invariant-loop-k : goal.invariant-loop-k

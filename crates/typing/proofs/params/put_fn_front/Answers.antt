@@ -6,7 +6,6 @@ use Rattle.definition.proofs.Children.{itself, some_left}
 use Rattle.swc_helpers.proofs.Made.{is_whole, copied, put-put, put_as}
 use Rattle.typing.specs.Parts.{return_type}
 use Rattle.typing.proofs.Slots.{first-child, second-child}
-use borrow.Author.Rules.{rules}
 use Rattle.typing.proofs.params.put_fn_front.Goals as goal
 
 pub body_at-type_params-requires : goal.body_at-type_params-requires
@@ -31,7 +30,8 @@ pub put_return_type-requires : goal.put_return_type-requires
 put_return_type-requires c = (second-child _ _ _ c.requires.0 (omega (arith, c.requires.1)) c.body_at-type_params.ensures c.record_end-return_type.ensures).accepted
 
 pub returns : goal.returns
-returns c = let a = first-child _ _ _ c.requires.0 (omega (arith, c.requires.1)) c.body_at-type_params.ensures in
+returns c =
+    let a = first-child _ _ _ c.requires.0 (omega (arith, c.requires.1)) c.body_at-type_params.ensures in
     let b = second-child _ _ _ c.requires.0 (omega (arith, c.requires.1)) c.body_at-type_params.ensures c.record_end-return_type.ensures in
     put-put (omega arith) (put_as (copied _ _ _ a.accepted c.shared_slice_known-1.given c.put_record-q.ensures) (ap encode (sym a.tree)))
     (put_as c.put_return_type.ensures (ap (λ (r : Rec). encode (return_type r)) (sym b.tree)))

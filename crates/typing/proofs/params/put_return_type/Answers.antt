@@ -4,7 +4,6 @@ use Rattle.definition.specs.Tree.{encode}
 use Rattle.definition.proofs.Children.{itself}
 use Rattle.swc_helpers.proofs.Made.{is_whole, copied, put_as}
 use Rattle.typing.proofs.Written.{return_absent, return_given}
-use borrow.Author.Rules.{rules}
 use Rattle.typing.proofs.params.put_return_type.Goals as goal
 
 pub mark_at-requires : goal.mark_at-requires

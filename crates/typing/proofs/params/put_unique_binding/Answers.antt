@@ -1,7 +1,6 @@
 -- `params::put_unique_binding` meets its contract.
 use native.Mathlib.Omega.{arith}
 use Rattle.swc_helpers.proofs.Made.{put-put}
-use borrow.Author.Rules.{rules}
 use Rattle.typing.proofs.params.put_unique_binding.Goals as goal
 
 pub returns : goal.returns

@@ -2,7 +2,6 @@
 use Prim.Native.Nat.{◌+◌}
 use native.Mathlib.Omega.{arith}
 use Rattle.typing.proofs.Shift.{name_grows, unnamed}
-use borrow.Author.Rules.{rules}
 use Rattle.typing.proofs.params.put_unnamed.Goals as goal
 
 pub overflow_sub-by : goal.overflow_sub-by

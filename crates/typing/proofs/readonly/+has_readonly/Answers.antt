@@ -6,7 +6,6 @@ use Rattle.definition.proofs.Kids.{placed}
 use Rattle.typing.proofs.Ready.{second_at}
 use Rattle.typing.proofs.Slots.{as-type}
 use Rattle.typing.proofs.HasReadonly.{asserted_expr, has-made, has_first, has-as, has-none}
-use Prim.Native.Nat.{ℕ, ◌<◌}
 use Rattle.typing.proofs.readonly.+has_readonly.Goals as goal
 
 pub mark_at-requires : goal.mark_at-requires

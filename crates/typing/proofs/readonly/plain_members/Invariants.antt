@@ -1,15 +1,9 @@
 -- `readonly::plain_members` meets its contract.
-use mathlib.Core.Path.{refl, sym, ap, ◌∙◌}
 use Prim.Native.Nat.{◌-◌}
-use native.Mathlib.Omega.{arith}
 use Rattle.definition.specs.Tree.{tree_at}
-use Rattle.definition.specs.Record.{mark_of, kids_of}
+use Rattle.definition.specs.Record.{kids_of}
 use Rattle.definition.specs.Typing.{plain_members}
-use Rattle.definition.proofs.Children.{itself, some_left}
-use Rattle.definition.proofs.Kids.{mark-is}
-use Rattle.definition.proofs.Walk.{Left, left-kids, left-first, left-done, all-turn, all-stop}
-use Rattle.swc_helpers.proofs.Made.{is_whole}
-use Rattle.typing.specs.Parts.{is_plain}
+use Rattle.definition.proofs.Walk.{Left}
 use Rattle.typing.proofs.readonly.plain_members.Given as goal
 
 abbrev pub invariant-loop-n : goal.invariant-loop-n

@@ -9,7 +9,6 @@ use Rattle.records.specs.declared.Head.{Head}
 use Rattle.records.proofs.Whole.{slice_bytes}
 use Rattle.swc_helpers.proofs.Made.{is_whole, copied, put_as}
 use Rattle.typing.proofs.ReadonlyOf.{member-op, member-flagged, part_long}
-use borrow.Author.Rules.{rules}
 use Rattle.typing.proofs.readonly.readonly_member.Goals as goal
 
 pub read_head-head-requires : goal.read_head-head-requires

@@ -6,7 +6,7 @@ use Rattle.definition.proofs.Walk.{left-first}
 use Rattle.records.specs.declared.Head.{Head as Fields}
 use Rattle.records.proofs.Wrote.{put-wrote}
 use Rattle.swc_helpers.proofs.Made.{is_whole}
-use Rattle.typing.proofs.ReadonlyOf.{Members, members-start, members-turn, members-done}
+use Rattle.typing.proofs.ReadonlyOf.{members-start, members-turn, members-done}
 use Rattle.typing.proofs.readonly.readonly_members.Goals as goal
 
 pub read_head-head-requires : goal.read_head-head-requires

@@ -6,7 +6,6 @@ use Rattle.definition.proofs.Children.{itself}
 use Rattle.swc_helpers.proofs.Made.{is_whole, copied, put-put, put_as, readonly_is}
 use Rattle.typing.proofs.Maybe.{maybe_some, maybe_none}
 use Rattle.typing.proofs.ReadonlyOf.{readonly_lit, readonly_unplain, readonly_array, readonly_same, readonly_other}
-use borrow.Author.Rules.{rules}
 use Rattle.typing.proofs.readonly.readonly_of.Goals as goal
 
 pub mark_at-requires : goal.mark_at-requires
@@ -16,7 +15,7 @@ pub plain_members-requires : goal.plain_members-requires
 plain_members-requires c = c.requires
 
 pub returns-then-not-plain_members : goal.returns-then-not-plain_members
-returns-then-not-plain_members c = maybe_none _ _ (readonly_unplain _ _ _ (sym c.mark_at.ensures.0 ∙ c.in-26956.is) (sym c.plain_members.ensures ∙ not-true _ c.if-not-plain_members.true-raw))
+returns-then-not-plain_members c = maybe_none _ _ (readonly_unplain _ _ _ (sym c.mark_at.ensures.0 ∙ c.in-26956.is) (sym c.plain_members.ensures ∙ c.if-not-plain_members.true))
 
 pub put_record-requires : goal.put_record-requires
 put_record-requires c = is_whole _ _ _ c.requires
@@ -25,7 +24,7 @@ pub put_record-requires-in-28498 : goal.put_record-requires-in-28498
 put_record-requires-in-28498 c = is_whole _ _ _ c.requires
 
 pub returns-else-not-plain_members : goal.returns-else-not-plain_members
-returns-else-not-plain_members c = maybe_some c.readonly_members.ensures (readonly_lit _ _ _ (sym c.mark_at.ensures.0 ∙ c.in-26956.is) (sym c.plain_members.ensures ∙ not-false _ c.if-not-plain_members.false-raw))
+returns-else-not-plain_members c = maybe_some c.readonly_members.ensures (readonly_lit _ _ _ (sym c.mark_at.ensures.0 ∙ c.in-26956.is) (sym c.plain_members.ensures ∙ c.if-not-plain_members.false))
 
 pub returns-in-31041 : goal.returns-in-31041
 returns-in-31041 c = maybe_some (put_as (put-put (omega arith) c.ts_readonly-q.ensures (copied _ _ _ c.requires c.shared_slice_known-1.given c.put_record.ensures)) (sym (readonly_is _ _)))

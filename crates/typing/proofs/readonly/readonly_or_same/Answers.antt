@@ -1,7 +1,6 @@
 -- `readonly::readonly_or_same` meets its contract.
 use Rattle.swc_helpers.proofs.Made.{is_whole, copied}
 use Rattle.typing.proofs.Maybe.{this-one, other-one}
-use borrow.Author.Rules.{rules}
 use Rattle.typing.proofs.readonly.readonly_or_same.Goals as goal
 
 pub put_record-requires : goal.put_record-requires

@@ -2,7 +2,6 @@
 use mathlib.Core.Path.{sym, ◌∙◌}
 use Rattle.definition.proofs.Children.{itself}
 use Rattle.typing.proofs.ReadonlyOf.{has-lit, has-known, has_other}
-use borrow.Author.Rules.{rules}
 use Rattle.typing.proofs.readonly.type_has_readonly.Goals as goal
 
 pub mark_at-requires : goal.mark_at-requires
