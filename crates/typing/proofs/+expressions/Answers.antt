@@ -1,6 +1,7 @@
 -- The cycle of `expr_to_ts_type` and `pat_to_ts_fn_param`: each member meets its contract, and the remaining depth falls.
 use Prim.Native.Nat.{◌-◌}
-use mathlib.Core.Path.{sym, ◌∙◌, refl, ap}
+use borrow.Author.Rules.{rules}
+use mathlib.Core.Path.{◌≡◌, sym, ◌∙◌, refl, ap}
 use native.Mathlib.Omega.{arith}
 use borrow.Author.Tests.{not-true, not-false}
 use Rattle.definition.specs.Helpers.{ts_readonly}
@@ -531,7 +532,7 @@ pub property_type-key_value-requires : goal.property_type-key_value-requires
 property_type-key_value-requires t c = (omega (arith, c.decreases), (c.requires, (sym c.mark_at.ensures.0 ∙ c.in-30283.is)))
 
 pub property_type-shorthand-requires : goal.property_type-shorthand-requires
-property_type-shorthand-requires t c = (c.requires, (sym c.mark_at.ensures.0 ∙ c.in-26707.is))
+property_type-shorthand-requires t c = let is : c.mark_at.result ≡ 26707 = search rules in (c.requires, (sym c.mark_at.ensures.0 ∙ is))
 
 pub property_type-skipped-requires : goal.property_type-skipped-requires
 property_type-skipped-requires t c = (itself _ _ _ c.requires.accepted).room
