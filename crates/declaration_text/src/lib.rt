@@ -120,7 +120,7 @@ fn accepted(tree: &[u8], out: &mut [u8]) -> Answer
     Answer::Done(dry.written)
 }
 
-// The call, for every byte string and every buffer: the answer and the buffer are the definition's `callText`.
+// The call, for every byte string and every buffer: the answer and the buffer are the definition's `call_text`.
 pub fn text(tree: &[u8], out: &mut [u8]) -> Answer
     ensures { Gives (call_text tree.now out.old) result out.new }
 {

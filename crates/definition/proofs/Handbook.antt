@@ -97,7 +97,7 @@ code_of h_array = mark "Ar"
 code_of h_object = mark "Ob"
 code_of h_else = 0
 
--- a kind says its mark, but for hElse
+-- a kind says its mark, but for h_else
 kind-mark : (m : ℕ) → (literal_kind m ≡ h_else) ⊎ (m ≡ code_of (literal_kind m))
 unfolding literal_kind
 kind-mark m =
@@ -237,7 +237,7 @@ lit_of h_array = l_jsx_text
 lit_of h_object = l_jsx_text
 lit_of h_else = l_jsx_text
 
--- a kind of the handbook that is met: all but hElse
+-- a kind of the handbook that is met: all but h_else
 abbrev Met : Literal → Type 0
 Met k = k ≡ h_else → ⊥
 
@@ -280,7 +280,7 @@ element_of_lem h_array = refl
 element_of_lem h_object = refl
 element_of_lem h_else = refl
 
--- no kind but hElse is hElse
+-- no kind but h_else is h_else
 met : (k : Literal) → (k ≡ h_else) ⊎ Met k
 met h_string = inr (λ e. let z : ◌≡◌ {A = ℕ} 0 1 = cc in omega arith)
 met h_number = inr (λ e. let z : ◌≡◌ {A = ℕ} 0 1 = cc in omega arith)

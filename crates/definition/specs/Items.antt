@@ -24,7 +24,7 @@ item_kind m =
     (cond (eqb m (mark "St")) i_dropped
     (cond (eqb m (mark "Ed")) i_export (cond (eqb m (mark "Xd")) i_default (cond (eqb m (mark "Xe")) i_default_expr i_decl))))
 
--- a declaration; dType is In or Ty
+-- a declaration; d_type is In or Ty
 pub data Decl : Type 0 where
   d_class d_fn d_var d_enum d_module d_using d_type : Decl
 
@@ -35,14 +35,14 @@ decl_kind m =
     (cond (eqb m (mark "Vd")) d_var
     (cond (eqb m (mark "En")) d_enum (cond (eqb m (mark "Ns")) d_module (cond (eqb m (mark "Us")) d_using d_type)))))
 
--- what an Xd holds; xOther is In
+-- what an Xd holds; x_other is In
 pub data Default : Type 0 where
   x_class x_fn x_other : Default
 
 unfoldable pub default_kind : ℕ → Default
 default_kind m = cond (eqb m (mark "Cx")) x_class (cond (eqb m (mark "Fx")) x_fn x_other)
 
--- a namespace's body; bOther is No
+-- a namespace's body; b_other is No
 pub data Body : Type 0 where
   b_block b_nested b_other : Body
 

@@ -97,7 +97,7 @@ fn counted(tree: &[u8], list: &[u8], unresolved: u32, diagnostics: &[u8]) -> Tab
     with_large_table(tree, list, unresolved, diagnostics)
 }
 
-// The transform's call, and the table: the answer, both buffers and the table are the definition's `callDepths`.
+// The transform's call, and the table: the answer, both buffers and the table are the definition's `call_depths`.
 pub fn depths(
     tree: &[u8],
     list: &[u8],

@@ -163,7 +163,7 @@ pub accepted-put : (levels : ℕ) (s : List ℕ) (at : ℕ) (ps : List Part) (e 
     → Put a b p (part_at levels s at) q → Put a b p (encode (tree_at levels s at)) q
 accepted-put levels s at ps e bytes f w = rw (← (accepted_part levels s at ps e bytes f)) w
 
--- the contents of a `&[u8]` are bytes, as `shared-slice-known` has it
+-- the contents of a `&[u8]` are bytes, as `shared_slice_known` has it
 pub slice_bytes : (s : List ℕ) → ((i : ℕ) → Fits w8 (get_or s i 0)) → Bytes s
 unfolding Bytes
 slice_bytes s f i = (f i).fits
