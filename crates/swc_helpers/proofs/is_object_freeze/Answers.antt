@@ -1,5 +1,4 @@
--- `is_object_freeze` meets its contract.
--- what is known behind each test
+-- `is_object_freeze` meets its contract. What is known behind each test is a `let`.
 use Rattle.std.proofs.Common.{sym, ◌∙◌}
 use borrow.Author.Tests.{not-true, not-false}
 use Rattle.definition.proofs.Children.{itself}

@@ -1,5 +1,4 @@
--- `object_freeze_call_arg` meets its contract.
--- what is known behind each test
+-- `object_freeze_call_arg` meets its contract. What is known behind each test is a `let`.
 use borrow.Author.Rules.{rules}
 use Rattle.std.proofs.Common.{sym, ◌∙◌, arith}
 use borrow.Author.Tests.{not-true, not-false}

@@ -3,7 +3,8 @@ use Rattle.definition.proofs.Children.{itself}
 use Rattle.test_leaves.proofs.mark_of.Goals as goal
 
 pub mark_at-requires : goal.mark_at-requires
-mark_at-requires c = let a = c.args in
+mark_at-requires c =
+    let a = c.args in
     (itself a.levels a.tree.now a.at c.requires).room
 
 pub returns : goal.returns

@@ -1,5 +1,4 @@
 -- `block_at` meets its contract: an Ed leads to its first child, an Ns or an Nd to its second, each with a level less. The measure is the levels left.
--- a mark that is one of two
 use Rattle.declaration_text.proofs.lines.+block_at.Given as goal
 
 abbrev pub decreases-block_at : goal.decreases-block_at

@@ -1,7 +1,4 @@
 -- `put_item` and `put_items` meet their contracts: a block's items have fewer levels left.
--- the block that was found
--- ---- one item
--- ---- the items one after the other
 use mathlib.Core.Path.{◌≡◌, refl, subst}
 use mathlib.Core.List.{List}
 use Prim.Native.Nat.{ℕ}
@@ -13,8 +10,11 @@ use Rattle.declaration_text.proofs.LinesWritten.{lines_none, lines-as}
 use Rattle.declaration_text.proofs.Blocks.{item_star, item-op, item_line_lem, item-block, block-items, listing_start, listing-first, listing-turn, listing-done, listing-same}
 use Rattle.declaration_text.proofs.lines.+item_lines.Goals as goal
 
+-- the block that was found
 found : (levels : ℕ) (tree : List ℕ) (at : ℕ) {f g : Block} → f ≡ g → Found levels tree at f → Found levels tree at g
 found levels tree at e x = subst (Found levels tree at) e x
+
+-- ---- one item
 
 pub put_item-mark_at-mark-requires : goal.put_item-mark_at-mark-requires
 put_item-mark_at-mark-requires t c = room c.requires.1
@@ -51,6 +51,8 @@ put_item-returns-in-At t c = item-block c.args.levels c.args.tree.now c.args.at 
 
 pub put_item-returns-in-Nothing : goal.put_item-returns-in-Nothing
 put_item-returns-in-Nothing t c = item_line_lem c.args.levels c.args.tree.now c.args.at c.args.depth c.mark_at-mark.ensures.0 c.if-mark-eq-ST.false c.if-mark-eq-OP.false c.put_line-next.ensures (found c.args.levels c.args.tree.now c.args.at c.in-Nothing.is c.block_at-found.ensures)
+
+-- ---- the items one after the other
 
 pub put_items-loop-k-init : goal.put_items-loop-k-init
 put_items-loop-k-init t c = listing_start _ _ _ _ _ c.requires.1 _ _ (omega (arith, c.well_formed))

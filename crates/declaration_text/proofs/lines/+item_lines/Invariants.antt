@@ -1,7 +1,4 @@
 -- `put_item` and `put_items` meet their contracts: a block's items have fewer levels left.
--- the block that was found
--- ---- one item
--- ---- the items one after the other
 use Prim.Native.Nat.{suc, ◌*◌}
 use Rattle.definition.specs.Text.{items_lines}
 use Rattle.declaration_text.specs.Lines.{records_at}

@@ -1,7 +1,4 @@
 -- `depth_counts::walk::count_item` and `count_items` meet their contracts: an Ns leads to its items, which have fewer levels left.
--- what the item was found to be
--- ---- one item
--- ---- one after the other
 use mathlib.Core.Path.{◌≡◌, refl, subst}
 use mathlib.Core.List.{List}
 use Prim.Native.Nat.{ℕ, ◌-◌}
@@ -13,8 +10,11 @@ use Rattle.depth_counts.specs.Walks.{FoundItem}
 use Rattle.depth_counts.proofs.Walking.{plain-holds, plain-counts, empty_counts, block_ready, block-deep, block-holds, block-counts, walking_start, walking_first, walking_holds, walking_turn, walking_done}
 use Rattle.depth_counts.proofs.walk.+counted_items.Goals as goal
 
+-- what the item was found to be
 found : (levels : ℕ) (tree : List ℕ) (at : ℕ) {f g : Space} → f ≡ g → FoundItem (levels - 1) tree at (tree_at levels tree at) f → FoundItem (levels - 1) tree at (tree_at levels tree at) g
 found levels tree at e x = subst (FoundItem (levels - 1) tree at (tree_at levels tree at)) e x
+
+-- ---- one item
 
 pub count_item-space_of-requires : goal.count_item-space_of-requires
 count_item-space_of-requires t c = c.requires.ready.0.accepted
@@ -45,6 +45,8 @@ count_item-returns-in-Empty t c = empty_counts c.args.list.now c.args.tree.now c
 
 pub count_item-returns-in-Other : goal.count_item-returns-in-Other
 count_item-returns-in-Other t c = plain-counts c.args.list.now c.args.tree.now c.args.scope (tree_at c.args.levels c.args.tree.now c.args.at) c.args.top c.args.depth c.args.s.counter (found c.args.levels c.args.tree.now c.args.at c.in-Other.is c.space_of.ensures) c.count_plain.ensures
+
+-- ---- one after the other
 
 pub count_items-loop-k-init : goal.count_items-loop-k-init
 count_items-loop-k-init t c = walking_start _ _ _ _ _ _ _ c.requires.ready_all.0 c.requires.small c.requires.holds

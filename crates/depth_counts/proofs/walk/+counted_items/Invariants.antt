@@ -1,7 +1,4 @@
 -- `depth_counts::walk::count_item` and `count_items` meet their contracts: an Ns leads to its items, which have fewer levels left.
--- what the item was found to be
--- ---- one item
--- ---- one after the other
 use Prim.Native.Nat.{suc, ◌*◌}
 use Rattle.depth_counts.proofs.Walking.{Walking, placed_of_all}
 use Rattle.items.specs.Steps.{records_at, items_of}

@@ -1,6 +1,5 @@
 -- The proof of the cycle of calls {check_all}: the measure is what is left of the levels, and the loop's invariant that the records before the next
 -- one are accepted.
--- what the callees ask and give, at the measure t
 use mathlib.Core.Path.{◌≡◌, refl, sym, ap, ◌∙◌, subst}
 use native.Mathlib.Omega.{arith}
 use Rattle.definition.specs.Tree.{mark_at}

@@ -1,6 +1,5 @@
 -- The proof of the cycle of calls {check_all}: the measure is what is left of the levels, and the loop's invariant that the records before the next
 -- one are accepted.
--- what the callees ask and give, at the measure t
 use Rattle.definition.specs.Check.{check_all, check_at}
 use Rattle.grammar.specs.Slots.{parts_from}
 use Rattle.grammar.proofs.Children.{Passed}

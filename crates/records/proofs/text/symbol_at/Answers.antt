@@ -1,5 +1,4 @@
 -- `records::text::symbol_at` meets its contract: an Id's text has the four bytes of its context.
--- the text that was read has at least four bytes
 use mathlib.Core.Path.{ap, ◌∙◌}
 use Prim.Native.Nat.{ℕ, ◌+◌, ◌-◌, ◌≤◌}
 use mathlib.Core.List.{List}
@@ -10,6 +9,7 @@ use Rattle.definition.specs.Tree.{head_size, length_at}
 use Rattle.definition.proofs.Places.{part_length}
 use Rattle.records.proofs.text.symbol_at.Goals as goal
 
+-- the text that was read has at least four bytes
 long : (c : goal.After-text_at-text) → 4 ≤ length c.text_at-text.result.now
 long c =
     omega (arith, ap length c.text_at-text.ensures, c.requires, part_length c.args.tree.now (c.args.at + head_size) (length_at c.args.tree.now c.args.at) c.requires.0)
