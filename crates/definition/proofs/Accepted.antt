@@ -51,18 +51,18 @@ use Rattle.definition.specs.Check.{
 
 module _ {A : Type 0} (v : A) where
   -- the refusal is not v, so the test was not met
-  passed : (t : Bool) (x y : A) → (x ≡ v → ⊥) → cond t x y ≡ v → (t ≡ false) × (y ≡ v)
+  pub passed : (t : Bool) (x y : A) → (x ≡ v → ⊥) → cond t x y ≡ v → (t ≡ false) × (y ≡ v)
   passed true x y n e = absurd (n e)
   passed false x y n e = (refl, e)
 
-  met : (t : Bool) (x y : A) → (y ≡ v → ⊥) → cond t x y ≡ v → (t ≡ true) × (x ≡ v)
+  pub met : (t : Bool) (x y : A) → (y ≡ v → ⊥) → cond t x y ≡ v → (t ≡ true) × (x ≡ v)
   met true x y n e = (refl, e)
   met false x y n e = absurd (n e)
 
-never-opened : (k b n : ℕ) (qs : List Part) → stopped k ≡ opened b n qs → ⊥
+pub never-opened : (k b n : ℕ) (qs : List Part) → stopped k ≡ opened b n qs → ⊥
 never-opened k b n qs e = let z : ◌≡◌ {A = ℕ} 0 1 = cc in omega arith
 
-never-fine : (k p e : ℕ) → refused k p ≡ fine e → ⊥
+pub never-fine : (k p e : ℕ) → refused k p ≡ fine e → ⊥
 never-fine k p e q = let z : ◌≡◌ {A = ℕ} 0 1 = cc in omega arith
 
 -- ---- a record by itself
@@ -124,7 +124,7 @@ pub onward-fine : (r : Checked) (f : ℕ → Checked) (e : ℕ) → onward r f �
 onward-fine (fine x) f e p = (x, refl, p)
 onward-fine (refused n q) f e p = absurd (never-fine n q e p)
 
-within-fine : (h : Opening) (at : ℕ) (f : ℕ → ℕ → List Part → Checked) (e : ℕ) → within h at f ≡ fine e →
+pub within-fine : (h : Opening) (at : ℕ) (f : ℕ → ℕ → List Part → Checked) (e : ℕ) → within h at f ≡ fine e →
     (b : ℕ) × (n : ℕ) × (qs : List Part) × (h ≡ opened b n qs) × (f b n qs ≡ fine e)
 within-fine (opened b n qs) at f e p = (b, n, qs, refl, p)
 within-fine (stopped k) at f e p = absurd (never-fine k at e p)

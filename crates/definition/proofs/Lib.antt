@@ -5,6 +5,7 @@ pub mod Accepted
 pub mod Converse
 pub mod Children
 pub mod Kids
+pub mod Anywhere
 pub mod Walk
 pub mod ItemKinds
 pub mod Counting

@@ -6,3 +6,4 @@ pub mod Texts
 pub mod Puts
 mod SetFlags
 pub mod Accepted
+pub mod Views

@@ -38,6 +38,10 @@ span a = record { start = a.start; end = a.end }
 abbrev pub range_at : List ℕ → ℕ → Range
 range_at s at = record { start = start_at s at; end = last_at s at }
 
+-- the range of a head of the definition
+abbrev pub range_of : Tree.Head → Range
+range_of h = record { start = h.start; end = h.end }
+
 -- ---- heads that are made
 
 -- `made`, by the mark's number

@@ -3,7 +3,7 @@
 
 ghost use Rattle.std.specs.Prelude.{◌≡◌, ◌+◌, ◌<◌, ◌≤◌, length, set};
 ghost use Rattle.std.proofs.lemmas.List.Edits.{sets};
-ghost use Rattle.definition.specs.Tree.{flags_size, head_size, le2, le4, flag_bytes, u16_at, u32_at, mark_at, flags_at, count_at, body_at, text_at, end_at};
+ghost use Rattle.definition.specs.Tree.{head_size, le2, u16_at, u32_at, mark_at, flags_at, count_at, body_at, text_at, end_at};
 ghost use Rattle.definition.specs.Record.{diag_bytes};
 ghost use Rattle.records.specs.Fields.{fields_at, field_bytes, range_at, diag_of};
 ghost use Rattle.records.specs.Texts.{FourBytes};
@@ -16,6 +16,7 @@ pub mod flags;
 pub mod made;
 pub mod marks;
 pub mod text;
+pub mod tree;
 
 // "15-byte head"
 pub const HEAD_SIZE: usize = COUNT + 2;
@@ -55,9 +56,6 @@ const DIAGNOSTIC_START: usize = 2;
 
 const DIAGNOSTIC_END: usize = 6;
 
-// The largest position.
-const HIGHEST: usize = 0xffff_ffff_ffff_ffff;
-
 // "start and end (4 each; what `range()` gives ..)".
 #[derive(Clone, Copy)]
 pub struct Range {
@@ -79,25 +77,12 @@ pub struct Head {
     pub count: usize,
 }
 
-// A byte as a wider number.
-fn wide16(b: u8) -> u16
-    ensures { (result ≡ b) × (result < 256) }
-{
-    b as u16
-}
-
-fn wide32(b: u8) -> u32
-    ensures { (result ≡ b) × (result < 256) }
-{
-    b as u32
-}
-
 // "Little-endian, unsigned": the number in the two bytes at `at`.
 pub fn u16_at(tree: &[u8], at: usize) -> u16
     requires { at + 2 ≤ length tree.now }
     ensures { (result ≡ u16_at tree.now at) × (result < 65536) }
 {
-    wide16(tree[at]) + 256 * wide16(tree[at + 1])
+    u16::from_le_bytes([tree[at], tree[at + 1]])
 }
 
 // The number in the four bytes at `at`.
@@ -105,10 +90,7 @@ pub fn u32_at(tree: &[u8], at: usize) -> u32
     requires { at + 4 ≤ length tree.now }
     ensures { (result ≡ u32_at tree.now at) × (result < 4294967296) × FourBytes tree.now at }
 {
-    wide32(tree[at])
-        + 256 * wide32(tree[at + 1])
-        + 65536 * wide32(tree[at + 2])
-        + 16777216 * wide32(tree[at + 3])
+    u32::from_le_bytes([tree[at], tree[at + 1], tree[at + 2], tree[at + 3]])
 }
 
 // The mark of the record at `at`.
@@ -212,7 +194,7 @@ pub fn record_at(tree: &[u8], at: usize, levels: usize) -> &[u8]
 pub fn advance(p: usize, n: usize) -> usize
     ensures { result ≡ sat p n }
 {
-    if n <= HIGHEST - p { p + n } else { HIGHEST }
+    p.saturating_add(n)
 }
 
 // One byte at p, dropped past the end.
@@ -224,86 +206,26 @@ pub fn put(out: &mut [u8], p: usize, b: u8)
     }
 }
 
-// A number in two bytes, little-endian, as far as there is room.
-pub fn put2(out: &mut [u8], p: usize, v: usize)
-    ensures { out.new ≡ sets out.old p (le2 v) }
+// A number in two bytes, little-endian.
+fn two_bytes(v: usize) -> [u8; 2]
+    ensures { result ≡ le2 v }
 {
-    if p < out.len() {
-        put(out, p, (v % 256) as u8);
-        put(out, p + 1, (v / 256 % 256) as u8);
-    }
+    [(v % 256) as u8, (v / 256 % 256) as u8]
 }
 
-// A number in four bytes, as far as there is room.
-pub fn put4(out: &mut [u8], p: usize, v: u32)
-    ensures { out.new ≡ sets out.old p (le4 v) }
-{
-    if p < out.len() {
-        put(out, p, (v % 256) as u8);
-        put(out, p + 1, (v / 256 % 256) as u8);
-        put(out, p + 2, (v / 65536 % 256) as u8);
-        put(out, p + 3, (v / 16777216 % 256) as u8);
-    }
-}
-
-// Flags, as far as there is room.
-fn put_flags(out: &mut [u8], p: usize, flags: Flags)
-    ensures { out.new ≡ sets out.old p (flag_bytes flags) }
-{
-    put(out, p, flags);
-}
-
-// `put2` and `put4` where there is room for all of it: no test.
-fn set2(out: &mut [u8], p: usize, v: usize)
-    requires { p + 2 ≤ length out.old }
-    ensures { out.new ≡ sets out.old p (le2 v) }
-{
-    out[p] = (v % 256) as u8;
-    out[p + 1] = (v / 256 % 256) as u8;
-}
-
-fn set4(out: &mut [u8], p: usize, v: u32)
-    requires { p + 4 ≤ length out.old }
-    ensures { out.new ≡ sets out.old p (le4 v) }
-{
-    out[p] = (v % 256) as u8;
-    out[p + 1] = (v / 256 % 256) as u8;
-    out[p + 2] = (v / 65536 % 256) as u8;
-    out[p + 3] = (v / 16777216 % 256) as u8;
-}
-
-// `put_flags` where there is room for all of it: no test.
-fn set_flags(out: &mut [u8], p: usize, flags: Flags)
-    requires { p + flags_size ≤ length out.old }
-    ensures { out.new ≡ sets out.old p (flag_bytes flags) }
-{
-    out[p] = flags;
-}
-
-// A head where there is room for all of it: no test.
-fn set_head(out: &mut [u8], p: usize, h: Head)
-    requires { p + head_size ≤ length out.old }
-    ensures { out.new ≡ sets out.old p (field_bytes h) }
-{
-    set2(out, p, h.mark as usize);
-    set_flags(out, p + FLAGS, h.flags);
-    set4(out, p + START, h.start);
-    set4(out, p + END, h.end);
-    set2(out, p + LENGTH, h.text);
-    set2(out, p + COUNT, h.count);
-}
-
-// A head that is cut: byte by byte.
-fn put_cut_head(out: &mut [u8], p: usize, h: Head)
-    ensures { out.new ≡ sets out.old p (field_bytes h) }
-{
-    if p < out.len() {
-        put2(out, p, h.mark as usize);
-        put_flags(out, p + FLAGS, h.flags);
-        put4(out, p + START, h.start);
-        put4(out, p + END, h.end);
-        put2(out, p + LENGTH, h.text);
-        put2(out, p + COUNT, h.count);
+impl Head {
+    // "mark (two ASCII letters), flags (1 byte), start and end (4 each), text length (2), child count (2)".
+    pub fn bytes(self) -> [u8; HEAD_SIZE]
+        ensures { result ≡ field_bytes self }
+    {
+        let [m0, m1] = self.mark.to_le_bytes();
+        let [s0, s1, s2, s3] = self.start.to_le_bytes();
+        let [e0, e1, e2, e3] = self.end.to_le_bytes();
+        let [t0, t1] = two_bytes(self.text);
+        let [c0, c1] = two_bytes(self.count);
+        [
+            m0, m1, self.flags, s0, s1, s2, s3, e0, e1, e2, e3, t0, t1, c0, c1,
+        ]
     }
 }
 
@@ -311,25 +233,7 @@ fn put_cut_head(out: &mut [u8], p: usize, h: Head)
 pub fn put_head(out: &mut [u8], p: usize, h: Head) -> usize
     ensures { Put out.old out.new p (field_bytes h) result }
 {
-    let end = advance(p, HEAD_SIZE);
-    if end <= out.len() {
-        set_head(out, p, h);
-        return end;
-    }
-    put_cut_head(out, p, h);
-    end
-}
-
-// A copy between two parts of equal length: no test inside the loop.
-fn copy(to: &mut [u8], from: &[u8])
-    requires { length to.old ≡ length from.now }
-    ensures { to.new ≡ from.now }
-{
-    let mut i = 0;
-    while i < from.len() {
-        to[i] = from[i];
-        i += 1;
-    }
+    put_text(out, p, &h.bytes())
 }
 
 // The bytes of a text or of a part of the tree, as far as there is room, and the position behind them.
@@ -338,14 +242,14 @@ pub fn put_text(out: &mut [u8], p: usize, text: &[u8]) -> usize
 {
     let end = advance(p, text.len());
     if end <= out.len() {
-        copy(&mut out[p..end], text);
+        out[p..end].copy_from_slice(text);
         return end;
     }
     if out.len() <= p {
         return end;
     }
     let room = out.len() - p;
-    copy(&mut out[p..], &text[..room]);
+    out[p..].copy_from_slice(&text[..room]);
     end
 }
 
@@ -362,12 +266,8 @@ pub fn put_record(tree: &[u8], at: usize, levels: usize, out: &mut [u8], p: usiz
 pub fn put_diagnostic(diagnostics: &mut [u8], d: usize, mark: u16, start: u32, end: u32) -> usize
     ensures { Put diagnostics.old diagnostics.new d (diag_bytes (diag_of mark start end)) result }
 {
-    let next = advance(d, DIAGNOSTIC_SIZE);
-    if diagnostics.len() <= d {
-        return next;
-    }
-    put2(diagnostics, d, mark as usize);
-    put4(diagnostics, d + DIAGNOSTIC_START, start);
-    put4(diagnostics, d + DIAGNOSTIC_END, end);
-    next
+    let [m0, m1] = mark.to_le_bytes();
+    let [s0, s1, s2, s3] = start.to_le_bytes();
+    let [e0, e1, e2, e3] = end.to_le_bytes();
+    put_text(diagnostics, d, &[m0, m1, s0, s1, s2, s3, e0, e1, e2, e3])
 }

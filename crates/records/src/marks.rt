@@ -1,6 +1,8 @@
 // The marks of document 01 as the numbers that a head holds: "mark (two ASCII letters)", little-endian. In the order of the grammar's rows.
 ghost use Rattle.std.specs.Prelude.{◌≡◌};
 ghost use Rattle.definition.specs.Grammar.{known, place};
+ghost use Rattle.records.specs.Marks.{number_of};
+ghost use Rattle.records.specs.Reads.{Reads};
 
 // printed by tools/grammar-tables: marks
 
@@ -178,6 +180,297 @@ pub const OT: u16 = 0x744f; // "Ot": any other type
 pub const KNOWN: usize = 85;
 
 // end of what is printed
+
+// The marks, in the order of the grammar's rows.
+#[derive(Clone, Copy, PartialEq, Eq, Debug)]
+pub enum Mark {
+    // printed by tools/grammar-tables: enum
+    Mo, // a module
+    Op, // an opaque part: source text
+    No, // absent
+    Im, // an import, a re-export or an export assignment
+    St, // any other statement
+    Ed, // an exported declaration
+    Xd, // a default export of a class, a function or an interface
+    Xe, // a default export of an expression
+    Fd, // a function declaration
+    Cd, // a class declaration
+    Vd, // a variable declaration
+    Us, // a using declaration
+    En, // an enum
+    Ns, // a namespace: its name, and its body
+    In, // an interface
+    Ty, // a type alias
+    Vr, // a variable: its pattern, and its init
+    Em, // an enum's member: its name, and its init
+    Nb, // a namespace's body, as items
+    Nd, // a namespace's body, as a namespace inside: its name, and its body
+    Fu, // what a function holds: type parameters, return type, body, parameters
+    Pa, // a parameter
+    Pp, // a constructor's parameter that is a property
+    Cl, // what a class holds: type parameters, members
+    Co, // a constructor: body, parameters
+    Me, // a method, a getter or a setter
+    Cp, // a class property
+    Dm, // a private or empty member, a static block or an auto accessor
+    Ix, // an index signature
+    Ps, // a property of an object type
+    Om, // any other member of an object type
+    Pb, // an array pattern
+    Po, // an object pattern
+    Bd, // a name as a pattern
+    Ag, // a pattern with a default
+    Rs, // a rest pattern
+    Pe, // an expression as a pattern
+    Pi, // an invalid pattern
+    Ki, // a name as a key
+    Kc, // a computed key
+    Ss, // a string
+    Nu, // a number
+    Bi, // a big integer
+    Bl, // a boolean
+    Nl, // null
+    Re, // a regex
+    Jt, // JSX text
+    Id, // an identifier
+    Ar, // an array
+    Ob, // an object
+    Fx, // a function expression
+    Cx, // a class expression
+    Aw, // an arrow function: type parameters, return type, parameters
+    Te, // a template
+    Mi, // a unary minus
+    Ca, // a call
+    Ne, // an object made by new
+    Mb, // a member of an object
+    Bn, // a binary expression
+    Oc, // an optional chain
+    Tc, // an expression as const
+    Nn, // a non-null assertion
+    Pr, // an expression in parentheses
+    As, // an expression as a type
+    Ts, // an expression that satisfies a type
+    Ta, // an angle-bracket assertion
+    Oe, // any other expression
+    Sp, // a spread
+    Kv, // a key and its value
+    Sh, // a shorthand property
+    Pq, // any other property
+    Qu, // a text between the expressions of a template
+    Tm, // a member of a tuple type
+    Kw, // a keyword type
+    Tl, // a literal type
+    Rf, // a type reference
+    Tf, // a typeof type
+    Li, // an object type
+    Ay, // an array type
+    Tu, // a tuple type
+    Rt, // a rest type
+    Ro, // a readonly type
+    Ft, // a function type: type parameters, return type, parameters
+    Ct, // a constructor type
+    Ot, // any other type
+    // end of what is printed
+}
+
+// A number that no mark has.
+#[derive(Clone, Copy, PartialEq, Eq, Debug)]
+pub struct UnknownMark(pub u16);
+
+impl TryFrom<u16> for Mark {
+    type Error = UnknownMark;
+
+    ghost try_from_gives = { Reads };
+
+    fn try_from(number: u16) -> Result<Self, UnknownMark> {
+        Ok(match number {
+            // printed by tools/grammar-tables: read
+            0x6f4d => Mark::Mo,
+            0x704f => Mark::Op,
+            0x6f4e => Mark::No,
+            0x6d49 => Mark::Im,
+            0x7453 => Mark::St,
+            0x6445 => Mark::Ed,
+            0x6458 => Mark::Xd,
+            0x6558 => Mark::Xe,
+            0x6446 => Mark::Fd,
+            0x6443 => Mark::Cd,
+            0x6456 => Mark::Vd,
+            0x7355 => Mark::Us,
+            0x6e45 => Mark::En,
+            0x734e => Mark::Ns,
+            0x6e49 => Mark::In,
+            0x7954 => Mark::Ty,
+            0x7256 => Mark::Vr,
+            0x6d45 => Mark::Em,
+            0x624e => Mark::Nb,
+            0x644e => Mark::Nd,
+            0x7546 => Mark::Fu,
+            0x6150 => Mark::Pa,
+            0x7050 => Mark::Pp,
+            0x6c43 => Mark::Cl,
+            0x6f43 => Mark::Co,
+            0x654d => Mark::Me,
+            0x7043 => Mark::Cp,
+            0x6d44 => Mark::Dm,
+            0x7849 => Mark::Ix,
+            0x7350 => Mark::Ps,
+            0x6d4f => Mark::Om,
+            0x6250 => Mark::Pb,
+            0x6f50 => Mark::Po,
+            0x6442 => Mark::Bd,
+            0x6741 => Mark::Ag,
+            0x7352 => Mark::Rs,
+            0x6550 => Mark::Pe,
+            0x6950 => Mark::Pi,
+            0x694b => Mark::Ki,
+            0x634b => Mark::Kc,
+            0x7353 => Mark::Ss,
+            0x754e => Mark::Nu,
+            0x6942 => Mark::Bi,
+            0x6c42 => Mark::Bl,
+            0x6c4e => Mark::Nl,
+            0x6552 => Mark::Re,
+            0x744a => Mark::Jt,
+            0x6449 => Mark::Id,
+            0x7241 => Mark::Ar,
+            0x624f => Mark::Ob,
+            0x7846 => Mark::Fx,
+            0x7843 => Mark::Cx,
+            0x7741 => Mark::Aw,
+            0x6554 => Mark::Te,
+            0x694d => Mark::Mi,
+            0x6143 => Mark::Ca,
+            0x654e => Mark::Ne,
+            0x624d => Mark::Mb,
+            0x6e42 => Mark::Bn,
+            0x634f => Mark::Oc,
+            0x6354 => Mark::Tc,
+            0x6e4e => Mark::Nn,
+            0x7250 => Mark::Pr,
+            0x7341 => Mark::As,
+            0x7354 => Mark::Ts,
+            0x6154 => Mark::Ta,
+            0x654f => Mark::Oe,
+            0x7053 => Mark::Sp,
+            0x764b => Mark::Kv,
+            0x6853 => Mark::Sh,
+            0x7150 => Mark::Pq,
+            0x7551 => Mark::Qu,
+            0x6d54 => Mark::Tm,
+            0x774b => Mark::Kw,
+            0x6c54 => Mark::Tl,
+            0x6652 => Mark::Rf,
+            0x6654 => Mark::Tf,
+            0x694c => Mark::Li,
+            0x7941 => Mark::Ay,
+            0x7554 => Mark::Tu,
+            0x7452 => Mark::Rt,
+            0x6f52 => Mark::Ro,
+            0x7446 => Mark::Ft,
+            0x7443 => Mark::Ct,
+            0x744f => Mark::Ot,
+            // end of what is printed
+            _ => return Err(UnknownMark(number)),
+        })
+    }
+}
+
+impl From<Mark> for u16 {
+    ghost from_gives = { λ mark r. r ≡ number_of mark };
+
+    fn from(mark: Mark) -> u16 {
+        match mark {
+            // printed by tools/grammar-tables: written
+            Mark::Mo => 0x6f4d,
+            Mark::Op => 0x704f,
+            Mark::No => 0x6f4e,
+            Mark::Im => 0x6d49,
+            Mark::St => 0x7453,
+            Mark::Ed => 0x6445,
+            Mark::Xd => 0x6458,
+            Mark::Xe => 0x6558,
+            Mark::Fd => 0x6446,
+            Mark::Cd => 0x6443,
+            Mark::Vd => 0x6456,
+            Mark::Us => 0x7355,
+            Mark::En => 0x6e45,
+            Mark::Ns => 0x734e,
+            Mark::In => 0x6e49,
+            Mark::Ty => 0x7954,
+            Mark::Vr => 0x7256,
+            Mark::Em => 0x6d45,
+            Mark::Nb => 0x624e,
+            Mark::Nd => 0x644e,
+            Mark::Fu => 0x7546,
+            Mark::Pa => 0x6150,
+            Mark::Pp => 0x7050,
+            Mark::Cl => 0x6c43,
+            Mark::Co => 0x6f43,
+            Mark::Me => 0x654d,
+            Mark::Cp => 0x7043,
+            Mark::Dm => 0x6d44,
+            Mark::Ix => 0x7849,
+            Mark::Ps => 0x7350,
+            Mark::Om => 0x6d4f,
+            Mark::Pb => 0x6250,
+            Mark::Po => 0x6f50,
+            Mark::Bd => 0x6442,
+            Mark::Ag => 0x6741,
+            Mark::Rs => 0x7352,
+            Mark::Pe => 0x6550,
+            Mark::Pi => 0x6950,
+            Mark::Ki => 0x694b,
+            Mark::Kc => 0x634b,
+            Mark::Ss => 0x7353,
+            Mark::Nu => 0x754e,
+            Mark::Bi => 0x6942,
+            Mark::Bl => 0x6c42,
+            Mark::Nl => 0x6c4e,
+            Mark::Re => 0x6552,
+            Mark::Jt => 0x744a,
+            Mark::Id => 0x6449,
+            Mark::Ar => 0x7241,
+            Mark::Ob => 0x624f,
+            Mark::Fx => 0x7846,
+            Mark::Cx => 0x7843,
+            Mark::Aw => 0x7741,
+            Mark::Te => 0x6554,
+            Mark::Mi => 0x694d,
+            Mark::Ca => 0x6143,
+            Mark::Ne => 0x654e,
+            Mark::Mb => 0x624d,
+            Mark::Bn => 0x6e42,
+            Mark::Oc => 0x634f,
+            Mark::Tc => 0x6354,
+            Mark::Nn => 0x6e4e,
+            Mark::Pr => 0x7250,
+            Mark::As => 0x7341,
+            Mark::Ts => 0x7354,
+            Mark::Ta => 0x6154,
+            Mark::Oe => 0x654f,
+            Mark::Sp => 0x7053,
+            Mark::Kv => 0x764b,
+            Mark::Sh => 0x6853,
+            Mark::Pq => 0x7150,
+            Mark::Qu => 0x7551,
+            Mark::Tm => 0x6d54,
+            Mark::Kw => 0x774b,
+            Mark::Tl => 0x6c54,
+            Mark::Rf => 0x6652,
+            Mark::Tf => 0x6654,
+            Mark::Li => 0x694c,
+            Mark::Ay => 0x7941,
+            Mark::Tu => 0x7554,
+            Mark::Rt => 0x7452,
+            Mark::Ro => 0x6f52,
+            Mark::Ft => 0x7446,
+            Mark::Ct => 0x7443,
+            Mark::Ot => 0x744f,
+            // end of what is printed
+        }
+    }
+}
 
 // "`d1` to `d5`", the marks of diagnostics: "the cases of `FastCheckDtsDiagnostic`, in order".
 pub const D1: u16 = 0x3164; // UnableToInferType

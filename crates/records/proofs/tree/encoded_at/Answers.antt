@@ -1,0 +1,11 @@
+use mathlib.Core.Path.{◌∙◌}
+use Rattle.definition.proofs.Children.{part_is}
+use Rattle.records.proofs.Accepted.{lies}
+use Rattle.records.proofs.Whole.{slice_bytes}
+use Rattle.records.proofs.tree.encoded_at.Goals as goal
+
+pub record_at-requires : goal.record_at-requires
+record_at-requires c = lies c.requires
+
+pub returns : goal.returns
+returns c = c.record_at.ensures ∙ part_is c.args.levels c.args.tree.now c.args.at c.requires (slice_bytes _ c.shared_slice_known-1.given)
