@@ -7,3 +7,4 @@ pub mod Puts
 mod SetFlags
 pub mod Accepted
 pub mod Views
+pub mod Writers

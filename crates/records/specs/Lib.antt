@@ -5,3 +5,4 @@ pub mod Texts
 pub mod Views
 pub mod Marks
 pub mod Reads
+pub mod Writers

@@ -17,6 +17,7 @@ pub mod made;
 pub mod marks;
 pub mod text;
 pub mod tree;
+pub mod writer;
 
 // "15-byte head"
 pub const HEAD_SIZE: usize = COUNT + 2;
