@@ -233,7 +233,7 @@ module _ (levels : ℕ) (s : List ℕ) (at : ℕ) (a : AcceptedAt levels s at) w
   at_least : (m : ℕ) → mark_at s at ≡ m → (n : ℕ) → least (slots_of m) ≡ n → n ≤ count_at s at
   at_least m e n l = let z : least (slots_of (mark_at s at)) ≡ n = rw e l in omega (arith, (itself levels s at a).enough, z)
 
-  has-least : (m : ℕ) → mark_at s at ≡ m → least_of m ≤ count_at s at
+  pub has-least : (m : ℕ) → mark_at s at ≡ m → least_of m ≤ count_at s at
   has-least m e = let z = least_in_lem least_table all_asked m in let k = at_least m e (least (slots_of m)) refl in omega arith
 
   apart : Accepted (levels - 1) s at a.slots a.past

@@ -7,4 +7,5 @@ pub mod Puts
 mod SetFlags
 pub mod Accepted
 pub mod Views
+pub mod Records
 pub mod Writers

@@ -1,7 +1,8 @@
 -- What a Record and Records of the code are: the tree, or the trees, that stand there; and where a record's children stand.
-use Rattle.std.specs.Prelude.{◌≡◌, ◌-◌, ◌<◌, Option, MatchOption}
-use Rattle.definition.specs.Tree.{Rec, Recs, cons, count, body_at, end_at, read_all, tree_at}
-use Rattle.definition.specs.Record.{kids_of}
+use Rattle.std.specs.Prelude.{◌≡◌, ℕ, zero, suc, ◌+◌, ◌-◌, ◌<◌, Option, MatchOption}
+use Rattle.definition.specs.Tree.{Rec, Recs, nil, cons, count, body_at, end_at, read_all, tree_at}
+use Rattle.definition.specs.Children.{child_at}
+use Rattle.definition.specs.Record.{kids_of, kid}
 use Rattle.records.specs.declared.tree.Record.{Record}
 use Rattle.records.specs.declared.tree.Records.{Records}
 
@@ -40,3 +41,29 @@ pub record RestOf (k l : Records) : Type 0 where
 -- one step over them: none is left; or x is the first, and l are those behind it
 abbrev pub Step : Records → Option Record → Records → Type 0
 Step k found l = MatchOption found ((k.count ≡ 0) × (l ≡ k)) (λ x. (0 < k.count) × FirstOf k x × RestOf k l)
+
+-- the children from the number i on
+unfoldable pub behind : ℕ → Recs → Recs
+behind zero ks = ks
+behind (suc i) nil = nil
+behind (suc i) (cons k ks) = behind i ks
+
+-- k are the children of r from the number i on
+pub record From (r : Record) (i : ℕ) (k : Records) : Type 0 where
+  pub are : recs_of k ≡ behind i (kids_of (rec_of r))
+  pub many : k.count + i ≡ count (kids_of (rec_of r))
+  pub tree : k.tree ≡ r.tree
+  pub place : k.at ≡ child_at r.levels r.tree.now r.at i
+  pub behind_it : r.at < k.at
+  pub levels : k.levels ≡ r.levels - 1
+  pub left : 0 < r.levels
+
+-- x is the child of r with the number i
+pub record ChildIs (r : Record) (i : ℕ) (x : Record) : Type 0 where
+  pub is : rec_of x ≡ kid i (kids_of (rec_of r))
+  pub there : i < count (kids_of (rec_of r))
+  pub tree : x.tree ≡ r.tree
+  pub place : x.at ≡ child_at r.levels r.tree.now r.at i
+  pub behind_it : r.at < x.at
+  pub levels : x.levels ≡ r.levels - 1
+  pub left : 0 < r.levels
