@@ -8,4 +8,5 @@ mod SetFlags
 pub mod Accepted
 pub mod Views
 pub mod Records
+pub mod Iterates
 pub mod Writers
