@@ -75,7 +75,7 @@ module _ (P : Rec → Bool) (F : Recs → Bool) where
 pub all_of : (P : Rec → Bool) (C : Recs → Bool) → C nil ≡ true → ((r : Rec) (rs : Recs) → C (cons r rs) ≡ (P r && C rs))
     → {F : Type 0} {g : Mut F (Record × Unit {0}) Bool} {k : Records} {u : Records} {f : F} {b : Bool}
     → (xs : List Record) × (o : Option Record) × (j : F) × YieldsThen Step k xs o u × FoldsTo (λ p x q. Called g p (x, tt) true q) f xs j
-        × MatchOption o (b ≡ true) (λ x. (b ≡ false) × ((h : F) × Called g j (x, tt) false h))
+    × MatchOption o (b ≡ true) (λ x. (b ≡ false) × ((h : F) × Called g j (x, tt) false h))
     → ((x : Record) (q : F) → Called g f (x, tt) true q → (q ≡ f) × (P (rec_of x) ≡ true))
     → ((x : Record) (q : F) → Called g f (x, tt) false q → P (rec_of x) ≡ false)
     → b ≡ C (recs_of k)
@@ -90,7 +90,7 @@ all_of P C z s {k = k} {u = u} {f = f} {b = b} ran on off =
 pub any_of : (P : Rec → Bool) (C : Recs → Bool) → C nil ≡ false → ((r : Rec) (rs : Recs) → C (cons r rs) ≡ (P r || C rs))
     → {F : Type 0} {g : Mut F (Record × Unit {0}) Bool} {k : Records} {u : Records} {f : F} {b : Bool}
     → (xs : List Record) × (o : Option Record) × (j : F) × YieldsThen Step k xs o u × FoldsTo (λ p x q. Called g p (x, tt) false q) f xs j
-        × MatchOption o (b ≡ false) (λ x. (b ≡ true) × ((h : F) × Called g j (x, tt) true h))
+    × MatchOption o (b ≡ false) (λ x. (b ≡ true) × ((h : F) × Called g j (x, tt) true h))
     → ((x : Record) (q : F) → Called g f (x, tt) true q → P (rec_of x) ≡ true)
     → ((x : Record) (q : F) → Called g f (x, tt) false q → (q ≡ f) × (P (rec_of x) ≡ false))
     → b ≡ C (recs_of k)

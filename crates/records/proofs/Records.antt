@@ -55,7 +55,7 @@ module _ {r : Record} {i : ℕ} {k : Records} (f : From r i k) (h : 0 < k.count)
   unfolding recs_of rec_of
   child_is {x} t =
       let e : recs_of k ≡ cons (rec_of x) (read_all (tree_at k.levels k.tree.now) (end_at k.levels k.tree.now) (k.count - 1) (end_at k.levels k.tree.now k.at)) =
-          rw (t.tree, t.place, t.levels) (read_all_more (tree_at k.levels k.tree.now) (end_at k.levels k.tree.now) k.count k.at h) in
+      rw (t.tree, t.place, t.levels) (read_all_more (tree_at k.levels k.tree.now) (end_at k.levels k.tree.now) k.count k.at h) in
       record {
         is = sym (behind-cons i (kids_of (rec_of r)) (sym f.are ∙ e)).0;
         there = omega (arith, f.many, h);
@@ -70,7 +70,7 @@ module _ {r : Record} {i : ℕ} {k : Records} (f : From r i k) (h : 0 < k.count)
   unfolding recs_of
   from_rest {l} t =
       let e : recs_of k ≡ cons (tree_at k.levels k.tree.now k.at) (recs_of l) =
-          rw (t.tree, t.place, t.levels, t.many) (read_all_more (tree_at k.levels k.tree.now) (end_at k.levels k.tree.now) k.count k.at h) in
+      rw (t.tree, t.place, t.levels, t.many) (read_all_more (tree_at k.levels k.tree.now) (end_at k.levels k.tree.now) k.count k.at h) in
       record {
         are = sym (behind-cons i (kids_of (rec_of r)) (sym f.are ∙ e)).1;
         many = omega (arith, f.many, h, t.many);

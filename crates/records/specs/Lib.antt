@@ -6,3 +6,4 @@ pub mod Views
 pub mod Marks
 pub mod Reads
 pub mod Writers
+pub mod Diagnostics

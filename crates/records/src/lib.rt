@@ -12,6 +12,7 @@ ghost use Rattle.records.specs.Wrote.{sat, Put};
 
 use crate::flags::Flags;
 
+pub mod diagnostics;
 pub mod flags;
 pub mod made;
 pub mod marks;
