@@ -24,6 +24,7 @@ use records::marks::{KI, KW, MB, OP, QU, RF, RO, RT, SP, SS, TF, TL, TM};
 use records::{DUMMY_SP, Range};
 
 pub mod literals;
+pub mod types;
 
 // The keywords of `TsKeywordTypeKind` that types are made of.
 #[derive(Clone, Copy)]

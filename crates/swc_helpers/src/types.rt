@@ -1,22 +1,15 @@
 // Small types, as the functions of swc_helpers.rs make them. Each is written where a Writer stands. One that makes a record around a type which is
 // typed later writes what stands before that type.
 ghost use Rattle.std.specs.Prelude.{◌≡◌};
-ghost use Rattle.std.proofs.Math.Option.{some};
 ghost use Rattle.definition.specs.Tree.{encode};
-ghost use Rattle.definition.specs.Grammar.{mark};
-ghost use Rattle.definition.specs.Record.{kids_of, mark_of};
-ghost use Rattle.definition.specs.Helpers.{any_type_ann, ts_keyword_type, type_ref, reference_to, ts_lit_type, regex_type, ts_type_query, tpl_to_ts_type, no_exprs, lit_kind, maybe_lit_to_ts_type};
-ghost use Rattle.definition.specs.Typing.{minus_by};
+ghost use Rattle.definition.specs.Record.{text};
+ghost use Rattle.definition.specs.Helpers.{any_type_ann, ts_keyword_type, type_ref, reference_to, ts_lit_type, regex_type, ts_type_query};
 ghost use Rattle.records.specs.Fields.{span};
 ghost use Rattle.records.specs.Views.{rec_of};
 ghost use Rattle.records.specs.Writers.{Writes};
 ghost use Rattle.swc_helpers.specs.Made.{keyword, ts_readonly_front, ts_tuple_element_front, ts_rest_type_front};
-ghost use Rattle.swc_helpers.specs.Found.{is_const};
-ghost use Rattle.swc_helpers.specs.Maybe.{MakesType, is_object_freeze_of, FreezeArg, FirstCooked};
 
-use crate::{DeclMutabilityKind, TsKeywordTypeKind};
-use records::flags::COOKED;
-use records::flags::has_flag;
+use crate::TsKeywordTypeKind;
 use records::marks::Mark;
 use records::tree::Record;
 use records::writer::Writer;
@@ -24,7 +17,7 @@ use records::{DUMMY_SP, Range};
 
 impl TsKeywordTypeKind {
     // The keyword as it is written.
-    fn text(self) -> &'static [u8]
+    fn spelled(self) -> &'static [u8]
         ensures { result.now ≡ text (keyword self) }
     {
         match self {
@@ -43,7 +36,7 @@ impl TsKeywordTypeKind {
 pub fn ts_keyword_type(w: &mut Writer, range: Range, kind: TsKeywordTypeKind)
     ensures { Writes w.old w.new (encode (ts_keyword_type (span range) (keyword kind))) }
 {
-    w.put_made_leaf(Mark::Kw, range, kind.text());
+    w.put_made_leaf(Mark::Kw, range, kind.spelled());
 }
 
 // `any_type_ann`.

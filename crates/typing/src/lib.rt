@@ -24,6 +24,7 @@ use swc_helpers::{Found, MaybeType};
 
 mod leaves;
 mod made;
+pub mod output;
 mod params;
 mod readonly;
 
