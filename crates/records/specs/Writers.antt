@@ -13,3 +13,10 @@ pub record Skips (w w' : Writer) (n : ℕ) : Type 0 where
   pub buffer : w'.out.ghost_name ≡ w.out.ghost_name
   pub same : w'.out.now ≡ w.out.now
   pub position : w'.at ≡ sat w.at n
+
+-- E was written at an earlier position, and the writer stands where it stood
+pub record Fronts (w w' : Writer) (at : ℕ) (E : List ℕ) : Type 0 where
+  pub buffer : w'.out.ghost_name ≡ w.out.ghost_name
+  pub position : w'.at ≡ w.at
+  pub behind : ℕ
+  pub put : Put w.out.now w'.out.now at E behind

@@ -5,12 +5,14 @@ ghost use Rattle.std.specs.Prelude.{◌≡◌, ◌+◌, ◌<◌, ◌≤◌, leng
 ghost use Rattle.std.proofs.lemmas.List.Edits.{sets};
 ghost use Rattle.definition.specs.Tree.{head_size, le2, u16_at, u32_at, mark_at, flags_at, count_at, body_at, text_at, end_at};
 ghost use Rattle.definition.specs.Record.{diag_bytes};
-ghost use Rattle.records.specs.Fields.{fields_at, field_bytes, range_at, diag_of};
+ghost use Rattle.records.specs.Marks.{number_of};
+ghost use Rattle.records.specs.Fields.{made_fields, fields_at, field_bytes, range_at, diag_of};
 ghost use Rattle.records.specs.Texts.{FourBytes};
 ghost use Rattle.records.specs.Whole.{Whole, part_at};
 ghost use Rattle.records.specs.Wrote.{sat, Put};
 
 use crate::flags::Flags;
+use crate::marks::Mark;
 
 pub mod diagnostics;
 pub mod flags;
@@ -216,6 +218,20 @@ fn two_bytes(v: usize) -> [u8; 2]
 }
 
 impl Head {
+    // The head of a record that is made, with a text of a length and children of a number.
+    pub fn made(mark: Mark, flags: Flags, range: Range, text: usize, count: usize) -> Head
+        ensures { result ≡ made_fields (number_of mark) flags range text count }
+    {
+        Head {
+            mark: u16::from(mark),
+            flags,
+            start: range.start,
+            end: range.end,
+            text,
+            count,
+        }
+    }
+
     // "mark (two ASCII letters), flags (1 byte), start and end (4 each), text length (2), child count (2)".
     pub fn bytes(self) -> [u8; HEAD_SIZE]
         ensures { result ≡ field_bytes self }

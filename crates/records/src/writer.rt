@@ -7,7 +7,7 @@ ghost use Rattle.definition.specs.Record.{absent, ident};
 ghost use Rattle.records.specs.Fields.{field_bytes, span, made_head, made_fields};
 ghost use Rattle.records.specs.Marks.{number_of};
 ghost use Rattle.records.specs.Views.{rec_of};
-ghost use Rattle.records.specs.Writers.{Writes, Skips};
+ghost use Rattle.records.specs.Writers.{Writes, Skips, Fronts};
 
 use crate::flags::Flags;
 use crate::marks::Mark;
@@ -61,14 +61,7 @@ impl<'o> Writer<'o> {
     pub fn put_made(&mut self, mark: Mark, flags: Flags, range: Range, text: usize, count: usize)
         ensures { Writes self.old self.new (field_bytes (made_fields (number_of mark) flags range text count)) }
     {
-        self.put_head(Head {
-            mark: u16::from(mark),
-            flags,
-            start: range.start,
-            end: range.end,
-            text,
-            count,
-        });
+        self.put_head(Head::made(mark, flags, range, text, count));
     }
 
     // The same of a record without text, in front of its children.
@@ -108,5 +101,13 @@ impl<'o> Writer<'o> {
     {
         self.put_ident_front(range, name.len());
         self.put(name);
+    }
+
+    // A head and its text in front of what was written behind the room for them; the writer stays where it is.
+    pub fn put_front_at(&mut self, at: usize, head: Head, text: &[u8])
+        ensures { Fronts self.old self.new at (field_bytes head ++ text.now) }
+    {
+        let end = put_text(self.out, at, &head.bytes());
+        put_text(self.out, end, text);
     }
 }

@@ -1,18 +1,22 @@
 -- What was done to an Output that was lent: to its two buffers, its positions, its name counter, and whether the texts that were written fit.
-use Rattle.std.specs.Prelude.{◌≡◌, ℕ, List, [], ◌∷◌, Bool, true, ◌&&◌, Option as Maybe, Some, None}
+use Rattle.std.specs.Prelude.{◌≡◌, ℕ, ◌+◌, ◌≤◌, List, [], ◌∷◌, Bool, true, ◌&&◌, Option as Maybe, Some, None}
 use Rattle.std.specs.Borrow.{MutBor}
 use Rattle.std.proofs.Math.Option.{Option, none, some}
 use Rattle.definition.specs.Tree.{Rec, Recs, nil, count, encode, encodes}
-use Rattle.definition.specs.Record.{dummy_sp, one, given, Diag, diag_bytes, Out}
+use Rattle.definition.specs.Record.{Range, dummy_sp, one, given, Diag, diag_bytes, Out}
+use Rattle.definition.specs.Names.{gen_unique_name}
 use Rattle.definition.specs.Helpers.{any_type_ann}
 use Rattle.definition.specs.Transform.{texts_fit, all_texts_fit}
 use Rattle.records.specs.declared.writer.Writer.{Writer}
 use Rattle.records.specs.Writers.{Writes}
+use Rattle.records.specs.Wrote.{sat, Put}
 use Rattle.typing.specs.declared.State.{State}
 use Rattle.typing.specs.declared.output.Output.{Output}
 use Rattle.typing.specs.declared.output.Begun.{Begun}
 use Rattle.typing.specs.Did.{Step, bytes_of, fit_of}
 use Rattle.typing.specs.Below.{bytes_of_all, fit_of_all}
+use Rattle.typing.specs.Moved.{Moved}
+use Rattle.typing.specs.Parts.{binding_front, unique_front, longest_front}
 
 -- where it stands
 abbrev pub state_of : Output → State
@@ -52,6 +56,26 @@ Returns x b y = y ≡ back_to x b
 pub record Filled (x y : Output) (made : Maybe (Unit {0})) (e : Diag) : Type 0 where
   pub typed : made ≡ Some tt → y ≡ x
   pub any : made ≡ None → Did x y (encode (any_type_ann dummy_sp)) (e ∷ []) x.names.id_counter true
+
+-- only E was written, where the output stood; f says whether its texts fit
+abbrev pub Puts : Output → Output → List ℕ → Bool → Type 0
+Puts x y E f = Did x y E [] x.names.id_counter f
+
+-- a parameter with a generated name was written around a type: the type stood behind `room` bytes for the name from `at` on, and went up by what the
+-- name that the counter gives now is longer
+pub record IsUnnamed (x y : Output) (at room : ℕ) (range : Range) : Type 0 where
+  pub out : y.out.out.ghost_name ≡ x.out.out.ghost_name
+  pub diagnostics : y.diagnostics ≡ x.diagnostics
+  pub between : List ℕ
+  pub behind : ℕ
+  pub by : ℕ
+  pub short : unique_front (x.names.id_counter + 1) ≤ longest_front
+  pub size : room + by ≡ unique_front (x.names.id_counter + 1)
+  pub moved : Moved x.out.out.now between (sat at room) x.out.at by
+  pub put : Put between y.out.out.now at (binding_front range (gen_unique_name (x.names.id_counter + 1))) behind
+  pub position : y.out.at ≡ sat x.out.at by
+  pub counter : y.names.id_counter ≡ x.names.id_counter + 1
+  pub fits : y.fits ≡ x.fits
 
 -- ---- what the definition gives
 
