@@ -35,9 +35,7 @@ fn with_names(
     requires tree_len_bound_2 { length tree.now < farthest }
     ensures { result ≡ table_of (placed list.now unresolved (tree_at deepest tree.now 0)) }
 {
-    let found = prescan::index(tree, names);
-    let from = found.from;
-    let end = from + found.count;
+    let index = prescan::index(tree, names);
     let first = records::body_at(tree, 0);
     let n = records::count_at(tree, 0);
     let scope = Scope { unresolved };
@@ -54,7 +52,7 @@ fn with_names(
         n,
         DEEPEST - 1,
         0,
-        &names[from..end],
+        index,
         scope,
         list,
         true,

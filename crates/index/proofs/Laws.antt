@@ -1,22 +1,27 @@
 -- The laws of the index: the order of texts, the search by halving, and a name that is entered.
-use mathlib.Core.Path.{◌≡◌, refl, sym, ap, ◌∙◌, subst}
-use mathlib.Core.List.{List, [], ◌∷◌, ◌++◌, append-nil}
+use mathlib.Core.Path.{◌≡◌, refl, sym, ap, ◌∙◌}
+use mathlib.Core.List.{List, [], ◌∷◌}
 use mathlib.Core.Bool.{Bool, true, false, cond, ◌&&◌, ◌||◌}
-use mathlib.Core.Logic.{◌⊎◌, inl, inr, ⊎_elim}
-use Prim.Native.Nat.{ℕ, zero, suc, ◌+◌, ◌-◌, ◌*◌, ◌/◌, ◌%◌, ◌<◌, ◌≤◌}
-use native.Mathlib.Numerals.{add-one}
+use Prim.Native.Nat.{ℕ, ◌+◌, ◌-◌, ◌*◌, ◌/◌, ◌%◌, ◌<◌, ◌≤◌}
 use native.Mathlib.Omega.{arith}
 use lib.Dec.{eqb, ltb}
-use lib.ListN.{length, get_or, take, drop, set, length-set, drop_of_length-le, length-drop}
-use lib.Seq.{take_all, drop-cons, drop-drop, get_or-set_same, get_or-set_other, get_or-take, get_or-drop, length-take-le}
+use lib.ListN.{length, get_or, take, drop, set, length-set}
+use lib.Seq.{get_or-set_same, get_or-set_other, get_or-take, get_or-drop, length-take-le}
 use borrow.Author.Tests.{eq-eqb, ne_eqb, eqb-true, lt-ltb, le-ltb, ltb-true, ltb-false}
-use borrow.Rule.Slice.PartMut.{put_mid}
 use Rattle.definition.specs.Tree.{text_at, body_at}
 use Rattle.definition.specs.Record.{same_text}
 use Rattle.definition.specs.Prescan.{Question, Question.typeof_safe, Question.non_generic_class, Question.array_typed}
 use Rattle.definition.proofs.Tests.{by_eq}
-use Rattle.index.specs.declared.Entries.{Entries}
-use Rattle.index.specs.Index.{less_text, name_at, bit_of, pick, entry_of, joined_of, Sorted, Answers, Lower, name_is, Raised, Lowered, Inserted, Enters, entries_of}
+use mir.Val.{bool_byte}
+use Rattle.index.specs.Index.{less_text, name_at, bit_of, pick, entry_of, joined_of, Sorted, Answers, Lower, name_is, Found, Inserted, Enters}
+use Rattle.std.specs.Prelude.{Result, Ok, Err}
+use Rattle.std.proofs.Common.{Ordering, Less, Equal, Greater}
+use Rattle.std.specs.Ordering.{MatchOrdering, nat_cmp, is_lt, ordering_reverse}
+use Rattle.std.specs.Cmp.Lexicographic.{slice_cmp}
+use Rattle.std.specs.FinMap.{slice_cmp-IsAntisymmetric, nat_cmp-IsAntisymmetric}
+use Rattle.std.proofs.lemmas.List.{drop-set-add}
+use Rattle.std.proofs.lemmas.Cmp.{same_from_slice_cmp, nat_list_cmp_total, tied_itself}
+use Rattle.std.proofs.lemmas.Bool.Decides.{nat_tests}
 
 -- ---- plain facts
 
@@ -30,6 +35,14 @@ by_lt {P} j k y n = go (ltb j k) refl
     go : (b : Bool) → ltb j k ≡ b → P
     go true e = y (ltb-true j k e)
     go false e = n (ltb-false j k e)
+
+and_false : (b : Bool) → (b && false) ≡ false
+and_false true = refl
+and_false false = refl
+
+or_false : (b : Bool) → (b || false) ≡ b
+or_false true = refl
+or_false false = refl
 
 -- ---- equal texts
 
@@ -56,79 +69,50 @@ differs {a} {b} n = go (same_text a b) refl
     go true e = absurd (n (same_eq a b e))
     go false e = refl
 
--- ---- the order of texts
+-- ---- the order of texts, which is that of slices
+
+less_is : (a b : List ℕ) (o : Ordering) → o ≡ slice_cmp nat_cmp a b → is_lt o ≡ less_text a b
+unfolding less_text
+less_is = same_from_slice_cmp nat_cmp is_lt less_text refl (λ _ _. refl) (λ _ _. refl) (λ x y xs ys o h. grind (arith, nat_tests))
+
+-- what an answer of `cmp` says of two texts
+pub ordered : (a b : List ℕ) (o : Ordering) → o ≡ slice_cmp nat_cmp a b → MatchOrdering o (less_text a b ≡ true) (a ≡ b) (less_text b a ≡ true)
+ordered a b Less e = sym (less_is a b Less e)
+ordered a b Equal e = slice_cmp-IsAntisymmetric nat_cmp-IsAntisymmetric a b (sym e)
+ordered a b Greater e = sym (less_is b a Less (sym (nat_list_cmp_total.antisymm b a ∙ ap ordering_reverse (sym e))))
+
+is_less : (a b : List ℕ) → less_text a b ≡ true → slice_cmp nat_cmp a b ≡ Less
+is_less a b p = go (slice_cmp nat_cmp a b) (less_is a b (slice_cmp nat_cmp a b) refl ∙ p)
+  where
+    go : (o : Ordering) → is_lt o ≡ true → o ≡ Less
+    go Less e = refl
+    go Equal e = never e refl
+    go Greater e = never e refl
 
 pub less_irrefl : (a : List ℕ) → less_text a a ≡ false
-unfolding less_text
-less_irrefl [] = refl
-less_irrefl (x ∷ xs) = rw (eq-eqb x x refl) (less_irrefl xs)
-
-less-first : (x y : ℕ) (xs ys : List ℕ) → x < y → less_text (x ∷ xs) (y ∷ ys) ≡ true
-unfolding less_text
-less-first x y xs ys h = rw (ne_eqb x y (λ e. omega arith)) (lt-ltb x y h)
-
-less-later : (x y : ℕ) (xs ys : List ℕ) → x ≡ y → less_text (x ∷ xs) (y ∷ ys) ≡ less_text xs ys
-unfolding less_text
-less-later x y xs ys e = rw (eq-eqb x y e)
-
-less_other : (x y : ℕ) (xs ys : List ℕ) → (x ≡ y → ⊥) → less_text (x ∷ xs) (y ∷ ys) ≡ ltb x y
-unfolding less_text
-less_other x y xs ys n = rw (ne_eqb x y n)
-
--- the first bytes rise, or they are equal and the others rise
-firsts : (x y : ℕ) (xs ys : List ℕ) → less_text (x ∷ xs) (y ∷ ys) ≡ true → (x < y) ⊎ ((x ≡ y) × (less_text xs ys ≡ true))
-firsts x y xs ys p =
-    by_eq x y (λ e. inr (e, sym (less-later x y xs ys e) ∙ p)) (λ n. inl (ltb-true x y (sym (less_other x y xs ys n) ∙ p)))
+less_irrefl a = sym (less_is a a Equal (sym (tied_itself nat_list_cmp_total a)))
 
 pub less_trans : (a b c : List ℕ) → less_text a b ≡ true → less_text b c ≡ true → less_text a c ≡ true
-unfolding less_text
-less_trans [] [] c p q = never p refl
-less_trans [] (y ∷ ys) [] p q = never q refl
-less_trans [] (y ∷ ys) (z ∷ zs) p q = refl
-less_trans (x ∷ xs) [] c p q = never p refl
-less_trans (x ∷ xs) (y ∷ ys) [] p q = never q refl
-less_trans (x ∷ xs) (y ∷ ys) (z ∷ zs) p q =
-    ⊎_elim
-    (λ (h : x < y). ⊎_elim (λ (k : y < z). less-first x z xs zs (omega arith)) (λ (k : (y ≡ z) × (less_text ys zs ≡ true)). less-first x z xs zs (omega arith)) (firsts y z ys zs q))
-    (λ (h : (x ≡ y) × (less_text xs ys ≡ true)). ⊎_elim (λ (k : y < z). less-first x z xs zs (omega arith)) (λ (k : (y ≡ z) × (less_text ys zs ≡ true)). less-later x z xs zs (h.0 ∙ k.0) ∙ less_trans xs ys zs h.1 k.1) (firsts y z ys zs q))
-    (firsts x y xs ys p)
+less_trans a b c p q = sym (less_is a c Less (sym (nat_list_cmp_total.trans a b c (is_less a b p) (is_less b c q))))
 
 pub less-total : (a b : List ℕ) → less_text a b ≡ false → (a ≡ b → ⊥) → less_text b a ≡ true
-unfolding less_text
-less-total [] [] p n = absurd (n refl)
-less-total [] (y ∷ ys) p n = never refl p
-less-total (x ∷ xs) [] p n = refl
-less-total (x ∷ xs) (y ∷ ys) p n =
-    by_eq x y
-    (λ (e : x ≡ y). less-later y x ys xs (sym e) ∙ less-total xs ys (sym (less-later x y xs ys e) ∙ p) (λ f. n (cc)))
-    (λ (d : x ≡ y → ⊥). by_lt x y (λ h. never (less-first x y xs ys h) p) (λ h. less-first y x ys xs (by_eq y x (λ e. absurd (d (sym e))) (λ f. omega arith))))
+less-total a b p n = go (slice_cmp nat_cmp a b) (ordered a b (slice_cmp nat_cmp a b) refl)
+  where
+    go : (o : Ordering) → MatchOrdering o (less_text a b ≡ true) (a ≡ b) (less_text b a ≡ true) → less_text b a ≡ true
+    go Less e = never e p
+    go Equal e = absurd (n e)
+    go Greater e = e
 
--- a text before another is another
+-- a text before another is another, which is not before it
 pub less-differs : {a b : List ℕ} → less_text a b ≡ true → a ≡ b → ⊥
 less-differs {a} {b} p e = never p (sym (ap (less_text a) e) ∙ less_irrefl a)
 
--- as a loop that compares two texts byte by byte meets it
-module _ (a b : List ℕ) (i : ℕ) (h : i < length a) where
-  pub less-short : length b ≤ i → less_text (drop i a) (drop i b) ≡ false
-  unfolding less_text
-  less-short k = rw (drop-cons a i 0 h, drop_of_length-le b k)
-
-  module _ (k : i < length b) where
-    pub less-on : get_or a i 0 ≡ get_or b i 0 → less_text (drop i a) (drop i b) ≡ less_text (drop (i + 1) a) (drop (i + 1) b)
-    unfolding less_text
-    less-on e = rw (add-one i, drop-cons a i 0 h, drop-cons b i 0 k, eq-eqb _ _ e)
-
-    pub less_off : (get_or a i 0 ≡ get_or b i 0 → ⊥) → less_text (drop i a) (drop i b) ≡ ltb (get_or a i 0) (get_or b i 0)
-    unfolding less_text
-    less_off n = rw (drop-cons a i 0 h, drop-cons b i 0 k, ne_eqb _ _ n)
-
-pub less-end : (a b : List ℕ) (i : ℕ) → length a ≤ i → i ≤ length b → less_text (drop i a) (drop i b) ≡ ltb i (length b)
-unfolding less_text
-less-end a b i h k =
-    rw (drop_of_length-le a h)
-    (by_lt i (length b)
-    (λ (l : i < length b). rw (drop-cons b i 0 l) (sym (lt-ltb i (length b) l)))
-    (λ (l : length b ≤ i). rw (drop_of_length-le b l) (sym (le-ltb i (length b) l))))
+less-one_way : (a b : List ℕ) → less_text a b ≡ true → less_text b a ≡ false
+less-one_way a b p = go (less_text b a) refl
+  where
+    go : (r : Bool) → less_text b a ≡ r → r ≡ false
+    go true q = never (less_trans a b a p q) (less_irrefl a)
+    go false q = refl
 
 -- ---- the search by halving
 
@@ -136,19 +120,40 @@ pub record Halving (s a : List ℕ) (n : ℕ) (t : List ℕ) (low high : ℕ) : 
   pub range : low ≤ high
   pub within : high ≤ n
   pub before : (k : ℕ) → k < low → less_text (name_at s (get_or a k 0)) t ≡ true
-  pub after : (k : ℕ) → high ≤ k → k < n → less_text (name_at s (get_or a k 0)) t ≡ false
+  pub after : (k : ℕ) → high ≤ k → k < n → less_text t (name_at s (get_or a k 0)) ≡ true
 
 pub halving_start : (s a : List ℕ) (n : ℕ) (t : List ℕ) → Halving s a n t 0 n
 halving_start s a n t = record { range = omega arith; within = omega arith; before = λ k h. absurd (omega arith); after = λ k h l. absurd (omega arith) }
 
 module _ {s a : List ℕ} {n : ℕ} {t : List ℕ} {low high : ℕ} (i : Halving s a n t low high) where
-  pub halving_done : high ≤ low → Lower s a n t low
+  -- no entry has the name
+  pub halving_done : high ≤ low → Lower s a n t low × (name_is s a n low t ≡ false)
+  unfolding name_is
   halving_done h =
       let r = i.range in
-      let w = i.within in
-      record { within = omega arith; before = i.before; after = λ k l m. i.after k (omega arith) m }
+      let w = i.within in (
+        record { within = omega arith; before = i.before; after = λ k l m. less-one_way _ _ (i.after k (omega arith) m) },
+        by_lt low n
+            (λ (l : low < n). rw (differs (λ e. less-differs (i.after low (omega arith) l) (sym e))) (and_false (ltb low n)))
+            (λ (l : n ≤ low). rw (le-ltb low n l)),
+      )
 
   module _ (o : Sorted s a n) {m : ℕ} (l : low ≤ m) (g : m < high) where
+    -- the entry at m has it
+    pub halving_here : name_at s (get_or a m 0) ≡ t → Lower s a n t m × (name_is s a n m t ≡ true)
+    unfolding name_is
+    halving_here e =
+        let w = i.within in (
+          record {
+            within = omega arith;
+            before = λ k h. rw (sym e) (o.rises k m h (omega arith));
+            after = λ k h j. rw (sym e) (by_eq m k
+                (λ (q : m ≡ k). rw q (less_irrefl _))
+                (λ (q : m ≡ k → ⊥). less-one_way _ _ (o.rises m k (by_lt m k (λ z. z) (λ z. absurd (q (omega arith)))) j)));
+          },
+          rw (lt-ltb m n (omega arith), e) (same_refl t),
+        )
+
     pub halving_up : less_text (name_at s (get_or a m 0)) t ≡ true → Halving s a n t (m + 1) high
     halving_up e =
         let w = i.within in
@@ -161,7 +166,7 @@ module _ {s a : List ℕ} {n : ℕ} {t : List ℕ} {low high : ℕ} (i : Halving
           after = i.after;
         }
 
-    pub halving_down : less_text (name_at s (get_or a m 0)) t ≡ false → Halving s a n t low m
+    pub halving_down : less_text t (name_at s (get_or a m 0)) ≡ true → Halving s a n t low m
     halving_down e =
         let w = i.within in
         record {
@@ -170,15 +175,8 @@ module _ {s a : List ℕ} {n : ℕ} {t : List ℕ} {low high : ℕ} (i : Halving
           before = i.before;
           after = λ k h j. by_eq k m
               (λ (q : k ≡ m). rw q e)
-              (λ (q : k ≡ m → ⊥). later k (by_lt m k (λ z. z) (λ z. absurd (q (omega arith)))) j);
+              (λ (q : k ≡ m → ⊥). less_trans t (name_at s (get_or a m 0)) _ e (o.rises m k (by_lt m k (λ z. z) (λ z. absurd (q (omega arith)))) j));
         }
-      where
-        later : (k : ℕ) → m < k → k < n → less_text (name_at s (get_or a k 0)) t ≡ false
-        later k h j = go (less_text (name_at s (get_or a k 0)) t) refl
-          where
-            go : (b : Bool) → less_text (name_at s (get_or a k 0)) t ≡ b → b ≡ false
-            go true f = never (less_trans (name_at s (get_or a m 0)) (name_at s (get_or a k 0)) t (o.rises m k h j) f) e
-            go false f = refl
 
 -- ---- an entry
 
@@ -202,10 +200,18 @@ one-is : (b : Bool) (n : ℕ) → n ≡ one b → eqb n 1 ≡ b
 one-is true n e = eq-eqb n 1 e
 one-is false n e = ne_eqb n 1 (λ f. omega arith)
 
+one-byte : (b : Bool) → bool_byte b ≡ one b
+one-byte true = refl
+one-byte false = refl
+
 module _ (id : ℕ) (a b c : Bool) where
   digits : entry_of id a b c ≡ id * 8 + one a + 2 * one b + 4 * one c
   unfolding entry_of
   digits = rw (twice b, fourfold c)
+
+  -- as the code adds it up
+  pub entry_sum : {x y z : ℕ} → x ≡ bool_byte a → y ≡ bool_byte b → z ≡ bool_byte c → id * 8 + x + 2 * y + 4 * z ≡ entry_of id a b c
+  entry_sum p q r = rw (p, q, r, one-byte a, one-byte b, one-byte c) (sym digits)
 
   pub entry-id : entry_of id a b c / 8 ≡ id
   entry-id = omega (arith, digits, one-small a, one-small b, one-small c)
@@ -244,89 +250,7 @@ module _ {s a : List ℕ} {n : ℕ} {t : List ℕ} {p : ℕ} (w : Lower s a n t 
     pub miss : (F : Question → List ℕ → Bool) → Answers s a n F → name_is s a n p t ≡ false → (q : Question) → F q t ≡ false
     miss F g e q = g.missing t (miss-all e) q
 
--- ---- room for an entry
-
--- the entries from i on have moved up by one
-pub record Shifting (a b : List ℕ) (n p i : ℕ) : Type 0 where
-  pub same : length b ≡ length a
-  pub room : n < length a
-  pub low : p ≤ i
-  pub high : i ≤ n
-  pub below : (k : ℕ) → k < i → get_or b k 0 ≡ get_or a k 0
-  pub above : (k : ℕ) → i < k → k ≤ n → get_or b k 0 ≡ get_or a (k - 1) 0
-
-pub shifting_start : (a : List ℕ) (n p : ℕ) → n < length a → p ≤ n → Shifting a a n p n
-shifting_start a n p h l =
-    record { same = refl; room = h; low = l; high = omega arith; below = λ k g. refl; above = λ k g m. absurd (omega arith) }
-
-module _ {a b : List ℕ} {n p i : ℕ} (s : Shifting a b n p i) where
-  pub shifting_turn : p < i → Shifting a (set b i (get_or b (i - 1) 0)) n p (i - 1)
-  shifting_turn h = record {
-    same = length-set b i (get_or b (i - 1) 0) ∙ s.same;
-    room = s.room;
-    low = omega arith;
-    high = omega (arith, s.high);
-    below = λ k g. get_or-set_other b i k _ 0 (λ e. omega arith) ∙ s.below k (omega arith);
-    above = λ k g m. by_eq k i
-        (λ (q : k ≡ i). rw q (get_or-set_same b i (get_or b (i - 1) 0) 0 (omega (arith, s.same, s.room, s.high)) ∙ s.below (i - 1) (omega arith)))
-        (λ (q : k ≡ i → ⊥). get_or-set_other b i k _ 0 q ∙ s.above k (by_lt i k (λ z. z) (λ z. absurd (q (omega arith)))) m);
-  }
-
-  pub shifting_done : i ≤ p → Raised a b n p
-  shifting_done h = record {
-    same = s.same;
-    below = λ k g. s.below k (omega (arith, s.low));
-    above = λ k g m. s.above k (omega (arith, s.low)) m;
-  }
-
--- the first i have moved down by one
-pub record Lowering (a b : List ℕ) (p i : ℕ) : Type 0 where
-  pub same : length b ≡ length a
-  pub room : p < length a
-  pub high : i ≤ p
-  pub below : (k : ℕ) → k < i → get_or b k 0 ≡ get_or a (k + 1) 0
-  pub above : (k : ℕ) → i ≤ k → get_or b k 0 ≡ get_or a k 0
-
-pub lowering_start : (a : List ℕ) (p : ℕ) → p < length a → Lowering a a p 0
-lowering_start a p h = record { same = refl; room = h; high = omega arith; below = λ k g. absurd (omega arith); above = λ k g. refl }
-
-module _ {a b : List ℕ} {p i : ℕ} (s : Lowering a b p i) where
-  pub lowering_turn : i < p → Lowering a (set b i (get_or b (i + 1) 0)) p (i + 1)
-  lowering_turn h = record {
-    same = length-set b i (get_or b (i + 1) 0) ∙ s.same;
-    room = s.room;
-    high = omega arith;
-    below = λ k g. by_eq k i
-        (λ (q : k ≡ i). rw q (get_or-set_same b i (get_or b (i + 1) 0) 0 (omega (arith, s.same, s.room)) ∙ s.above (i + 1) (omega arith)))
-        (λ (q : k ≡ i → ⊥). get_or-set_other b i k _ 0 q ∙ s.below k (by_lt k i (λ z. z) (λ z. absurd (q (omega arith)))));
-    above = λ k g. get_or-set_other b i k _ 0 (λ e. omega arith) ∙ s.above k (omega arith);
-  }
-
-  pub lowering_done : p ≤ i → Lowered a b p
-  lowering_done h = record { same = s.same; below = λ k g. s.below k (omega arith); above = λ k g. s.above k (omega (arith, s.high)) }
-
--- a new entry in that room
-pub inserted_above : {a c : List ℕ} {n p : ℕ} (v : ℕ) → n < length a → p ≤ n → Raised a c n p → Inserted a (set c p v) n p v
-inserted_above {a} {c} {n} {p} v h l d = record {
-  room = omega (arith, length-set c p v, d.same);
-  below = λ k g. get_or-set_other c p k _ 0 (λ q. omega arith) ∙ d.below k g;
-  here = get_or-set_same c p v 0 (omega (arith, d.same));
-  above = λ k g m. get_or-set_other c p k _ 0 (λ q. omega arith) ∙ d.above k g m;
-}
-
-pub inserted_below : {a c : List ℕ} {n p : ℕ} (v : ℕ) → n < length a → p ≤ n → Lowered a c p → Inserted (drop 1 a) (set c p v) n p v
-inserted_below {a} {c} {n} {p} v h l d = record {
-  room = omega (arith, length-set c p v, d.same);
-  below = λ k g. get_or-set_other c p k _ 0 (λ q. omega arith) ∙ (d.below k g ∙ (let z : k + 1 ≡ 1 + k = omega arith in ap (λ (j : ℕ). get_or a j 0) z ∙ sym (get_or-drop 1 a k 0)));
-  here = get_or-set_same c p v 0 (omega (arith, d.same));
-  above = λ k g m. get_or-set_other c p k _ 0 (λ q. omega arith) ∙ (d.above k (omega arith) ∙ (let z : k ≡ 1 + (k - 1) = omega arith in ap (λ (j : ℕ). get_or a j 0) z ∙ sym (get_or-drop 1 a (k - 1) 0)));
-}
-
 -- ---- a name is entered
-
-or_false : (b : Bool) → (b || false) ≡ b
-or_false true = refl
-or_false false = refl
 
 -- what the name t adds
 abbrev Under : List ℕ → Bool → Bool → Bool → Question → List ℕ → Bool
@@ -394,6 +318,11 @@ module _ {s a : List ℕ} {n : ℕ} {t : List ℕ} {p : ℕ} (o : Sorted s a n) 
             rw (g.missing u (λ k h f. m k h (names k ∙ f)) q) (under_other x y z (λ f. m p (hit-within w e) (names p ∙ (hit-name w e ∙ f))) q);
       };
     }
+
+    -- in a list behind others
+    pub joins : (i : ℕ) (c d : List ℕ) → a ≡ drop i c → d ≡ set c (i + p) (joined_of (get_or c (i + p) 0) x y z) → Enters s a n (drop i d) n (Under t x y z)
+    joins i c d aq dq =
+        rw (dq, drop-set-add i c p (joined_of (get_or c (i + p) 0) x y z), sym (get_or-drop i c p 0), sym aq) join-enters
 
   -- no entry has it: a new one at its place
   module _ (e : name_is s a n p t ≡ false) (id : ℕ) (tq : t ≡ text_at s id) (lies : body_at s id ≤ length s) {f : List ℕ} (d : Inserted a f n p (entry_of id x y z)) where
@@ -524,43 +453,26 @@ module _ {s a : List ℕ} {n : ℕ} (o : Sorted s a n) where
     missing = λ t m q. g.missing t (λ k h e. m k (omega (arith, length-take-le n a o.room)) (rw (get_or-take n a k 0 h) e)) q;
   }
 
--- ---- the part of a table from an entry on, lent to a call
+-- what is found among them alone is found among all
+module _ {s a : List ℕ} {n : ℕ} (o : Sorted s a n) where
+  name-front : (t : List ℕ) (p : ℕ) → name_is s (take n a) (length (take n a)) p t ≡ name_is s a n p t
+  unfolding name_is
+  name-front t p =
+      rw (length-take-le n a o.room)
+      (by_lt p n
+      (λ (l : p < n). rw (get_or-take n a p 0 l))
+      (λ (l : n ≤ p). rw (le-ltb p n l)))
 
--- as the code lends it
-abbrev pub lent : List ℕ → ℕ → List ℕ
-lent a i = take (length a - i) (drop i a)
+  lower_front : {t : List ℕ} {p : ℕ} → Lower s (take n a) (length (take n a)) t p → Lower s a n t p
+  lower_front {t} {p} w =
+      let e : length (take n a) ≡ n = length-take-le n a o.room in
+      let h : p ≤ n = omega (arith, w.within) in
+      record {
+        within = h;
+        before = λ k l. let m : k < n = omega arith in rw (sym (get_or-take n a k 0 m)) (w.before k l);
+        after = λ k l m. rw (sym (get_or-take n a k 0 m)) (w.after k l (omega arith));
+      }
 
-pub lent_is : (i : ℕ) (a : List ℕ) → lent a i ≡ drop i a
-lent_is i a = take_all (length a - i) (drop i a) (omega (arith, length-drop i a))
-
-behind : (i : ℕ) (a b : List ℕ) → i ≤ length a → drop i (take i a ++ b) ≡ b
-behind zero a b h = refl
-behind (suc i) [] b h = absurd (omega arith)
-behind (suc i) (x ∷ xs) b h = behind i xs b (omega arith)
-
--- it is what the call has made of it
-back_is : (i : ℕ) (a b : List ℕ) → i ≤ length a → drop i (put_mid i (length a - i) a b) ≡ b
-back_is i a b h =
-    ap (λ (r : List ℕ). drop i (take i a ++ (b ++ r))) (drop_of_length-le (drop i a) {i = length a - i} (omega (arith, length-drop i a)))
-    ∙ (behind i a (b ++ []) h ∙ append-nil b)
-
--- a name t is entered at p among the entries of a table
-module _ (a : List ℕ) (e : Entries) {s t : List ℕ} {p : ℕ} (o : Sorted s (entries_of a e) e.count) (h : e.from ≤ length a) (w : Lower s (lent a e.from) e.count t p) (x y z : Bool) where
-  v : Lower s (entries_of a e) e.count t p
-  v = subst (λ (l : List ℕ). Lower s l e.count t p) (lent_is e.from a) w
-
-  pub joins : name_is s (lent a e.from) e.count p t ≡ true → {b : List ℕ} → b ≡ set (lent a e.from) p (joined_of (get_or (lent a e.from) p 0) x y z) →
-      Enters s (entries_of a e) e.count (entries_of (put_mid e.from (length a - e.from) a b) e) e.count (λ q u. same_text t u && pick q x y z)
-  joins n {b} f = rw (back_is e.from a b h, f, lent_is e.from a) (join-enters o v x y z (rw (lent_is e.from a) at n))
-
-  module _ (n : name_is s (lent a e.from) e.count p t ≡ false) (id : ℕ) (tq : t ≡ text_at s id) (lies : body_at s id ≤ length s) {new : ℕ} (newq : new ≡ entry_of id x y z) where
-    pub goes_above : {b : List ℕ} → Inserted (lent a e.from) b e.count p new →
-        Enters s (entries_of a e) e.count (drop e.from (put_mid e.from (length a - e.from) a b)) (e.count + 1) (λ q u. same_text t u && pick q x y z)
-    goes_above {b} i = rw (back_is e.from a b h) (new-enters o v x y z (rw (lent_is e.from a) at n) id tq lies (rw (lent_is e.from a, newq) at i))
-
-    pub goes-below : {b : List ℕ} → 0 < e.from → Inserted (drop 1 (lent a (e.from - 1))) b e.count p new →
-        Enters s (entries_of a e) e.count (drop (e.from - 1) (put_mid (e.from - 1) (length a - (e.from - 1)) a b)) (e.count + 1) (λ q u. same_text t u && pick q x y z)
-    goes-below {b} l i =
-        let r : e.from - 1 + 1 ≡ e.from = omega arith in
-        let d : drop 1 (lent a (e.from - 1)) ≡ entries_of a e = ap (drop 1) (lent_is (e.from - 1) a) ∙ (drop-drop 1 (e.from - 1) a ∙ ap (λ (j : ℕ). drop j a) r) in
-        rw (back_is (e.from - 1) a b (omega arith)) (new-enters o v x y z (rw (lent_is e.from a) at n) id tq lies (rw (d, newq) at i))
+  pub found_front : (t : List ℕ) (r : Result ℕ ℕ) → Found s (take n a) (length (take n a)) t r → Found s a n t r
+  found_front t (Ok p) f = (lower_front f.0, sym (name-front t p) ∙ f.1)
+  found_front t (Err p) f = (lower_front f.0, sym (name-front t p) ∙ f.1)

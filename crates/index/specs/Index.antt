@@ -1,8 +1,9 @@
 -- An index of names: a sorted list of entries, each the offset of an Id times eight and three bits, and what it answers.
-use Rattle.std.specs.Prelude.{◌≡◌, List, [], ◌∷◌, Bool, true, false, cond, ◌&&◌, ◌||◌, ℕ, ◌+◌, ◌-◌, ◌*◌, ◌/◌, ◌%◌, ◌<◌, ◌≤◌, eqb, ltb, length, get_or, drop}
+use Rattle.std.specs.Prelude.{◌≡◌, List, [], ◌∷◌, Bool, true, false, cond, ◌&&◌, ◌||◌, ℕ, ◌+◌, ◌-◌, ◌*◌, ◌/◌, ◌%◌, ◌<◌, ◌≤◌, eqb, ltb, length, get_or, drop, Result, MatchResult}
 use Rattle.definition.specs.Tree.{text_at, body_at}
 use Rattle.definition.specs.Record.{same_text}
-use Rattle.index.specs.declared.Entries.{Entries}
+use Rattle.index.specs.declared.Names.{Names}
+use Rattle.index.specs.declared.Sets.{Sets}
 use Rattle.definition.specs.Prescan.{Question, Question.typeof_safe, Question.non_generic_class, Question.array_typed}
 
 -- ---- the order of texts
@@ -35,6 +36,14 @@ pick typeof_safe a b c = a
 pick non_generic_class a b c = b
 pick array_typed a b c = c
 
+-- the sets of an entry
+abbrev pub sets_of : ℕ → Sets
+sets_of e = record { typeof_safe = bit_of typeof_safe e; non_generic_class = bit_of non_generic_class e; array_typed = bit_of array_typed e }
+
+-- whether the set that is asked for is among some sets
+abbrev pub has : Question → Sets → Bool
+has q s = pick q s.typeof_safe s.non_generic_class s.array_typed
+
 unfoldable pub entry_of : ℕ → Bool → Bool → Bool → ℕ
 entry_of id a b c = id * 8 + cond a 1 0 + cond b 2 0 + cond c 4 0
 
@@ -65,17 +74,10 @@ pub record Lower (s a : List ℕ) (n : ℕ) (t : List ℕ) (p : ℕ) : Type 0 wh
 unfoldable pub name_is : List ℕ → List ℕ → ℕ → ℕ → List ℕ → Bool
 name_is s a n p t = ltb p n && same_text (name_at s (get_or a p 0)) t
 
--- b is a with the entries from p on, of the first n, one place higher
-pub record Raised (a b : List ℕ) (n p : ℕ) : Type 0 where
-  pub same : length b ≡ length a
-  pub below : (k : ℕ) → k < p → get_or b k 0 ≡ get_or a k 0
-  pub above : (k : ℕ) → p < k → k ≤ n → get_or b k 0 ≡ get_or a (k - 1) 0
-
--- b is a with the p entries behind the first one place lower
-pub record Lowered (a b : List ℕ) (p : ℕ) : Type 0 where
-  pub same : length b ≡ length a
-  pub below : (k : ℕ) → k < p → get_or b k 0 ≡ get_or a (k + 1) 0
-  pub above : (k : ℕ) → p ≤ k → get_or b k 0 ≡ get_or a k 0
+-- the search for the text t among them: the place of the entry that has it, or of one that would
+abbrev pub Found : List ℕ → List ℕ → ℕ → List ℕ → Result ℕ ℕ → Type 0
+Found s a n t r =
+    MatchResult r (λ p. Lower s a n t p × (name_is s a n p t ≡ true)) (λ p. Lower s a n t p × (name_is s a n p t ≡ false))
 
 -- the first entries of b are the first n of a, and v at p
 pub record Inserted (a b : List ℕ) (n p v : ℕ) : Type 0 where
@@ -91,13 +93,13 @@ pub record Enters (s a : List ℕ) (n : ℕ) (b : List ℕ) (m : ℕ) (G : Quest
 
 -- ---- the entries of a table
 
--- those of e, from where they begin
-abbrev pub entries_of : List ℕ → Entries → List ℕ
-entries_of a e = drop e.from a
+-- from where they begin
+abbrev pub entries_of : Names → List ℕ
+entries_of n = drop n.from n.table.now
 
--- the entries r of the table b are those e of a, and at most one more, in front or behind
-pub record Grown (a : List ℕ) (e : Entries) (b : List ℕ) (r : Entries) : Type 0 where
-  pub same : length b ≡ length a
-  pub from : r.from ≤ e.from
-  pub to : e.from + e.count ≤ r.from + r.count
-  pub count : r.count ≤ e.count + 1
+-- the entries of b are those of a, and at most one more, in front or behind, in a table of the same length
+pub record Grown (a b : Names) : Type 0 where
+  pub same : length b.table.now ≡ length a.table.now
+  pub from : b.from ≤ a.from
+  pub to : a.from + a.count ≤ b.from + b.count
+  pub count : b.count ≤ a.count + 1

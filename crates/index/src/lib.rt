@@ -1,45 +1,59 @@
 // An index of names: offsets of Ids with three bits for each, sorted by the Ids' texts, found by halving.
 #![tactic(auto)]
 
-ghost use Rattle.std.specs.Prelude.{◌≡◌, ◌&&◌, ◌||◌, cond, ◌+◌, ◌*◌, ◌/◌, ◌%◌, ◌<◌, ◌≤◌, eqb, ltb, length, get_or, set, drop};
+ghost use Rattle.std.specs.Prelude.{◌≡◌, ◌&&◌, ◌||◌, ◌+◌, ◌/◌, ◌<◌, ◌≤◌, length, get_or, set, take};
 ghost use Rattle.definition.specs.Tree.{body_at, text_at};
 ghost use Rattle.definition.specs.Record.{same_text};
-ghost use Rattle.index.specs.Index.{farthest, less_text, name_at, pick, entry_of, joined_of, Sorted, Lower, Raised, Lowered, Inserted, Enters, entries_of, Grown, name_is};
+ghost use Rattle.definition.specs.Prescan.{Question};
+ghost use Rattle.index.specs.Index.{farthest, name_at, sets_of, has, entry_of, joined_of, Sorted, Found, Inserted, Enters, entries_of, Grown};
 
-use records::text::{same_front, same_text};
 use records::text_at;
+use std::cmp::Ordering;
 
-// An entry is the offset of an Id times BITS and a bit for each set of `PrescannedModuleIds` that has its name.
-pub const TYPEOF_SAFE: u32 = 1;
-
-pub const NON_GENERIC_CLASS: u32 = 2;
-
-pub const ARRAY_TYPED: u32 = 4;
-
-const BITS: u32 = 8;
-
-// The entries of a table: where they begin, and how many they are.
-#[derive(Clone, Copy)]
-pub struct Entries {
-    pub from: usize,
-    pub count: usize,
+// The sets of `PrescannedModuleIds` that have a name.
+#[derive(Clone, Copy, Default)]
+pub struct Sets {
+    pub typeof_safe: bool,
+    pub non_generic_class: bool,
+    pub array_typed: bool,
 }
 
-// Whether a text stands before another: the first byte that differs says so, and of two texts one of which begins with the other the shorter is first.
-fn less_text(a: &[u8], b: &[u8]) -> bool
-    ensures { result ≡ less_text a.now b.now }
-{
-    let mut i = same_front(a, b);
-    while i < a.len() {
-        if b.len() <= i {
-            return false;
+// An entry is the offset of an Id times BITS and a bit for each set that has its name: one number, so that a table takes little of the stack.
+const BITS: u32 = 8;
+
+impl Sets {
+    // The sets of an entry.
+    pub fn of(entry: u32) -> Sets
+        ensures { result ≡ sets_of entry }
+    {
+        Sets {
+            typeof_safe: entry % 2 == 1,
+            non_generic_class: entry / 2 % 2 == 1,
+            array_typed: entry / 4 % 2 == 1,
         }
-        if a[i] != b[i] {
-            return a[i] < b[i];
-        }
-        i += 1;
     }
-    i < b.len()
+
+    // These sets and others.
+    fn union(self, other: Sets) -> Sets
+        ensures { (q : Question) → has q result ≡ (has q self || has q other) }
+    {
+        Sets {
+            typeof_safe: self.typeof_safe || other.typeof_safe,
+            non_generic_class: self.non_generic_class || other.non_generic_class,
+            array_typed: self.array_typed || other.array_typed,
+        }
+    }
+
+    // The entry of the Id at `id`, with these sets.
+    fn entry(self, id: usize) -> u32
+        requires { id < farthest }
+        ensures { result ≡ entry_of id self.typeof_safe self.non_generic_class self.array_typed }
+    {
+        id as u32 * BITS
+            + u32::from(self.typeof_safe)
+            + 2 * u32::from(self.non_generic_class)
+            + 4 * u32::from(self.array_typed)
+    }
 }
 
 // The text of the Id of an entry.
@@ -51,168 +65,113 @@ fn name_at(tree: &[u8], entry: u32) -> &[u8]
     text_at(tree, id)
 }
 
-// How many of the first n entries have names before this one: those from there on have it or names behind it.
-pub fn place(tree: &[u8], table: &[u32], n: usize, name: &[u8]) -> usize
-    requires { Sorted tree.now table.now n }
-    ensures { Lower tree.now table.now n name.now result }
+// Where the entry of a name stands, or where it would stand: those before it have names before this one, those behind it have names behind.
+// By hand: `binary_search_by` asks for a closure that can be called with every number; one that first looks whether a number is an entry of the
+// tree takes 1.2 to 1.3 times as long.
+pub fn find(tree: &[u8], entries: &[u32], name: &[u8]) -> Result<usize, usize>
+    requires { Sorted tree.now entries.now (length entries.now) }
+    ensures { Found tree.now entries.now (length entries.now) name.now result }
 {
-    let mut low: usize = 0;
-    let mut high = n;
+    let mut low = 0;
+    let mut high = entries.len();
     while low < high {
         let middle = low + (high - low) / 2;
-        if less_text(name_at(tree, table[middle]), name) {
-            low = middle + 1;
-        } else {
-            high = middle;
+        match name_at(tree, entries[middle]).cmp(&name) {
+            Ordering::Less => low = middle + 1,
+            Ordering::Equal => return Ok(middle),
+            Ordering::Greater => high = middle,
         }
     }
-    low
+    Err(low)
 }
 
-// Whether the entry at p, if there is one among the first n, has this name.
-pub fn stands(tree: &[u8], table: &[u32], n: usize, p: usize, name: &[u8]) -> bool
-    requires { Sorted tree.now table.now n }
-    ensures { result ≡ name_is tree.now table.now n p name.now }
-{
-    if p < n {
-        return same_text(name_at(tree, table[p]), name);
+// The entries of names in a table that is being filled: `count` of them from `from` on, with room in front of them and behind.
+pub struct Names<'a> {
+    pub table: &'a mut [u32],
+    pub from: usize,
+    pub count: usize,
+}
+
+impl<'a> Names<'a> {
+    // No names yet: the first one goes into the middle of the table.
+    pub fn new(table: &'a mut [u32]) -> Names<'a>
+        ensures table { result.table.now ≡ table.old }
+        ensures from { result.from ≡ length table.old / 2 }
+        ensures count { result.count ≡ 0 }
+    {
+        let from = table.len() / 2;
+        Names {
+            table,
+            from,
+            count: 0,
+        }
     }
-    false
-}
 
-// Whether a bit of an entry is set, by its weight.
-pub fn bit(entry: u32, weight: u32) -> bool
-    requires { 0 < weight }
-    ensures { result ≡ eqb (entry / weight % 2) 1 }
-{
-    entry / weight % 2 == 1
-}
-
-fn weighed(on: bool, weight: u32) -> u32
-    ensures { (result ≡ cond on weight 0) × (result ≤ weight) }
-{
-    if on {
-        return weight;
+    // The entries so far.
+    fn entries(&self) -> &[u32]
+        requires { self.now.from + self.now.count ≤ length self.now.table.now }
+        ensures { result.now ≡ take self.now.count (entries_of self.now) }
+    {
+        &self.table[self.from..self.from + self.count]
     }
-    0
-}
 
-fn either(a: bool, b: bool) -> bool
-    ensures { result ≡ (a || b) }
-{
-    if a {
-        return true;
+    // The entry at p with more sets.
+    fn join_at(&mut self, p: usize, sets: Sets)
+        requires { self.old.from + p < length self.old.table.now }
+        ensures from { self.new.from ≡ self.old.from }
+        ensures count { self.new.count ≡ self.old.count }
+        ensures table { self.new.table.now ≡ set self.old.table.now (self.old.from + p)
+            (joined_of (get_or self.old.table.now (self.old.from + p) 0) sets.typeof_safe sets.non_generic_class sets.array_typed) }
+    {
+        let at = self.from + p;
+        let entry = self.table[at];
+        let id = (entry / BITS) as usize;
+        self.table[at] = Sets::of(entry).union(sets).entry(id);
     }
-    b
-}
 
-// The entry of the Id at `id`, with three bits.
-fn entry(id: usize, safe: bool, plain: bool, array: bool) -> u32
-    requires { id < farthest }
-    ensures { result ≡ entry_of id safe plain array }
-{
-    let x = weighed(safe, TYPEOF_SAFE);
-    let y = weighed(plain, NON_GENERIC_CLASS);
-    let z = weighed(array, ARRAY_TYPED);
-    id as u32 * BITS + x + y + z
-}
-
-// An entry with more bits.
-fn joined(e: u32, safe: bool, plain: bool, array: bool) -> u32
-    ensures { result ≡ joined_of e safe plain array }
-{
-    let x = either(bit(e, TYPEOF_SAFE), safe);
-    let y = either(bit(e, NON_GENERIC_CLASS), plain);
-    let z = either(bit(e, ARRAY_TYPED), array);
-    entry((e / BITS) as usize, x, y, z)
-}
-
-// Room for an entry at p: of the first n those from there on move up by one.
-fn raise(table: &mut [u32], n: usize, p: usize)
-    requires n_in_bounds { n < length table.old }
-    requires p_le_n { p ≤ n }
-    ensures { Raised table.old table.new n p }
-{
-    let mut i = n;
-    while p < i {
-        table[i] = table[i - 1];
-        i -= 1;
+    // A new entry at p: those on the shorter side of it move by one.
+    fn insert_at(&mut self, p: usize, entry: u32)
+        requires room { (0 < self.old.from) × (self.old.from + self.old.count < length self.old.table.now) }
+        requires p_le_count { p ≤ self.old.count }
+        ensures inserted { Inserted (entries_of self.old) (entries_of self.new) self.old.count p entry }
+        ensures count { self.new.count ≡ self.old.count + 1 }
+        ensures grown { Grown self.old self.new }
+    {
+        let at = self.from + p;
+        let end = self.from + self.count;
+        if p < self.count - p {
+            self.table.copy_within(self.from..at, self.from - 1);
+            self.table[at - 1] = entry;
+            self.from -= 1;
+        } else {
+            self.table.copy_within(at..end, at + 1);
+            self.table[at] = entry;
+        }
+        self.count += 1;
     }
-}
 
-// The same, where a place is free in front of the entries: those before p move down by one.
-fn lower(table: &mut [u32], p: usize)
-    requires { p < length table.old }
-    ensures { Lowered table.old table.new p }
-{
-    let mut i = 0;
-    while i < p {
-        table[i] = table[i + 1];
-        i += 1;
+    // The name of the Id at `id` in some sets: they are added to those of the entry that has the name, or it has a new entry.
+    pub fn insert(&mut self, tree: &[u8], id: usize, sets: Sets)
+        requires sorted { Sorted tree.now (entries_of self.old) self.old.count }
+        requires from_nonzero { (0 < self.old.from) × (self.old.from + self.old.count < length self.old.table.now) }
+        requires id_in_bounds { body_at tree.now id ≤ length tree.now }
+        requires tree_len_bound { length tree.now < farthest }
+        ensures enters { Enters tree.now (entries_of self.old) self.old.count (entries_of self.new) self.new.count
+            (λ q t. same_text (text_at tree.now id) t && has q sets) }
+        ensures grown { Grown self.old self.new }
+    {
+        match find(tree, self.entries(), text_at(tree, id)) {
+            Ok(p) => self.join_at(p, sets),
+            Err(p) => self.insert_at(p, sets.entry(id)),
+        }
     }
-}
 
-// A new entry at p of the first n.
-fn insert_above(table: &mut [u32], n: usize, p: usize, new: u32)
-    requires { (n < length table.old) × (p ≤ n) }
-    ensures { Inserted table.old table.new n p new }
-{
-    raise(table, n, p);
-    table[p] = new;
-}
-
-// A new entry at p of the n behind the first.
-fn insert_below(table: &mut [u32], n: usize, p: usize, new: u32)
-    requires { (n < length table.old) × (p ≤ n) }
-    ensures { Inserted (drop 1 table.old) table.new n p new }
-{
-    lower(table, p);
-    table[p] = new;
-}
-
-// The entry at p with more bits.
-fn join_at(table: &mut [u32], p: usize, safe: bool, plain: bool, array: bool)
-    requires { p < length table.old }
-    ensures { table.new ≡ set table.old p (joined_of (get_or table.old p 0) safe plain array) }
-{
-    table[p] = joined(table[p], safe, plain, array);
-}
-
-// The name of the Id at `id` with three bits among the entries of a table: the bits of the one that has the name, or a new entry. There is room in
-// front of them and behind, and those on the shorter side move.
-pub fn insert(
-    tree: &[u8],
-    table: &mut [u32],
-    entries: Entries,
-    id: usize,
-    safe: bool,
-    plain: bool,
-    array: bool,
-) -> Entries
-    requires sorted { Sorted tree.now (entries_of table.old entries) entries.count }
-    requires from_nonzero { (0 < entries.from) × (entries.from + entries.count < length table.old) }
-    requires id_in_bounds { body_at tree.now id ≤ length tree.now }
-    requires tree_len_bound { length tree.now < farthest }
-    ensures enters { Enters tree.now (entries_of table.old entries) entries.count (entries_of table.new result) result.count
-        (λ q t. same_text (text_at tree.now id) t && pick q safe plain array) }
-    ensures grown { Grown table.old entries table.new result }
-{
-    let name = text_at(tree, id);
-    let from = entries.from;
-    let n = entries.count;
-    let p = place(tree, &table[from..], n, name);
-    if stands(tree, &table[from..], n, p, name) {
-        join_at(&mut table[from..], p, safe, plain, array);
-        return entries;
+    // The entries, for as long as the table is lent.
+    pub fn into_entries(self) -> &'a [u32]
+        requires { self.from + self.count ≤ length self.table.now }
+        ensures { result.now ≡ take self.entry.count (entries_of self.entry) }
+    {
+        let Names { table, from, count } = self;
+        &table[from..from + count]
     }
-    let new = entry(id, safe, plain, array);
-    if p < n - p {
-        insert_below(&mut table[from - 1..], n, p, new);
-        return Entries {
-            from: from - 1,
-            count: n + 1,
-        };
-    }
-    insert_above(&mut table[from..], n, p, new);
-    Entries { from, count: n + 1 }
 }

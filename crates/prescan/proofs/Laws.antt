@@ -13,7 +13,9 @@ use Rattle.definition.specs.Children.{AcceptedAt}
 use Rattle.definition.specs.Record.{text, same_text, kids_of, mark_of, is, is_no, has_flag, kid}
 use Rattle.definition.specs.Prescan.{ArrayType, ArrayType.a_array, ArrayType.a_readonly, ArrayType.a_ref, ArrayType.a_other, array_type_kind, refers_to_array, is_array_type_by, is_array_type, first_is_array_type, ArrayInit, ArrayInit.i_array, ArrayInit.i_through, ArrayInit.i_as, ArrayInit.i_other, array_init_kind, is_array_lit_init_by, is_array_lit_init, first_is_array_lit_init, Question, Question.typeof_safe, Question.non_generic_class, Question.array_typed, add_class, add_const, named, add_declarator, add_declarators, Declared, Declared.d_fn, Declared.d_class, Declared.d_var, Declared.d_other, declared_kind, add_decl_by, add_fn, add_decl, add_item}
 use Rattle.definition.proofs.Kids.{fixed, Child, placed, wider, member-one, head_is, mark-is, flags-is, first_in, second_in}
-use Rattle.prescan.specs.Question.{add_var}
+use Rattle.index.specs.declared.Sets.{Sets}
+use Rattle.index.specs.Index.{has}
+use Rattle.prescan.specs.Decls.{Fn, Class, Named, add_var}
 
 -- In each module m is the mark of the record at `at`, as the code read it, and p the place where its children begin.
 
@@ -168,6 +170,25 @@ module _ {levels : ℕ} {s : List ℕ} {at : ℕ} (a : AcceptedAt levels s at) (
   pub class-plain : {w : ℕ} → w ≡ mark_at s p → add_class non_generic_class (tree_at levels s at) ≡ eqb w (mark "No")
   class-plain {w} wq = ap is_no params-child.tree ∙ ap (λ (k : ℕ). eqb k (mark "No")) (mark-is (levels - 1) s p ∙ sym wq)
 
+-- the sets to which a Cl adds its name, and a function
+pub class_sets : (r : Rec) {plain : Bool} → plain ≡ add_class non_generic_class r → (q : Question) →
+    has q (record { typeof_safe = true; non_generic_class = plain; array_typed = false }) ≡ add_class q r
+class_sets r e typeof_safe = refl
+class_sets r e non_generic_class = e
+class_sets r e array_typed = refl
+
+function_sets : (q : Question) → has q (record { typeof_safe = true; non_generic_class = false; array_typed = false }) ≡ add_fn q
+function_sets typeof_safe = refl
+function_sets non_generic_class = refl
+function_sets array_typed = refl
+
+-- and a const
+pub const_sets : (t v : Rec) {safe array : Bool} → safe ≡ add_const typeof_safe t v → array ≡ add_const array_typed t v → (q : Question) →
+    has q (record { typeof_safe = safe; non_generic_class = false; array_typed = array }) ≡ add_const q t v
+const_sets t v x y typeof_safe = x
+const_sets t v x y non_generic_class = refl
+const_sets t v x y array_typed = y
+
 -- a const with the type at t, whose mark is m, and the init at v, whose mark is w
 module _ {l k : ℕ} {s : List ℕ} {t v : ℕ} (at : AcceptedAt l s t) (av : AcceptedAt k s v) {m : ℕ} (mq : m ≡ mark_at s t) where
   no_by : is_no (tree_at l s t) ≡ eqb m (mark "No")
@@ -267,13 +288,6 @@ module _ {levels : ℕ} {s : List ℕ} {at : ℕ} (a : AcceptedAt levels s at) {
 
 -- ---- a declaration
 
--- the marks of functions and of classes
-abbrev pub Fn : ℕ → Type 0
-Fn m = (m ≡ mark "Fd") ⊎ (m ≡ mark "Fx")
-
-abbrev pub Class : ℕ → Type 0
-Class m = (m ≡ mark "Cd") ⊎ (m ≡ mark "Cx")
-
 module _ {levels : ℕ} {s : List ℕ} {at : ℕ} (a : AcceptedAt levels s at) {m : ℕ} (mq : m ≡ mark_at s at) where
   decl-by : (q : Question) (name : List ℕ) (k : Declared) → declared_kind m ≡ k → add_decl q name (tree_at levels s at) ≡ add_decl_by k q name (tree_at levels s at)
   decl-by q name k e = ap (λ (j : Declared). add_decl_by j q name (tree_at levels s at)) (ap declared_kind (mark-is levels s at ∙ sym mq) ∙ e)
@@ -301,9 +315,6 @@ module _ {levels : ℕ} {s : List ℕ} {at : ℕ} (a : AcceptedAt levels s at) {
     unfolding declared_kind add_decl_by
     fn-by q name h = decl-by q name d_fn (⊎_elim (λ (e : m ≡ mark "Fd"). rw e) (λ (e : m ≡ mark "Fx"). rw e) h) ∙ rw (fn-ident h).tree
 
-    pub fn-unnamed : (q : Question) (name : List ℕ) → Fn m → named name (tree_at (levels - 1) s p) ≡ false → add_decl q name (tree_at levels s at) ≡ false
-    fn-unnamed q name h n = fn-by q name h ∙ rw n
-
     pub class-ident : Class m → Child levels s at 0 p (optional "Id")
     unfolding grammar known slots place fixed marks member
     class-ident h = placed (⊎_elim
@@ -316,8 +327,8 @@ module _ {levels : ℕ} {s : List ℕ} {at : ℕ} (a : AcceptedAt levels s at) {
     unfolding declared_kind add_decl_by
     class-by q name h = decl-by q name d_class (⊎_elim (λ (e : m ≡ mark "Cd"). rw e) (λ (e : m ≡ mark "Cx"). rw e) h) ∙ rw (class-ident h).tree
 
-    pub class-unnamed : (q : Question) (name : List ℕ) → Class m → named name (tree_at (levels - 1) s p) ≡ false → add_decl q name (tree_at levels s at) ≡ false
-    class-unnamed q name h n = class-by q name h ∙ rw n
+    pub named_ident : Named m → Child levels s at 0 p (optional "Id")
+    named_ident h = ⊎_elim fn-ident class-ident h
 
     -- the class stands at d, behind the name
     module _ (h : Class m) {d : ℕ} (dq : d ≡ end_at (levels - 1) s p) where
@@ -331,6 +342,16 @@ module _ {levels : ℕ} {s : List ℕ} {at : ℕ} (a : AcceptedAt levels s at) {
       pub class-mark : mark_at s d ≡ mark "Cl"
       unfolding marks
       class-mark = member-one (mark_at s d) (mark "Cl") class-child.marks
+
+-- by its name, and its sets
+module _ {levels : ℕ} {s : List ℕ} {at : ℕ} (a : AcceptedAt levels s at) {m : ℕ} (mq : m ≡ mark_at s at) where
+  pub decl_fn : (q : Question) (name : List ℕ) → Fn m → add_decl q name (tree_at levels s at) ≡
+      (named name (tree_at (levels - 1) s (body_at s at)) && has q (record { typeof_safe = true; non_generic_class = false; array_typed = false }))
+  decl_fn q name h = fn-by a mq refl q name h ∙ rw (function_sets q)
+
+  pub decl_class : {p : ℕ} → p ≡ body_at s at → Class m → {d : ℕ} → d ≡ end_at (levels - 1) s p → {sets : Sets} → ((q : Question) → has q sets ≡ add_class q (tree_at (levels - 1) s d)) →
+      (q : Question) (name : List ℕ) → add_decl q name (tree_at levels s at) ≡ (named name (tree_at (levels - 1) s (body_at s at)) && has q sets)
+  decl_class pq h dq x q name = class-by a mq refl q name h ∙ rw ((class-child a mq pq h dq).tree, x q)
 
 -- ---- an item
 

@@ -5,21 +5,23 @@ use mathlib.Core.Bool.{Bool, true, false, ◌&&◌, ◌||◌}
 use mathlib.Core.Logic.{⊎_elim}
 use Prim.Native.Nat.{ℕ, ◌+◌, ◌*◌, ◌-◌, ◌/◌, ◌<◌, ◌≤◌}
 use native.Mathlib.Omega.{arith}
-use lib.ListN.{length, get_or, take, drop, length-drop}
+use lib.ListN.{length, get_or, take, length-drop}
 use Rattle.definition.specs.Tree.{Rec, Recs, nil, cons, head_size, mark_at, count_at, text_at, body_at, end_of_all, end_at, tree_at}
 use Rattle.definition.specs.Grammar.{mark, marks, optional, grammar, known, slots, place}
 use Rattle.definition.specs.Check.{deepest}
 use Rattle.definition.specs.Children.{AcceptedAt, AllAccepted}
 use Rattle.definition.specs.Record.{same_text, kids_of}
-use Rattle.definition.specs.Prescan.{Question, Question.typeof_safe, Question.non_generic_class, Question.array_typed, add_fn, add_class, add_const, add_declarator, add_declarators, add_decl, add_item, asked}
+use Rattle.definition.specs.Prescan.{Question, Question.typeof_safe, Question.non_generic_class, Question.array_typed, add_const, add_declarator, add_declarators, add_item, asked}
 use Rattle.definition.proofs.Kids.{fixed, Child, member-one, placed, first_in, second_in, id-text}
 use Rattle.definition.proofs.Children.{children, others, all_after, end_of_all-more, end_of_all-none, end_after, end_is}
 use Rattle.definition.proofs.Walk.{Left, left-kids, left-turn, left-done}
-use Rattle.index.specs.declared.Entries.{Entries}
-use Rattle.index.specs.Index.{farthest, Sorted, Enters, Grown, entries_of, Lower, name_is, bit_of, pick}
+use Rattle.index.specs.declared.Names.{Names}
+use Rattle.index.specs.declared.Sets.{Sets}
+use Rattle.prescan.specs.Decls.{Fn, Class, Named}
+use Rattle.index.specs.Index.{farthest, Sorted, Enters, Grown, entries_of, Lower, name_is, bit_of, sets_of, has}
 use Rattle.index.proofs.Laws.{hit, miss, enters_none, enters_eq, enters_then, sorted_front, answers-front, answers-nothing, sorted-nothing}
 use Rattle.prescan.specs.Table.{declaration_size, Room, Filled, Indexed}
-use Rattle.prescan.proofs.Laws.{Fn, Class, named-is, named_other, fn-by, class-by, fn-ident, class-ident, class-child, class-mark, params-child, fn-unnamed, class-unnamed, pattern-child, init-child, ident-child, type-child, named_by_ident}
+use Rattle.prescan.proofs.Laws.{named-is, fn-ident, class-ident, class-child, class-mark, params-child, pattern-child, init-child, ident-child, type-child, named_by_ident}
 
 -- ---- where records end
 
@@ -54,28 +56,29 @@ module _ {levels : ℕ} {s : List ℕ} {at : ℕ} (a : AcceptedAt levels s at) w
 
 -- ---- what is entered
 
-module _ {s a : List ℕ} {e : Entries} {at : ℕ} (r : Room s a e at) where
+module _ {s : List ℕ} {a : Names} {at : ℕ} (r : Room s a at) where
   -- there is room for one more
-  pub room-one : at + declaration_size ≤ length s → (0 < e.from) × (e.from + e.count < length a)
+  pub room-one : at + declaration_size ≤ length s → (0 < a.from) × (a.from + a.count < length a.table.now)
   room-one h =
-      let few : e.count < length a / 2 = omega (arith, r.few, r.long) in
+      let few : a.count < length a.table.now / 2 = omega (arith, r.few, r.long) in
       (omega (arith, r.to, few), omega (arith, r.from, few))
 
-  pub room-later : {p : ℕ} → at ≤ p → Room s a e p
+  pub room-later : {p : ℕ} → at ≤ p → Room s a p
   room-later h = record { sorted = r.sorted; few = omega (arith, r.few); long = r.long; short = r.short; from = r.from; to = r.to }
 
-  pub filled_none : {end : ℕ} {G : Question → List ℕ → Bool} → at ≤ end → ((q : Question) (t : List ℕ) → G q t ≡ false) → Filled s a e a e end G
+  pub filled_none : {end : ℕ} {G : Question → List ℕ → Bool} → at ≤ end → ((q : Question) (t : List ℕ) → G q t ≡ false) → Filled s a a end G
   filled_none h none = record { enters = enters_none r.sorted none; few = omega (arith, r.few); same = refl; from = omega arith; to = omega arith }
 
-  pub filled-one : {b : List ℕ} {m : Entries} {end : ℕ} {G H : Question → List ℕ → Bool} → Enters s (entries_of a e) e.count (entries_of b m) m.count G → Grown a e b m → at + declaration_size ≤ end →
-      ((q : Question) (t : List ℕ) → H q t ≡ G q t) → Filled s a e b m end H
+  pub filled-one : {b : Names} {end : ℕ} {G H : Question → List ℕ → Bool} → Enters s (entries_of a) a.count (entries_of b) b.count G → Grown a b → at + declaration_size ≤ end →
+      ((q : Question) (t : List ℕ) → H q t ≡ G q t) → Filled s a b end H
   filled-one i l h same = record { enters = enters_eq same i; few = omega (arith, r.few, l.count); same = l.same; from = l.from; to = l.to }
 
 -- an empty table
-pub room-start : {s a : List ℕ} → length s ≤ declaration_size * (length a / 2) → length s < farthest → {e : Entries} → e ≡ record { from = length a / 2; count = 0 } → Room s a e 0
-room-start {s} {a} l h q = rw q (record { sorted = sorted-nothing s (drop (length a / 2) a); few = omega arith; long = l; short = h; from = omega arith; to = omega arith })
+pub room-start : {s : List ℕ} (a : Names) → length s ≤ declaration_size * (length a.table.now / 2) → length s < farthest → a.from ≡ length a.table.now / 2 → a.count ≡ 0 → Room s a 0
+room-start {s} a l h f n =
+    record { sorted = rw n (sorted-nothing s (entries_of a)); few = omega arith; long = l; short = h; from = omega arith; to = omega arith }
 
-pub filled_eq : {s a b : List ℕ} {e m : Entries} {end end' : ℕ} {G H : Question → List ℕ → Bool} → end ≤ end' → ((q : Question) (t : List ℕ) → H q t ≡ G q t) → Filled s a e b m end G → Filled s a e b m end' H
+pub filled_eq : {s : List ℕ} {a b : Names} {end end' : ℕ} {G H : Question → List ℕ → Bool} → end ≤ end' → ((q : Question) (t : List ℕ) → H q t ≡ G q t) → Filled s a b end G → Filled s a b end' H
 filled_eq h same f = record { enters = enters_eq same f.enters; few = omega (arith, f.few); same = f.same; from = f.from; to = f.to }
 
 -- what a function stands for, behind its name
@@ -91,51 +94,28 @@ module _ {levels : ℕ} {s : List ℕ} {at : ℕ} (a : AcceptedAt levels s at) {
   unfolding marks
   fn-mark = member-one (mark_at s (end_at (levels - 1) s p)) (mark "Fu") fn-child.marks
 
--- a function: its name at p, with the mark w
-module _ {levels : ℕ} {s : List ℕ} {at : ℕ} (a : AcceptedAt levels s at) {m : ℕ} (mq : m ≡ mark_at s at) {p : ℕ} (pq : p ≡ body_at s at) {w : ℕ} (wq : w ≡ mark_at s p) where
-  fn_picks : (q : Question) → add_fn q ≡ pick q true false false
-  fn_picks typeof_safe = refl
-  fn_picks non_generic_class = refl
-  fn_picks array_typed = refl
+-- a function or a class: its name at p
+module _ {levels : ℕ} {s : List ℕ} {at : ℕ} (a : AcceptedAt levels s at) {m : ℕ} (mq : m ≡ mark_at s at) {p : ℕ} (pq : p ≡ body_at s at) where
+  -- the function stands behind its name, and has a child
+  fn-long : Fn m → mark_at s p ≡ mark "Id" → at + declaration_size ≤ end_at levels s at
+  unfolding grammar known slots place fixed
+  fn-long h e =
+      let d : ℕ = end_at (levels - 1) s p in
+      let c : Child levels s at 1 d "Fu" = fn-child a mq pq h in
+      let f : mark_at s d ≡ mark "Fu" = fn-mark a mq pq h in
+      let k = first_in (levels - 1) s d c.accepted (mark "Fu") f refl (optional "Op") refl in
+      omega (arith, pq, id-ends (fn-ident a mq pq h).accepted e, second-ends a c.there pq {d = d} refl, first_ends c.accepted k.there refl, end_after (levels - 1 - 1) s (body_at s d) k.accepted)
 
-  module _ (h : Fn m) where
-    pub fn-none : (w ≡ mark "Id" → ⊥) → (q : Question) (t : List ℕ) → add_decl q t (tree_at levels s at) ≡ false
-    fn-none n q t = fn-unnamed a mq pq q t h (named_other (fn-ident a mq pq h).accepted wq t n)
+  -- and so does the class
+  class-long : Class m → mark_at s p ≡ mark "Id" → at + declaration_size ≤ end_at levels s at
+  class-long h e =
+      let d : ℕ = end_at (levels - 1) s p in
+      let c : Child levels s at 1 d "Cl" = class-child a mq pq h refl in
+      let k = params-child c.accepted (class-mark a mq pq h refl) refl in
+      omega (arith, pq, id-ends (class-ident a mq pq h).accepted e, second-ends a c.there pq {d = d} refl, first_ends c.accepted k.there refl, end_after (levels - 1 - 1) s (body_at s d) k.accepted)
 
-    pub fn-one : w ≡ mark "Id" → (q : Question) (t : List ℕ) → add_decl q t (tree_at levels s at) ≡ (same_text (text_at s p) t && pick q true false false)
-    fn-one e q t = fn-by a mq pq q t h ∙ rw (named-is (fn-ident a mq pq h).accepted wq t e refl, fn_picks q)
-
-    -- the function stands behind its name, and has a child
-    pub fn-long : w ≡ mark "Id" → at + declaration_size ≤ end_at levels s at
-    unfolding grammar known slots place fixed
-    fn-long e =
-        let d : ℕ = end_at (levels - 1) s p in
-        let c : Child levels s at 1 d "Fu" = fn-child a mq pq h in
-        let f : mark_at s d ≡ mark "Fu" = fn-mark a mq pq h in
-        let k = first_in (levels - 1) s d c.accepted (mark "Fu") f refl (optional "Op") refl in
-        omega (arith, pq, id-ends (fn-ident a mq pq h).accepted (sym wq ∙ e), second-ends a c.there pq {d = d} refl, first_ends c.accepted k.there refl, end_after (levels - 1 - 1) s (body_at s d) k.accepted)
-
-  -- a class, at d
-  module _ (h : Class m) where
-    pub class-none : (w ≡ mark "Id" → ⊥) → (q : Question) (t : List ℕ) → add_decl q t (tree_at levels s at) ≡ false
-    class-none n q t = class-unnamed a mq pq q t h (named_other (class-ident a mq pq h).accepted wq t n)
-
-    module _ (e : w ≡ mark "Id") {d : ℕ} (dq : d ≡ end_at (levels - 1) s p) where
-      class_picks : (plain : Bool) → plain ≡ add_class non_generic_class (tree_at (levels - 1) s d) → (q : Question) → add_class q (tree_at (levels - 1) s d) ≡ pick q true plain false
-      class_picks plain f typeof_safe = refl
-      class_picks plain f non_generic_class = sym f
-      class_picks plain f array_typed = refl
-
-      pub class-one : {plain : Bool} → plain ≡ add_class non_generic_class (tree_at (levels - 1) s d) → (q : Question) (t : List ℕ) →
-          add_decl q t (tree_at levels s at) ≡ (same_text (text_at s p) t && pick q true plain false)
-      class-one {plain} f q t =
-          class-by a mq pq q t h ∙ rw (named-is (class-ident a mq pq h).accepted wq t e refl, (class-child a mq pq h dq).tree, class_picks plain f q)
-
-      pub class-long : at + declaration_size ≤ end_at levels s at
-      class-long =
-          let c : Child levels s at 1 d "Cl" = class-child a mq pq h dq in
-          let k = params-child c.accepted (class-mark a mq pq h dq) refl in
-          omega (arith, pq, dq, id-ends (class-ident a mq pq h).accepted (sym wq ∙ e), second-ends a c.there pq dq, first_ends c.accepted k.there refl, end_after (levels - 1 - 1) s (body_at s d) k.accepted)
+  pub named_long : Named m → mark_at s p ≡ mark "Id" → at + declaration_size ≤ end_at levels s at
+  named_long h e = ⊎_elim (λ f. fn-long f e) (λ c. class-long c e) h
 
 -- a declarator of a const: its pattern, with the mark w, at p; its name at i, its type at u and its init at v
 module _ {levels : ℕ} {s : List ℕ} {at : ℕ} (a : AcceptedAt levels s at) {m : ℕ} (mq : m ≡ mark_at s at) (e : m ≡ mark "Vr") {p : ℕ} (pq : p ≡ body_at s at)
@@ -144,17 +124,11 @@ module _ {levels : ℕ} {s : List ℕ} {at : ℕ} (a : AcceptedAt levels s at) {
   unfolding marks
   ident-is = member-one (mark_at s i) (mark "Id") (ident-child a mq e pq wq f iq).marks
 
-  const_picks : {safe array : Bool} → safe ≡ add_const typeof_safe (tree_at (levels - 1 - 1) s u) (tree_at (levels - 1) s v) → array ≡ add_const array_typed (tree_at (levels - 1 - 1) s u) (tree_at (levels - 1) s v) →
-      (q : Question) → add_const q (tree_at (levels - 1 - 1) s u) (tree_at (levels - 1) s v) ≡ pick q safe false array
-  const_picks x y typeof_safe = sym x
-  const_picks x y non_generic_class = refl
-  const_picks x y array_typed = sym y
-
-  pub declarator-one : {safe array : Bool} → safe ≡ add_const typeof_safe (tree_at (levels - 1 - 1) s u) (tree_at (levels - 1) s v) → array ≡ add_const array_typed (tree_at (levels - 1 - 1) s u) (tree_at (levels - 1) s v) →
-      (q : Question) (t : List ℕ) → add_declarator q t (tree_at levels s at) ≡ (same_text (text_at s i) t && pick q safe false array)
-  declarator-one x y q t =
+  pub declarator-one : {sets : Sets} → ((q : Question) → has q sets ≡ add_const q (tree_at (levels - 1 - 1) s u) (tree_at (levels - 1) s v)) →
+      (q : Question) (t : List ℕ) → add_declarator q t (tree_at levels s at) ≡ (same_text (text_at s i) t && has q sets)
+  declarator-one x q t =
       named_by_ident a mq e pq wq f iq q t ∙
-      rw (named-is (ident-child a mq e pq wq f iq).accepted refl t ident-is refl, (type-child a mq e pq wq f iq uq).tree, (init-child a mq e pq vq).tree, const_picks x y q)
+      rw (named-is (ident-child a mq e pq wq f iq).accepted refl t ident-is refl, (type-child a mq e pq wq f iq uq).tree, (init-child a mq e pq vq).tree, x q)
 
   pub declarator-long : at + declaration_size ≤ end_at levels s at
   declarator-long =
@@ -166,16 +140,16 @@ module _ {levels : ℕ} {s : List ℕ} {at : ℕ} (a : AcceptedAt levels s at) {
 -- ---- the loop over declarations
 
 -- of the records `whole`, whose names W says, k are left, the first of them at c: those before are in the table
-pub record Filling (W : Question → List ℕ → Recs → Bool) (whole : Recs) (levels : ℕ) (s a : List ℕ) (e : Entries) (end : ℕ) (b : List ℕ) (m : Entries) (k c : ℕ) : Type 0 where
+pub record Filling (W : Question → List ℕ → Recs → Bool) (whole : Recs) (levels : ℕ) (s : List ℕ) (a : Names) (end : ℕ) (b : Names) (k c : ℕ) : Type 0 where
   pub so_far : Question → List ℕ → Bool
-  pub filled : Filled s a e b m c so_far
+  pub filled : Filled s a b c so_far
   pub left : Left {A = Question → List ℕ → Bool} (λ ks q t. so_far q t || W q t ks) (λ q t. W q t whole) levels s k c
   pub ends : end_of_all (end_at levels s) k c ≡ end
-  pub room : Room s b m c
+  pub room : Room s b c
 
-pub filling_start : (W : Question → List ℕ → Recs → Bool) {levels : ℕ} {s a : List ℕ} {e : Entries} {at : ℕ} → AcceptedAt levels s at → Room s a e at → {k c : ℕ} → k ≡ count_at s at → c ≡ body_at s at →
-    Filling W (kids_of (tree_at levels s at)) (levels - 1) s a e (end_at levels s at) a e k c
-filling_start W {levels} {s} {a} {e} {at} ok r kq cq =
+pub filling_start : (W : Question → List ℕ → Recs → Bool) {levels : ℕ} {s : List ℕ} {a : Names} {at : ℕ} → AcceptedAt levels s at → Room s a at → {k c : ℕ} → k ≡ count_at s at → c ≡ body_at s at →
+    Filling W (kids_of (tree_at levels s at)) (levels - 1) s a (end_at levels s at) a k c
+filling_start W {levels} {s} {a} {at} ok r kq cq =
     rw (kq, cq)
     (record {
       so_far = λ q t. false;
@@ -193,10 +167,10 @@ or_left : (x y z : Bool) → (x || (y || z)) ≡ ((x || y) || z)
 or_left true y z = refl
 or_left false y z = refl
 
-module _ {W : Question → List ℕ → Recs → Bool} {whole : Recs} {levels : ℕ} {s a : List ℕ} {e : Entries} {end : ℕ} {b : List ℕ} {m : Entries} {k c : ℕ} (i : Filling W whole levels s a e end b m k c) where
+module _ {W : Question → List ℕ → Recs → Bool} {whole : Recs} {levels : ℕ} {s : List ℕ} {a : Names} {end : ℕ} {b : Names} {k c : ℕ} (i : Filling W whole levels s a end b k c) where
   -- where W says f of each record
   pub filling_turn : (f : Question → List ℕ → Rec → Bool) → ((q : Question) (t : List ℕ) (r : Rec) (rs : Recs) → W q t (cons r rs) ≡ (f q t r || W q t rs)) → 0 < k →
-      {b' : List ℕ} {m' : Entries} → Filled s b m b' m' (end_at levels s c) (λ q t. f q t (tree_at levels s c)) → {d : ℕ} → d ≡ end_at levels s c → Filling W whole levels s a e end b' m' (k - 1) d
+      {b' : Names} → Filled s b b' (end_at levels s c) (λ q t. f q t (tree_at levels s c)) → {d : ℕ} → d ≡ end_at levels s c → Filling W whole levels s a end b' (k - 1) d
   filling_turn f step h g dq =
       let z = i.filled in
       let r = i.room in
@@ -209,7 +183,7 @@ module _ {W : Question → List ℕ → Recs → Bool} {whole : Recs} {levels : 
         room = record { sorted = g.enters.sorted; few = g.few; long = omega (arith, r.long, g.same); short = r.short; from = omega (arith, r.from, g.from, g.same); to = omega (arith, r.to, g.to, g.same) };
       })
 
-  pub filling_done : ((q : Question) (t : List ℕ) → W q t nil ≡ false) → k ≤ 0 → Filled s a e b m end (λ q t. W q t whole)
+  pub filling_done : ((q : Question) (t : List ℕ) → W q t nil ≡ false) → k ≤ 0 → Filled s a b end (λ q t. W q t whole)
   filling_done none h =
       filled_eq (omega (arith, i.ends, end_of_all-none (end_at levels s) k c h))
       (λ q t. ap (λ (G : Question → List ℕ → Bool). G q t) (left-done i.left h) ∙ (ap (λ (x : Bool). i.so_far q t || x) (none q t) ∙ or_none (i.so_far q t)))
@@ -230,23 +204,32 @@ pub items-none : (q : Question) (t : List ℕ) → Items q t nil ≡ false
 unfolding asked
 items-none q t = refl
 
--- what is filled from nothing is the index
-pub indexed : {s a b : List ℕ} {e m : Entries} {end : ℕ} → e.count ≡ 0 → Filled s a e b m end (λ q t. Items q t (kids_of (tree_at deepest s 0))) → Indexed s (take m.count (entries_of b m))
-indexed {s} {a} {e = e} z f = record {
+-- what is filled from nothing is the index, and lies in the table
+pub indexed : {s : List ℕ} {a b : Names} {end : ℕ} → a.count ≡ 0 → Filled s a b end (λ q t. Items q t (kids_of (tree_at deepest s 0))) → Indexed s (take b.count (entries_of b))
+indexed {s} {a} z f = record {
   sorted = sorted_front f.enters.sorted;
-  answers = answers-front f.enters.sorted (f.enters.step (λ q t. false) (rw z (answers-nothing s (entries_of a e))));
+  answers = answers-front f.enters.sorted (f.enters.step (λ q t. false) (rw z (answers-nothing s (entries_of a))));
 }
 
--- and lies in the table
-pub inside : {s : List ℕ} (b : List ℕ) (m : Entries) → m.from ≤ length b → Sorted s (entries_of b m) m.count → m.from + m.count ≤ length b
-inside b m h o = omega (arith, o.room, length-drop m.from b)
+pub inside : {s : List ℕ} (b : Names) → b.from ≤ length b.table.now → Sorted s (entries_of b) b.count → b.from + b.count ≤ length b.table.now
+inside b h o = omega (arith, o.room, length-drop b.from b.table.now)
 
 -- ---- a question
 
--- p is the place of the name t in the index, which is the text u
-module _ {s i : List ℕ} (x : Indexed s i) {t u : List ℕ} {p : ℕ} (w : Lower s i (length i) t p) (tq : t ≡ u) (q : Question) where
-  pub look_hit : name_is s i (length i) p t ≡ true → asked q (kids_of (tree_at deepest s 0)) u ≡ bit_of q (get_or i p 0)
-  look_hit e = ap (asked q (kids_of (tree_at deepest s 0))) (sym tq) ∙ hit w (λ r v. asked r (kids_of (tree_at deepest s 0)) v) x.answers e q
+pub has-sets_of : (e : ℕ) (q : Question) → has q (sets_of e) ≡ bit_of q e
+has-sets_of e typeof_safe = refl
+has-sets_of e non_generic_class = refl
+has-sets_of e array_typed = refl
 
-  pub look-miss : name_is s i (length i) p t ≡ false → asked q (kids_of (tree_at deepest s 0)) u ≡ false
-  look-miss e = ap (asked q (kids_of (tree_at deepest s 0))) (sym tq) ∙ miss w x.sorted (λ r v. asked r (kids_of (tree_at deepest s 0)) v) x.answers e q
+pub has-nothing : {x : Sets} → (x.typeof_safe ≡ false) → (x.non_generic_class ≡ false) → (x.array_typed ≡ false) → (q : Question) → has q x ≡ false
+has-nothing a b c typeof_safe = a
+has-nothing a b c non_generic_class = b
+has-nothing a b c array_typed = c
+
+-- what was found of the name t in the index
+module _ {s i : List ℕ} (x : Indexed s i) {t : List ℕ} {p : ℕ} (w : Lower s i (length i) t p) (q : Question) where
+  pub look_hit : name_is s i (length i) p t ≡ true → bit_of q (get_or i p 0) ≡ asked q (kids_of (tree_at deepest s 0)) t
+  look_hit e = sym (hit w (λ r v. asked r (kids_of (tree_at deepest s 0)) v) x.answers e q)
+
+  pub look-miss : name_is s i (length i) p t ≡ false → asked q (kids_of (tree_at deepest s 0)) t ≡ false
+  look-miss e = miss w x.sorted (λ r v. asked r (kids_of (tree_at deepest s 0)) v) x.answers e q

@@ -4,30 +4,30 @@ use Rattle.definition.specs.Tree.{head_size, tree_at}
 use Rattle.definition.specs.Check.{deepest}
 use Rattle.definition.specs.Record.{kids_of}
 use Rattle.definition.specs.Prescan.{Question, asked}
-use Rattle.index.specs.declared.Entries.{Entries}
+use Rattle.index.specs.declared.Names.{Names}
 use Rattle.index.specs.Index.{farthest, Sorted, Answers, Enters, entries_of}
 
 -- the bytes that a declaration of a name takes at least: four records and four bytes of text
 abbrev pub declaration_size : ℕ
 declaration_size = 4 * head_size + 4
 
--- the entries e of the table a are names of the tree s that were entered before the offset `at`, and there is room for those from there on, in front
--- of the entries and behind them
-pub record Room (s a : List ℕ) (e : Entries) (at : ℕ) : Type 0 where
-  pub sorted : Sorted s (entries_of a e) e.count
-  pub few : declaration_size * e.count ≤ at
-  pub long : length s ≤ declaration_size * (length a / 2)
+-- these are names of the tree s that were entered before the offset `at`, and there is room in the table for those from there on, in front of the
+-- entries and behind them
+pub record Room (s : List ℕ) (n : Names) (at : ℕ) : Type 0 where
+  pub sorted : Sorted s (entries_of n) n.count
+  pub few : declaration_size * n.count ≤ at
+  pub long : length s ≤ declaration_size * (length n.table.now / 2)
   pub short : length s < farthest
-  pub from : e.from ≤ length a / 2
-  pub to : length a / 2 ≤ e.from + e.count
+  pub from : n.from ≤ length n.table.now / 2
+  pub to : length n.table.now / 2 ≤ n.from + n.count
 
 -- what G adds was entered, and the names stand before the offset `end`
-pub record Filled (s a : List ℕ) (e : Entries) (b : List ℕ) (r : Entries) (end : ℕ) (G : Question → List ℕ → Bool) : Type 0 where
-  pub enters : Enters s (entries_of a e) e.count (entries_of b r) r.count G
-  pub few : declaration_size * r.count ≤ end
-  pub same : length b ≡ length a
-  pub from : r.from ≤ e.from
-  pub to : e.from + e.count ≤ r.from + r.count
+pub record Filled (s : List ℕ) (a b : Names) (end : ℕ) (G : Question → List ℕ → Bool) : Type 0 where
+  pub enters : Enters s (entries_of a) a.count (entries_of b) b.count G
+  pub few : declaration_size * b.count ≤ end
+  pub same : length b.table.now ≡ length a.table.now
+  pub from : b.from ≤ a.from
+  pub to : a.from + a.count ≤ b.from + b.count
 
 -- the index of the module in the tree s: the answers to all questions
 pub record Indexed (s index : List ℕ) : Type 0 where

@@ -1,18 +1,19 @@
 // `prescan_module_ids`: the three sets of module-level names, as an index that is built once and asked by halving.
 #![tactic(auto)]
 
-ghost use Rattle.std.specs.Prelude.{◌≡◌, ◌+◌, ◌*◌, ◌-◌, ◌/◌, ◌<◌, ◌≤◌, length, take};
-ghost use Rattle.definition.specs.Tree.{mark_at, text_at, end_at, tree_at};
+ghost use Rattle.std.specs.Prelude.{◌≡◌, ◌&&◌, ◌+◌, ◌*◌, ◌-◌, ◌/◌, ◌<◌, ◌≤◌, length};
+ghost use Rattle.definition.specs.Tree.{mark_at, text_at, body_at, end_at, tree_at};
 ghost use Rattle.definition.specs.Grammar.{mark};
 ghost use Rattle.definition.specs.Check.{deepest};
 ghost use Rattle.definition.specs.Children.{AcceptedAt};
 ghost use Rattle.definition.specs.Record.{kids_of};
-ghost use Rattle.definition.specs.Prescan.{is_array_type, refers_to_array, is_array_lit_init, add_class, add_const, add_declarator, add_decl, add_item, asked};
-ghost use Rattle.index.specs.Index.{farthest, entries_of};
-ghost use Rattle.prescan.specs.Question.{meant, add_var};
+ghost use Rattle.definition.specs.Prescan.{Question, is_array_type, refers_to_array, is_array_lit_init, add_class, add_const, named, add_declarator, add_decl, add_item, asked};
+ghost use Rattle.index.specs.Index.{farthest, has};
+ghost use Rattle.prescan.specs.Decls.{Named, add_var};
 ghost use Rattle.prescan.specs.Table.{declaration_size, Room, Filled, Indexed};
 
-use index::{ARRAY_TYPED, Entries, NON_GENERIC_CLASS, TYPEOF_SAFE};
+use index::Names;
+pub use index::Sets;
 use records::flags::{CONST, has_flag};
 use records::marks::{
     AR, AS, AW, AY, BD, CD, CX, ED, FD, FX, ID, NO, PR, RF, RO, TC, TS, TU, VD, VR, XD,
@@ -31,13 +32,12 @@ pub const LARGE_TABLE: usize = 16384;
 
 pub const MIDDLE_TABLE: usize = 2048;
 
-// The sets of `PrescannedModuleIds`.
-#[derive(Clone, Copy)]
-pub enum Question {
-    TypeofSafe,
-    NonGenericClass,
-    ArrayTyped,
-}
+// `Decl::Fn`: the sets to which a function adds its name.
+const FUNCTION: Sets = Sets {
+    typeof_safe: true,
+    non_generic_class: false,
+    array_typed: false,
+};
 
 // In which scope the names stand: the unresolved context.
 #[derive(Clone, Copy)]
@@ -54,10 +54,7 @@ fn refers_to_array(tree: &[u8], at: usize, levels: usize) -> bool
         return false;
     }
     let symbol = symbol_at(tree, at);
-    if same_text(symbol, b"Array") {
-        return true;
-    }
-    same_text(symbol, b"ReadonlyArray")
+    same_text(symbol, b"Array") || same_text(symbol, b"ReadonlyArray")
 }
 
 // `is_array_type`
@@ -89,176 +86,153 @@ pub fn is_array_lit_init(tree: &[u8], at: usize, levels: usize) -> bool
     }
 }
 
-// `add_class`: what the Cl at `at` adds under its name.
-fn add_class(tree: &[u8], at: usize, levels: usize, question: Question) -> bool
+// `add_class`: the sets to which the Cl at `at` adds its name.
+fn add_class(tree: &[u8], at: usize, levels: usize) -> Sets
     requires accepted_at { AcceptedAt levels tree.now at }
     requires at_value { mark_at tree.now at ≡ mark "Cl" }
-    ensures { result ≡ add_class (meant question) (tree_at levels tree.now at) }
+    ensures { (q : Question) → has q result ≡ add_class q (tree_at levels tree.now at) }
 {
-    match question {
-        Question::TypeofSafe => true,
-        Question::NonGenericClass => mark_at(tree, body_at(tree, at)) == NO,
-        Question::ArrayTyped => false,
+    Sets {
+        typeof_safe: true,
+        non_generic_class: mark_at(tree, body_at(tree, at)) == NO,
+        array_typed: false,
     }
 }
 
-// `add_decl`, in the arm for `Decl::Var`: what a const adds under its name, by its init and by its type, which has one level less.
-fn add_const(tree: &[u8], init: usize, levels: usize, ty: usize, question: Question) -> bool
+// `add_decl`, in the arm for `Decl::Var`: the sets to which a const adds its name, by its init and by its type, which has one level less.
+fn add_const(tree: &[u8], init: usize, levels: usize, ty: usize) -> Sets
     requires accepted_at { AcceptedAt levels tree.now init }
     requires accepted_at_2 { AcceptedAt (levels - 1) tree.now ty }
-    ensures { result ≡ add_const (meant question) (tree_at (levels - 1) tree.now ty) (tree_at levels tree.now init) }
+    ensures { (q : Question) → has q result
+        ≡ add_const q (tree_at (levels - 1) tree.now ty) (tree_at levels tree.now init) }
 {
-    let typed = mark_at(tree, ty);
-    match question {
-        Question::TypeofSafe => {
-            if typed != NO {
-                return true;
-            }
-            match mark_at(tree, init) {
-                FX | AW => true,
-                _ => false,
-            }
-        }
-        Question::NonGenericClass => false,
-        Question::ArrayTyped => {
-            if typed == NO {
-                return is_array_lit_init(tree, init, levels);
-            }
-            is_array_type(tree, ty, levels - 1)
-        }
+    let typed = mark_at(tree, ty) != NO;
+    let typeof_safe = typed || matches!(mark_at(tree, init), FX | AW);
+    let array_typed = if typed {
+        is_array_type(tree, ty, levels - 1)
+    } else {
+        is_array_lit_init(tree, init, levels)
+    };
+    Sets {
+        typeof_safe,
+        non_generic_class: false,
+        array_typed,
     }
 }
 
 // `add_decl`, in the arm for `Decl::Var`: a declarator of a const, `if let Pat::Ident(ident) = &declarator.name`.
-fn enter_declarator(
-    tree: &[u8],
-    at: usize,
-    levels: usize,
-    table: &mut [u32],
-    entries: Entries,
-) -> Entries
+fn enter_declarator(tree: &[u8], at: usize, levels: usize, names: &mut Names)
     requires accepted_at { AcceptedAt levels tree.now at }
-    requires room { Room tree.now table.old entries at }
-    ensures { Filled tree.now table.old entries table.new result (end_at levels tree.now at)
+    requires room { Room tree.now names.old at }
+    ensures { Filled tree.now names.old names.new (end_at levels tree.now at)
         (λ q t. add_declarator q t (tree_at levels tree.now at)) }
 {
     if mark_at(tree, at) != VR {
-        return entries;
+        return;
     }
     let pattern = body_at(tree, at);
     if mark_at(tree, pattern) != BD {
-        return entries;
+        return;
     }
     let ident = body_at(tree, pattern);
     let below = levels - 1;
     let ty = record_end(tree, ident, below - 1);
     let init = record_end(tree, pattern, below);
-    let safe = add_const(tree, init, below, ty, Question::TypeofSafe);
-    let array = add_const(tree, init, below, ty, Question::ArrayTyped);
-    index::insert(tree, table, entries, ident, safe, false, array)
+    let sets = add_const(tree, init, below, ty);
+    names.insert(tree, ident, sets);
 }
 
 // `add_decl`, the arm for `Decl::Var`: the declarators of a const.
-fn enter_var(tree: &[u8], at: usize, levels: usize, table: &mut [u32], entries: Entries) -> Entries
+fn enter_var(tree: &[u8], at: usize, levels: usize, names: &mut Names)
     requires accepted_at { AcceptedAt levels tree.now at }
-    requires room { Room tree.now table.old entries at }
-    ensures { Filled tree.now table.old entries table.new result (end_at levels tree.now at)
+    requires room { Room tree.now names.old at }
+    ensures { Filled tree.now names.old names.new (end_at levels tree.now at)
         (λ q t. add_var q t (tree_at levels tree.now at)) }
 {
     let head = read_head(tree, at);
     if !has_flag(head.flags, CONST) {
-        return entries;
+        return;
     }
-    let mut filled = entries;
     let mut rest = head.count;
     let mut declarator = body_at(tree, at);
     while 0 < rest {
-        filled = enter_declarator(tree, declarator, levels - 1, table, filled);
+        enter_declarator(tree, declarator, levels - 1, names);
         declarator = record_end(tree, declarator, levels - 1);
         rest -= 1;
     }
-    filled
+}
+
+// A function or a class, by its name, which stands in front of it: in these sets. An expression may have no name.
+fn enter_named(tree: &[u8], at: usize, levels: usize, sets: Sets, names: &mut Names)
+    requires accepted_at { AcceptedAt levels tree.now at }
+    requires at_value { Named (mark_at tree.now at) }
+    requires room { Room tree.now names.old at }
+    ensures { Filled tree.now names.old names.new (end_at levels tree.now at)
+        (λ q t. named t (tree_at (levels - 1) tree.now (body_at tree.now at)) && has q sets) }
+{
+    let ident = body_at(tree, at);
+    if mark_at(tree, ident) == ID {
+        names.insert(tree, ident, sets);
+    }
 }
 
 // `add_decl`, and the arms of `prescan_module_ids` for `ExportDefaultDecl`: a function and a class expression stand beside their name too.
-fn enter_decl(tree: &[u8], at: usize, levels: usize, table: &mut [u32], entries: Entries) -> Entries
+fn enter_decl(tree: &[u8], at: usize, levels: usize, names: &mut Names)
     requires accepted_at { AcceptedAt levels tree.now at }
-    requires room { Room tree.now table.old entries at }
-    ensures { Filled tree.now table.old entries table.new result (end_at levels tree.now at)
+    requires room { Room tree.now names.old at }
+    ensures { Filled tree.now names.old names.new (end_at levels tree.now at)
         (λ q t. add_decl q t (tree_at levels tree.now at)) }
 {
     match mark_at(tree, at) {
-        FD | FX => {
-            let ident = body_at(tree, at);
-            if mark_at(tree, ident) != ID {
-                return entries;
-            }
-            index::insert(tree, table, entries, ident, true, false, false)
-        }
+        FD | FX => enter_named(tree, at, levels, FUNCTION, names),
         CD | CX => {
-            let ident = body_at(tree, at);
-            if mark_at(tree, ident) != ID {
-                return entries;
-            }
-            let class = record_end(tree, ident, levels - 1);
-            let plain = add_class(tree, class, levels - 1, Question::NonGenericClass);
-            index::insert(tree, table, entries, ident, true, plain, false)
+            let class = record_end(tree, body_at(tree, at), levels - 1);
+            enter_named(tree, at, levels, add_class(tree, class, levels - 1), names)
         }
-        VD => enter_var(tree, at, levels, table, entries),
-        _ => entries,
+        VD => enter_var(tree, at, levels, names),
+        _ => {}
     }
 }
 
 // An item of the module: a declaration, or what an `ExportDecl` (Ed) or an `ExportDefaultDecl` (Xd) holds.
-fn enter_item(tree: &[u8], at: usize, levels: usize, table: &mut [u32], entries: Entries) -> Entries
+fn enter_item(tree: &[u8], at: usize, levels: usize, names: &mut Names)
     requires accepted_at { AcceptedAt levels tree.now at }
-    requires room { Room tree.now table.old entries at }
-    ensures { Filled tree.now table.old entries table.new result (end_at levels tree.now at)
+    requires room { Room tree.now names.old at }
+    ensures { Filled tree.now names.old names.new (end_at levels tree.now at)
         (λ q t. add_item q t (tree_at levels tree.now at)) }
 {
     match mark_at(tree, at) {
-        ED | XD => enter_decl(tree, body_at(tree, at), levels - 1, table, entries),
-        _ => enter_decl(tree, at, levels, table, entries),
+        ED | XD => enter_decl(tree, body_at(tree, at), levels - 1, names),
+        _ => enter_decl(tree, at, levels, names),
     }
 }
 
-// `prescan_module_ids`: the names that the items of the module declare, entered from the middle of the table on, so that there is room on both sides.
-pub fn index(tree: &[u8], table: &mut [u32]) -> Entries
+// `prescan_module_ids`: the index of the names that the items of the module declare, which is a part of the table.
+pub fn index<'a>(tree: &[u8], table: &'a mut [u32]) -> &'a [u32]
     requires accepted_at { AcceptedAt deepest tree.now 0 }
     requires tree_len_bound { length tree.now ≤ declaration_size * (length table.old / 2) }
     requires tree_len_bound_2 { length tree.now < farthest }
-    ensures { Indexed tree.now (take result.count (entries_of table.new result))
-        × (result.from + result.count ≤ length table.new) }
+    ensures { Indexed tree.now result.now }
 {
-    let mut filled = Entries {
-        from: table.len() / 2,
-        count: 0,
-    };
+    let mut names = Names::new(table);
     let mut rest = count_at(tree, 0);
     let mut item = body_at(tree, 0);
     while 0 < rest {
-        filled = enter_item(tree, item, DEEPEST - 1, table, filled);
+        enter_item(tree, item, DEEPEST - 1, &mut names);
         item = record_end(tree, item, DEEPEST - 1);
         rest -= 1;
     }
-    filled
+    names.into_entries()
 }
 
-// `prescan_module_ids`: whether some item of the module adds the name of the Id at `id`, its context and its symbol, to the set that is asked for.
-pub fn look_up(tree: &[u8], index: &[u32], id: usize, levels: usize, question: Question) -> bool
+// `prescan_module_ids`: the sets to which the items of the module add the name of the Id at `id`, its context and its symbol.
+pub fn look_up(tree: &[u8], index: &[u32], id: usize, levels: usize) -> Sets
     requires accepted_at { AcceptedAt levels tree.now id }
     requires indexed { Indexed tree.now index.now }
-    ensures { result ≡ asked (meant question) (kids_of (tree_at deepest tree.now 0)) (text_at tree.now id) }
+    ensures { (q : Question) → has q result ≡ asked q (kids_of (tree_at deepest tree.now 0)) (text_at tree.now id) }
 {
-    let name = text_at(tree, id);
-    let n = index.len();
-    let p = index::place(tree, index, n, name);
-    if index::stands(tree, index, n, p, name) {
-        return match question {
-            Question::TypeofSafe => index::bit(index[p], TYPEOF_SAFE),
-            Question::NonGenericClass => index::bit(index[p], NON_GENERIC_CLASS),
-            Question::ArrayTyped => index::bit(index[p], ARRAY_TYPED),
-        };
+    match index::find(tree, index, text_at(tree, id)) {
+        Ok(p) => Sets::of(index[p]),
+        Err(_) => Sets::default(),
     }
-    false
 }

@@ -11,7 +11,7 @@ ghost use Rattle.std.specs.Prelude.{◌≡◌};
 
 use console::{MOST, ROOM, UNRESOLVED, front, print, print_hex, print_number};
 use names::Key;
-use prescan::{LARGE_TABLE, Question};
+use prescan::LARGE_TABLE;
 use records::DUMMY_SP;
 use records::marks::{
     AR, AS, AW, AY, BI, BL, BN, CA, CT, CX, FT, FX, ID, JT, KC, KI, KW, LI, MB, MI, NE, NL, NN, NU,
@@ -211,12 +211,10 @@ fn show_questions(
     requires accepted_at { AcceptedAt levels tree.now at }
     requires indexed { Indexed tree.now index.now }
 {
-    let safe = prescan::look_up(tree, index, at, levels, Question::TypeofSafe);
-    print_bool(rt, at, b"typeof_safe", safe)?;
-    let class = prescan::look_up(tree, index, at, levels, Question::NonGenericClass);
-    print_bool(rt, at, b"non_generic_class", class)?;
-    let array = prescan::look_up(tree, index, at, levels, Question::ArrayTyped);
-    print_bool(rt, at, b"array_typed", array)
+    let sets = prescan::look_up(tree, index, at, levels);
+    print_bool(rt, at, b"typeof_safe", sets.typeof_safe)?;
+    print_bool(rt, at, b"non_generic_class", sets.non_generic_class)?;
+    print_bool(rt, at, b"array_typed", sets.array_typed)
 }
 
 fn symbol_of(tree: &[u8], at: usize, levels: usize) -> &[u8]
@@ -369,10 +367,8 @@ fn show_items(rt: &impl Print, tree: &[u8], index: &[u32]) -> io::Result<()>
 fn show_tree(rt: &impl Print, tree: &[u8]) -> io::Result<()> {
     if console::print_check(rt, tree)? {
         let mut table = [0u32; LARGE_TABLE];
-        let names = prescan::index(tree, &mut table);
-        let from = names.from;
-        let end = from + names.count;
-        show_items(rt, tree, &table[from..end])?;
+        let index = prescan::index(tree, &mut table);
+        show_items(rt, tree, index)?;
     }
     Ok(())
 }

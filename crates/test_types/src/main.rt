@@ -240,10 +240,8 @@ fn show_items(rt: &impl Print, tree: &[u8], index: &[u32]) -> io::Result<()>
 fn show_module(rt: &impl Print, tree: &[u8]) -> io::Result<()> {
     if console::print_check(rt, tree)? {
         let mut table = [0u32; LARGE_TABLE];
-        let names = prescan::index(tree, &mut table);
-        let from = names.from;
-        let end = from + names.count;
-        show_items(rt, tree, &table[from..end])?;
+        let index = prescan::index(tree, &mut table);
+        show_items(rt, tree, index)?;
     }
     Ok(())
 }

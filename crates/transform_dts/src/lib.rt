@@ -131,10 +131,8 @@ fn with_table(
     ensures { Gives (written_of list.now unresolved tree.now out.old diagnostics.old)
         result out.new diagnostics.new }
 {
-    let names = prescan::index(tree, table);
-    let from = names.from;
-    let end = from + names.count;
-    dry_run_and_run(tree, &table[from..end], list, unresolved, out, diagnostics)
+    let index = prescan::index(tree, table);
+    dry_run_and_run(tree, index, list, unresolved, out, diagnostics)
 }
 
 // The same, for a small tree.

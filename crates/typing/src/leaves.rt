@@ -16,7 +16,7 @@ ghost use Rattle.typing.specs.Leaf.{leaf_type};
 
 use crate::Mode;
 use crate::readonly::readonly_or_same;
-use prescan::{Question, Scope};
+use prescan::Scope;
 use records::DUMMY_SP;
 use records::marks::{BI, BL, ID, JT, MI, NE, NL, NO, NU, RE, SS, TE};
 use records::text::same_text;
@@ -87,7 +87,7 @@ pub fn ident_to_ts_type(
     if records::text::context_at(tree, at) == scope.unresolved {
         return global_type(tree, at, levels, as_const, out, p);
     }
-    if prescan::look_up(tree, index, at, levels, Question::TypeofSafe) {
+    if prescan::look_up(tree, index, at, levels).typeof_safe {
         return MaybeType::Typed(swc_helpers::ts_type_query(tree, at, levels, DUMMY_SP, out, p));
     }
     MaybeType::Untyped
@@ -114,7 +114,7 @@ fn new_type(
     if records::mark_at(tree, type_args) != NO {
         return MaybeType::Untyped;
     }
-    if prescan::look_up(tree, index, ident, levels - 1, Question::NonGenericClass) {
+    if prescan::look_up(tree, index, ident, levels - 1).non_generic_class {
         return MaybeType::Typed(swc_helpers::reference_to(
             tree,
             ident,
@@ -161,7 +161,7 @@ pub fn array_ident(
     ensures { PutMaybe out.old out.new p
         (cond ((ids_of tree.now).array_typed (text_at tree.now at)) (some (ts_type_query dummy_sp (tree_at levels tree.now at))) none) result }
 {
-    if prescan::look_up(tree, index, at, levels, Question::ArrayTyped) {
+    if prescan::look_up(tree, index, at, levels).array_typed {
         return MaybeType::Typed(swc_helpers::ts_type_query(tree, at, levels, DUMMY_SP, out, p));
     }
     MaybeType::Untyped

@@ -36,17 +36,11 @@ record_end-ty-requires c = lies (ident-child c.requires.accepted_at c.mark_at.en
 pub record_end-init-requires : goal.record_end-init-requires
 record_end-init-requires c = lies (pattern-child c.requires.accepted_at c.mark_at.ensures.0 c.if-mark_at-ne-VR.false c.body_at-pattern.ensures).accepted
 
-pub add_const-safe-requires : goal.add_const-safe-requires
-add_const-safe-requires c = record { accepted_at = (init-child c.requires.accepted_at c.mark_at.ensures.0 c.if-mark_at-ne-VR.false c.body_at-pattern.ensures c.record_end-init.ensures).accepted; accepted_at_2 = (type-child c.requires.accepted_at c.mark_at.ensures.0 c.if-mark_at-ne-VR.false c.body_at-pattern.ensures c.mark_at-2.ensures.0 c.if-mark_at-ne-BD.false c.body_at-ident.ensures c.record_end-ty.ensures).accepted }
-
-pub add_const-array-requires : goal.add_const-array-requires
-add_const-array-requires c = record { accepted_at = (init-child c.requires.accepted_at c.mark_at.ensures.0 c.if-mark_at-ne-VR.false c.body_at-pattern.ensures c.record_end-init.ensures).accepted; accepted_at_2 = (type-child c.requires.accepted_at c.mark_at.ensures.0 c.if-mark_at-ne-VR.false c.body_at-pattern.ensures c.mark_at-2.ensures.0 c.if-mark_at-ne-BD.false c.body_at-ident.ensures c.record_end-ty.ensures).accepted }
+pub add_const-sets-requires : goal.add_const-sets-requires
+add_const-sets-requires c = record { accepted_at = (init-child c.requires.accepted_at c.mark_at.ensures.0 c.if-mark_at-ne-VR.false c.body_at-pattern.ensures c.record_end-init.ensures).accepted; accepted_at_2 = (type-child c.requires.accepted_at c.mark_at.ensures.0 c.if-mark_at-ne-VR.false c.body_at-pattern.ensures c.mark_at-2.ensures.0 c.if-mark_at-ne-BD.false c.body_at-ident.ensures c.record_end-ty.ensures).accepted }
 
 pub insert-requires : goal.insert-requires
 insert-requires c = record { sorted = c.requires.room.sorted; from_nonzero = room-one c.requires.room (omega (arith, declarator-long c.requires.accepted_at c.mark_at.ensures.0 c.if-mark_at-ne-VR.false c.body_at-pattern.ensures c.mark_at-2.ensures.0 c.if-mark_at-ne-BD.false c.body_at-ident.ensures c.record_end-ty.ensures c.record_end-init.ensures, end-inside _ _ _ c.requires.accepted_at)); id_in_bounds = fits (ident-child c.requires.accepted_at c.mark_at.ensures.0 c.if-mark_at-ne-VR.false c.body_at-pattern.ensures c.mark_at-2.ensures.0 c.if-mark_at-ne-BD.false c.body_at-ident.ensures).accepted; tree_len_bound = c.requires.room.short }
 
-pub shape_of-table : goal.shape_of-table
-shape_of-table c = c.insert.ensures.grown.same
-
 pub returns : goal.returns
-returns c = filled-one c.requires.room c.insert.ensures.enters c.insert.ensures.grown (declarator-long c.requires.accepted_at c.mark_at.ensures.0 c.if-mark_at-ne-VR.false c.body_at-pattern.ensures c.mark_at-2.ensures.0 c.if-mark_at-ne-BD.false c.body_at-ident.ensures c.record_end-ty.ensures c.record_end-init.ensures) (λ q t. declarator-one c.requires.accepted_at c.mark_at.ensures.0 c.if-mark_at-ne-VR.false c.body_at-pattern.ensures c.mark_at-2.ensures.0 c.if-mark_at-ne-BD.false c.body_at-ident.ensures c.record_end-ty.ensures c.record_end-init.ensures c.add_const-safe.ensures c.add_const-array.ensures q t)
+returns c = filled-one c.requires.room c.insert.ensures.enters c.insert.ensures.grown (declarator-long c.requires.accepted_at c.mark_at.ensures.0 c.if-mark_at-ne-VR.false c.body_at-pattern.ensures c.mark_at-2.ensures.0 c.if-mark_at-ne-BD.false c.body_at-ident.ensures c.record_end-ty.ensures c.record_end-init.ensures) (λ q t. declarator-one c.requires.accepted_at c.mark_at.ensures.0 c.if-mark_at-ne-VR.false c.body_at-pattern.ensures c.mark_at-2.ensures.0 c.if-mark_at-ne-BD.false c.body_at-ident.ensures c.record_end-ty.ensures c.record_end-init.ensures c.add_const-sets.ensures q t)

@@ -17,14 +17,8 @@ overflow_sub-levels c = omega (arith, level c.requires.accepted_at)
 pub enter_decl-requires : goal.enter_decl-requires
 enter_decl-requires c = record { accepted_at = (export_child c.requires.accepted_at c.mark_at.ensures.0 c.body_at.ensures c.in-25669.is).accepted; room = room-later c.requires.room (omega (arith, c.body_at.ensures)) }
 
-pub shape_of-table-in-25669 : goal.shape_of-table-in-25669
-shape_of-table-in-25669 c = c.enter_decl.ensures.same
-
 pub returns-in-25669 : goal.returns-in-25669
 returns-in-25669 c = filled_eq (first_ends c.requires.accepted_at (export_child c.requires.accepted_at c.mark_at.ensures.0 c.body_at.ensures c.in-25669.is).there c.body_at.ensures) (item_export c.requires.accepted_at c.mark_at.ensures.0 c.body_at.ensures c.in-25669.is) c.enter_decl.ensures
-
-pub shape_of-table-in_default : goal.shape_of-table-in_default
-shape_of-table-in_default c = c.enter_decl-in_default.ensures.same
 
 pub returns-in_default : goal.returns-in_default
 returns-in_default c = filled_eq (omega arith) (λ q t. item-plain c.requires.accepted_at c.mark_at.ensures.0 q t c.in_default.in_default-own.rest.1) c.enter_decl-in_default.ensures

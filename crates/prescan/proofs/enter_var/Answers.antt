@@ -1,6 +1,5 @@
 -- `prescan::enter_var` meets its contract: each turn of the loop enters one declarator.
 use native.Mathlib.Omega.{arith}
-use borrow.Author.Tests.{not-true, not-false}
 use mathlib.Core.Path.{sym, ap, ◌∙◌}
 use Rattle.definition.specs.Prescan.{add_declarator}
 use Rattle.definition.proofs.Children.{end_after}
@@ -25,8 +24,8 @@ loop-rest-init c = filling_start Vars c.requires.accepted_at c.requires.room (ap
 pub overflow_sub-levels : goal.overflow_sub-levels
 overflow_sub-levels c = omega (arith, level c.requires.accepted_at)
 
-pub enter_declarator-filled-requires : goal.enter_declarator-filled-requires
-enter_declarator-filled-requires c = record { accepted_at = left-first c.loop-rest.invariant.left c.loop-rest-test.true; room = c.loop-rest.invariant.room }
+pub enter_declarator-requires : goal.enter_declarator-requires
+enter_declarator-requires c = record { accepted_at = left-first c.loop-rest.invariant.left c.loop-rest-test.true; room = c.loop-rest.invariant.room }
 
 pub overflow_sub-levels-in-loop-rest : goal.overflow_sub-levels-in-loop-rest
 overflow_sub-levels-in-loop-rest c = omega (arith, level c.requires.accepted_at)
@@ -41,10 +40,7 @@ pub loop-rest-smaller : goal.loop-rest-smaller
 loop-rest-smaller c = omega arith
 
 pub loop-rest-preserved : goal.loop-rest-preserved
-loop-rest-preserved c = filling_turn c.loop-rest.invariant add_declarator declares-step c.loop-rest-test.true c.enter_declarator-filled.ensures c.record_end-declarator.ensures
-
-pub shape_of-table : goal.shape_of-table
-shape_of-table c = c.loop-rest.invariant.filled.same
+loop-rest-preserved c = filling_turn c.loop-rest.invariant add_declarator declares-step c.loop-rest-test.true c.enter_declarator.ensures c.record_end-declarator.ensures
 
 pub returns : goal.returns
 returns c = filled_eq (omega arith) (λ q t. var-const c.requires.accepted_at (ap (λ h. h.flags) c.read_head-head.ensures) q t (sym c.has_flag.ensures ∙ c.if-not-has_flag.false)) (filling_done c.loop-rest.invariant declares-none c.loop-rest-test.false)

@@ -6,7 +6,7 @@ use Rattle.prescan.proofs.Tables.{Vars, Filling}
 use Rattle.prescan.proofs.enter_var.Given as goal
 
 abbrev pub invariant-loop-rest : goal.invariant-loop-rest
-invariant-loop-rest l = Filling Vars (kids_of (tree_at l.levels l.tree l.at)) (l.levels - 1) l.tree l.initial.table l.initial.filled (end_at l.levels l.tree l.at) l.table l.filled l.rest l.declarator
+invariant-loop-rest l = Filling Vars (kids_of (tree_at l.levels l.tree l.at)) (l.levels - 1) l.tree l.initial.names (end_at l.levels l.tree l.at) l.names l.rest l.declarator
 
 abbrev pub decreases-loop-rest : goal.decreases-loop-rest
 decreases-loop-rest l = l.rest

@@ -1,6 +1,5 @@
 -- `prescan::index` meets its contract: each turn of the loop enters one item.
 use native.Mathlib.Omega.{arith}
-use mathlib.Core.Path.{refl}
 use Rattle.definition.specs.Prescan.{add_item}
 use Rattle.definition.proofs.Walk.{left-first}
 use Rattle.records.proofs.Accepted.{room, lies}
@@ -14,13 +13,13 @@ pub body_at-item-requires : goal.body_at-item-requires
 body_at-item-requires c = room c.requires.accepted_at
 
 pub loop-rest-init : goal.loop-rest-init
-loop-rest-init c = filling_start Items c.requires.accepted_at (room-start c.requires.tree_len_bound c.requires.tree_len_bound_2 refl) c.count_at-rest.ensures.0 c.body_at-item.ensures
+loop-rest-init c = filling_start Items c.requires.accepted_at (room-start c.new-names.result (rw c.new-names.ensures.table c.requires.tree_len_bound) c.requires.tree_len_bound_2 (rw c.new-names.ensures.table c.new-names.ensures.from) c.new-names.ensures.count) c.count_at-rest.ensures.0 c.body_at-item.ensures
 
 pub overflow_sub-enter_item : goal.overflow_sub-enter_item
 overflow_sub-enter_item c = omega arith
 
-pub enter_item-filled-requires : goal.enter_item-filled-requires
-enter_item-filled-requires c = record { accepted_at = left-first c.loop-rest.invariant.left c.loop-rest-test.true; room = c.loop-rest.invariant.room }
+pub enter_item-requires : goal.enter_item-requires
+enter_item-requires c = record { accepted_at = left-first c.loop-rest.invariant.left c.loop-rest-test.true; room = c.loop-rest.invariant.room }
 
 pub overflow_sub-record_end : goal.overflow_sub-record_end
 overflow_sub-record_end c = omega arith
@@ -35,10 +34,13 @@ pub loop-rest-smaller : goal.loop-rest-smaller
 loop-rest-smaller c = omega arith
 
 pub loop-rest-preserved : goal.loop-rest-preserved
-loop-rest-preserved c = filling_turn c.loop-rest.invariant add_item items-step c.loop-rest-test.true c.enter_item-filled.ensures c.record_end-item.ensures
+loop-rest-preserved c = filling_turn c.loop-rest.invariant add_item items-step c.loop-rest-test.true c.enter_item.ensures c.record_end-item.ensures
 
-pub shape_of-table : goal.shape_of-table
-shape_of-table c = c.loop-rest.invariant.filled.same
+pub into_entries-requires : goal.into_entries-requires
+into_entries-requires c =
+    let f = filling_done c.loop-rest.invariant items-none c.loop-rest-test.false in
+    let r = c.loop-rest.invariant.room in
+    inside c.loop-rest.names (omega (arith, r.from)) f.enters.sorted
 
 pub returns : goal.returns
-returns c = let f = filling_done c.loop-rest.invariant items-none c.loop-rest-test.false in (indexed refl f, inside _ _ (omega (arith, f.from, f.same)) f.enters.sorted)
+returns c = rw c.into_entries.ensures (indexed c.new-names.ensures.count (filling_done c.loop-rest.invariant items-none c.loop-rest-test.false))

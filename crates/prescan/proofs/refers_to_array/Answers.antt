@@ -15,7 +15,7 @@ pub symbol_at-symbol-requires : goal.symbol_at-symbol-requires
 symbol_at-symbol-requires c = (fits c.requires, id-text c.args.levels c.args.tree.now c.args.at c.requires (sym c.mark_at.ensures.0 ∙ c.if-mark_at-ne-ID.false))
 
 pub returns-then-same_text : goal.returns-then-same_text
-returns-then-same_text c = sym (refers_array c.requires c.mark_at.ensures.0 c.if-mark_at-ne-ID.false c.symbol_at-symbol.ensures (sym c.same_text.ensures ∙ c.if-same_text.true))
+returns-then-same_text c = c.if-same_text.true ∙ sym (refers_array c.requires c.mark_at.ensures.0 c.if-mark_at-ne-ID.false c.symbol_at-symbol.ensures (sym c.same_text.ensures ∙ c.if-same_text.true))
 
-pub returns : goal.returns
-returns c = c.same_text-2.ensures ∙ sym (refers_readonly c.requires c.mark_at.ensures.0 c.if-mark_at-ne-ID.false c.symbol_at-symbol.ensures (sym c.same_text.ensures ∙ c.if-same_text.false))
+pub returns-else-same_text : goal.returns-else-same_text
+returns-else-same_text c = c.same_text-else-same_text.ensures ∙ sym (refers_readonly c.requires c.mark_at.ensures.0 c.if-mark_at-ne-ID.false c.symbol_at-symbol.ensures (sym c.same_text.ensures ∙ c.if-same_text.false))

@@ -1,6 +1,7 @@
 -- `leaves::ident_to_ts_type` meets its contract.
 use Rattle.definition.proofs.Children.{itself}
 use Rattle.definition.proofs.Kids.{id-text}
+use Rattle.definition.specs.Prescan.{Question.typeof_safe}
 use Rattle.swc_helpers.proofs.Answers.{as-type}
 use Rattle.typing.proofs.Maybe.{maybe_some, maybe_none}
 use Rattle.typing.proofs.Arms.{safe_test, ident-global, ident_safe, ident_unsafe}
@@ -22,7 +23,7 @@ pub ts_type_query-requires : goal.ts_type_query-requires
 ts_type_query-requires c = c.requires.accepted_at.0
 
 pub returns-then-look_up : goal.returns-then-look_up
-returns-then-look_up c = maybe_some c.ts_type_query.ensures (ident_safe _ _ c.args.levels c.args.tree.now c.args.at _ c.context_at.ensures c.if-context_at-scope.false (safe_test c.args.levels c.args.tree.now c.args.at c.look_up.ensures c.if-look_up.true))
+returns-then-look_up c = maybe_some c.ts_type_query.ensures (ident_safe _ _ c.args.levels c.args.tree.now c.args.at _ c.context_at.ensures c.if-context_at-scope.false (safe_test c.args.levels c.args.tree.now c.args.at (c.look_up.ensures typeof_safe) c.if-look_up.true))
 
 pub returns : goal.returns
-returns c = maybe_none _ _ (ident_unsafe _ _ c.args.levels c.args.tree.now c.args.at _ c.context_at.ensures c.if-context_at-scope.false (safe_test c.args.levels c.args.tree.now c.args.at c.look_up.ensures c.if-look_up.false))
+returns c = maybe_none _ _ (ident_unsafe _ _ c.args.levels c.args.tree.now c.args.at _ c.context_at.ensures c.if-context_at-scope.false (safe_test c.args.levels c.args.tree.now c.args.at (c.look_up.ensures typeof_safe) c.if-look_up.false))

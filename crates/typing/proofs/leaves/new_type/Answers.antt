@@ -7,6 +7,7 @@ use Rattle.definition.specs.Record.{kids_of, dummy_sp}
 use Rattle.definition.specs.Helpers.{reference_to}
 use Rattle.definition.proofs.Children.{itself, some_left}
 use Rattle.definition.proofs.Kids.{placed}
+use Rattle.definition.specs.Prescan.{Question.non_generic_class}
 use Rattle.swc_helpers.proofs.Made.{is_whole, put_as}
 use Rattle.typing.specs.Did.{ids_of}
 use Rattle.typing.proofs.Slots.{ne_callee, ne_types, is-kid, not-kid}
@@ -51,9 +52,9 @@ pub returns-then-look_up : goal.returns-then-look_up
 returns-then-look_up c =
     let k = placed (ne_callee _ _ _ c.requires.accepted_at.0 c.requires.accepted_at.1) c.body_at-ident.ensures in
     maybe_some (put_as c.reference_to.ensures (ap (λ (r : Rec). encode (reference_to dummy_sp r)) (sym k.tree)))
-    (new-class (ids_of c.args.tree.now) (kids_of (tree_at c.args.levels c.args.tree.now c.args.at)) (is-kid k c.mark_at.ensures.0 c.if-mark_at-ne-ID.false) (is-kid (placed (ne_types _ _ _ c.requires.accepted_at.0 c.requires.accepted_at.1) (c.record_end-type_args.ensures ∙ ap (end_at (c.args.levels - 1) c.args.tree.now) c.body_at-ident.ensures)) c.mark_at-2.ensures.0 c.if-mark_at-ne-NO.false) (rw k.tree (class_test (c.args.levels - 1) c.args.tree.now c.body_at-ident.result c.look_up.ensures c.if-look_up.true)))
+    (new-class (ids_of c.args.tree.now) (kids_of (tree_at c.args.levels c.args.tree.now c.args.at)) (is-kid k c.mark_at.ensures.0 c.if-mark_at-ne-ID.false) (is-kid (placed (ne_types _ _ _ c.requires.accepted_at.0 c.requires.accepted_at.1) (c.record_end-type_args.ensures ∙ ap (end_at (c.args.levels - 1) c.args.tree.now) c.body_at-ident.ensures)) c.mark_at-2.ensures.0 c.if-mark_at-ne-NO.false) (rw k.tree (class_test (c.args.levels - 1) c.args.tree.now c.body_at-ident.result (c.look_up.ensures non_generic_class) c.if-look_up.true)))
 
 pub returns : goal.returns
 returns c =
     let k = placed (ne_callee _ _ _ c.requires.accepted_at.0 c.requires.accepted_at.1) c.body_at-ident.ensures in
-    maybe_none _ _ (new-other (ids_of c.args.tree.now) (kids_of (tree_at c.args.levels c.args.tree.now c.args.at)) (is-kid k c.mark_at.ensures.0 c.if-mark_at-ne-ID.false) (is-kid (placed (ne_types _ _ _ c.requires.accepted_at.0 c.requires.accepted_at.1) (c.record_end-type_args.ensures ∙ ap (end_at (c.args.levels - 1) c.args.tree.now) c.body_at-ident.ensures)) c.mark_at-2.ensures.0 c.if-mark_at-ne-NO.false) (rw k.tree (class_test (c.args.levels - 1) c.args.tree.now c.body_at-ident.result c.look_up.ensures c.if-look_up.false)))
+    maybe_none _ _ (new-other (ids_of c.args.tree.now) (kids_of (tree_at c.args.levels c.args.tree.now c.args.at)) (is-kid k c.mark_at.ensures.0 c.if-mark_at-ne-ID.false) (is-kid (placed (ne_types _ _ _ c.requires.accepted_at.0 c.requires.accepted_at.1) (c.record_end-type_args.ensures ∙ ap (end_at (c.args.levels - 1) c.args.tree.now) c.body_at-ident.ensures)) c.mark_at-2.ensures.0 c.if-mark_at-ne-NO.false) (rw k.tree (class_test (c.args.levels - 1) c.args.tree.now c.body_at-ident.result (c.look_up.ensures non_generic_class) c.if-look_up.false)))
