@@ -1,5 +1,6 @@
 -- `Object.freeze`: its callee and its argument, in an accepted tree.
-use Rattle.std.proofs.Common.{◌≡◌, ℕ, ◌-◌, ◌<◌, ◌≤◌, Bool, true, false, not, ◌&&◌, eqb, ◌⊎◌, List, sym, refl, ap, ◌∙◌, ⊎_elim, arith, eq-eqb, ne_eqb}
+use Rattle.std.proofs.Common.{◌≡◌, ℕ, ◌-◌, ◌<◌, ◌≤◌, Bool, true, false, Option as Answered, Some, None, not, ◌&&◌, eqb, ◌⊎◌, List, sym, refl, ap, ◌∙◌, ⊎_elim, arith, eq-eqb, ne_eqb}
+use Rattle.std.specs.Bool.{then_some}
 use Rattle.definition.specs.Tree.{Rec, Recs, nil, cons, count, mark_at, count_at, text_at, body_at, read_all, end_of_all, end_at, tree_at}
 use Rattle.definition.specs.Grammar.{mark, grammar, known, slots, place, least}
 use Rattle.definition.specs.Children.{AcceptedAt, child_at}
@@ -8,10 +9,8 @@ use Rattle.definition.specs.Helpers.{is_global, object_freeze_call_arg}
 use Rattle.definition.proofs.Children.{some_left, child, child_0, child_1, read_all_more, read_all_none}
 use Rattle.definition.proofs.Converse.{count_read_all}
 use Rattle.definition.proofs.Kids.{mark-is, text-is, kids_are, kid_is, has}
-use Rattle.swc_helpers.specs.declared.Found.{Found}
-use Rattle.swc_helpers.specs.declared.Found.TheVariants.{At, Nothing}
 use Rattle.swc_helpers.specs.Found.{found_if, is_object_freeze}
-use Rattle.swc_helpers.proofs.Answers.{nothing-found, found_at}
+use Rattle.swc_helpers.proofs.Answers.{nothing-found, found_at, found-as}
 
 -- ---- levels
 
@@ -58,6 +57,14 @@ pub record OfObject (levels : ℕ) (s : List ℕ) (at unresolved obj prop : ℕ)
   pub member : Member levels s at obj
   pub global : is_global unresolved "Object" (tree_at (levels - 1) s obj) ≡ true
   pub behind : prop ≡ end_at (levels - 1) s obj
+
+-- each from what was asked for it
+pub member-met : {levels : ℕ} {s : List ℕ} {at obj m : ℕ} → AcceptedAt levels s at → m ≡ mark_at s at → m ≡ mark "Mb" → obj ≡ body_at s at → Member levels s at obj
+member-met a q t e = record { it = a; marked = sym q ∙ t; body = e }
+
+pub of_object-met : {levels : ℕ} {s : List ℕ} {at unresolved obj prop : ℕ} {b : Bool} → Member levels s at obj → b ≡ is_global unresolved "Object" (tree_at (levels - 1) s obj) → b ≡ true
+    → prop ≡ end_at (levels - 1) s obj → OfObject levels s at unresolved obj prop
+of_object-met m q t e = record { member = m; global = sym q ∙ t; behind = e }
 
 pub no_member : (levels : ℕ) (s : List ℕ) (at unresolved : ℕ) → (mark_at s at ≡ mark "Mb" → ⊥) → false ≡ is_object_freeze unresolved (tree_at levels s at)
 no_member levels s at unresolved n = rw (ne_eqb _ _ (λ e. n (sym (mark-is levels s at) ∙ e)))
@@ -142,8 +149,20 @@ pub record Followed (levels : ℕ) (s : List ℕ) (at unresolved callee arg next
   pub more : count_at s at ≡ 2 → ⊥
   pub behind : next ≡ end_at (levels - 1) s arg
 
+-- each from what was asked for it
+pub call-met : {levels : ℕ} {s : List ℕ} {at callee : ℕ} → AcceptedAt levels s at × (mark_at s at ≡ mark "Ca") → callee ≡ body_at s at → Call levels s at callee
+call-met a e = record { it = a.0; marked = a.1; body = e }
+
+pub freeze-met : {levels : ℕ} {s : List ℕ} {at unresolved callee arg : ℕ} {b : Bool} {n : ℕ} → Call levels s at callee → b ≡ is_object_freeze unresolved (tree_at (levels - 1) s callee) → b ≡ true
+    → n ≡ count_at s at → 2 ≤ n → arg ≡ end_at (levels - 1) s callee → Freeze levels s at unresolved callee arg
+freeze-met k q t m two e = record { call = k; freezes = sym q ∙ t; two = omega arith; behind = e }
+
+pub followed-met : {levels : ℕ} {s : List ℕ} {at unresolved callee arg next : ℕ} {n : ℕ} → Plain levels s at unresolved callee arg → n ≡ count_at s at → (n ≡ 2 → ⊥) → next ≡ end_at (levels - 1) s arg
+    → Followed levels s at unresolved callee arg next
+followed-met p m more e = record { plain = p; more = λ q. more (m ∙ q); behind = e }
+
 -- what `object_freeze_call_arg` answers
-abbrev pub Answer : ℕ → List ℕ → ℕ → ℕ → Found
+abbrev pub Answer : ℕ → List ℕ → ℕ → ℕ → Answered ℕ
 Answer levels s at unresolved = found_if (object_freeze_call_arg unresolved (kids_of (tree_at levels s at))) (child_at levels s at 1)
 
 module _ {levels : ℕ} {s : List ℕ} {at callee : ℕ} (k : Call levels s at callee) where
@@ -154,11 +173,11 @@ module _ {levels : ℕ} {s : List ℕ} {at callee : ℕ} (k : Call levels s at c
   pub callee_accepted : AcceptedAt (levels - 1) s callee
   callee_accepted = first-accepted levels s at k.it callee k.body one_part
 
-  pub other_callee : (unresolved : ℕ) → is_object_freeze unresolved (tree_at (levels - 1) s callee) ≡ false → Nothing ≡ Answer levels s at unresolved
+  pub other_callee : (unresolved : ℕ) → is_object_freeze unresolved (tree_at (levels - 1) s callee) ≡ false → None ≡ Answer levels s at unresolved
   other_callee unresolved f =
       nothing-found _ _ (call_off unresolved (kids_of (tree_at levels s at)) (ap (is_object_freeze unresolved) (first-is levels s at k.it callee k.body one_part) ∙ f))
 
-  pub no_argument : (unresolved n : ℕ) → n ≡ count_at s at → n < 2 → Nothing ≡ Answer levels s at unresolved
+  pub no_argument : (unresolved n : ℕ) → n ≡ count_at s at → n < 2 → None ≡ Answer levels s at unresolved
   no_argument unresolved n e h =
       nothing-found _ _ (call-few unresolved (kids_of (tree_at levels s at))
       (omega (arith, ap count (kids_are levels s at k.it), count_read_all (tree_at (levels - 1) s) (end_at (levels - 1) s) (count_at s at) (body_at s at))))
@@ -191,7 +210,7 @@ module _ {levels : ℕ} {s : List ℕ} {at unresolved callee arg : ℕ} (f : Fre
       ∙ call-on unresolved (tree_at (levels - 1) s callee) (tree_at (levels - 1) s arg) others f.freezes
       ∙ ap (λ (m : ℕ). not (eqb m (mark "Op")) && (ends others && not (eqb m (mark "Sp")))) (mark-is (levels - 1) s arg)
 
-  pub op_or_spread : {m : ℕ} → m ≡ mark_at s arg → (m ≡ mark "Op") ⊎ (m ≡ mark "Sp") → Nothing ≡ Answer levels s at unresolved
+  pub op_or_spread : {m : ℕ} → m ≡ mark_at s arg → (m ≡ mark "Op") ⊎ (m ≡ mark "Sp") → None ≡ Answer levels s at unresolved
   op_or_spread e o = nothing-found _ _ (arg_is ∙ ⊎_elim (λ (q : _ ≡ mark "Op"). rw (sym e ∙ q)) (λ (q : _ ≡ mark "Sp"). rw (sym e ∙ q) (never (ends others))) o)
     where
       never : (b : Bool) → (b && false) ≡ false
@@ -206,7 +225,7 @@ module _ {levels : ℕ} {s : List ℕ} {at unresolved callee arg : ℕ} (p : Pla
       kept true = refl
       kept false = refl
 
-  pub last_one : count_at s at ≡ 2 → At arg ≡ Answer levels s at unresolved
+  pub last_one : count_at s at ≡ 2 → Some arg ≡ Answer levels s at unresolved
   last_one n =
       found_at _ _ _
       (ends_is ∙ ap ends (read_all_none (tree_at (levels - 1) s) (end_at (levels - 1) s) (count_at s at - 1 - 1) (end_at (levels - 1) s arg) (omega arith)))
@@ -229,8 +248,5 @@ module _ {levels : ℕ} {s : List ℕ} {at unresolved callee arg next : ℕ} (w 
       ∙ ap (λ (x : ℕ). is "Op" (tree_at (levels - 1) s x)) (sym w.behind)
       ∙ ap (λ (m : ℕ). eqb m (mark "Op")) (mark-is (levels - 1) s next)
 
-  pub then_ops : mark_at s next ≡ mark "Op" → At arg ≡ Answer levels s at unresolved
-  then_ops q = found_at _ _ _ (next-is ∙ eq-eqb _ _ q) (arg-at w.plain.freeze)
-
-  pub more_args : (mark_at s next ≡ mark "Op" → ⊥) → Nothing ≡ Answer levels s at unresolved
-  more_args q = nothing-found _ _ (next-is ∙ ne_eqb _ _ q)
+  pub then_ops : {m : ℕ} → m ≡ mark_at s next → then_some (eqb m (mark "Op")) arg ≡ Answer levels s at unresolved
+  then_ops e = found-as _ (ap (λ (m : ℕ). eqb m (mark "Op")) e ∙ sym next-is) (arg-at w.plain.freeze)

@@ -1,5 +1,5 @@
 -- The kinds of literals, and the types that they get.
-use Rattle.std.proofs.Common.{◌≡◌, ℕ, Bool, true, false, cond, eqb, List, [], ◌∷◌, sym, refl, ap, ◌∙◌, arith, eqb-true}
+use Rattle.std.proofs.Common.{◌≡◌, ℕ, Bool, true, false, Option as Answer, cond, eqb, List, [], ◌∷◌, sym, refl, ap, ◌∙◌, eqb-true}
 use mathlib.Core.Option.{Option, none}
 use lib.Ieee.{Float}
 use types.Run.{OneOf, miss}
@@ -14,7 +14,6 @@ use Rattle.swc_helpers.specs.declared.literals.Literal.{Literal}
 use Rattle.swc_helpers.specs.declared.literals.Literal.TheVariants.{Str, Num, BigInt, Bool as Boolean, Null, Regex, JsxText}
 use Rattle.swc_helpers.specs.contracts.literals.Literal.{the_type}
 use Rattle.swc_helpers.specs.declared.DeclMutabilityKind.{DeclMutabilityKind}
-use Rattle.swc_helpers.specs.declared.MaybeType.{MaybeType}
 use Rattle.swc_helpers.specs.Literal.{number_of, literal_by, literal_of, kind_of}
 use Rattle.swc_helpers.specs.Found.{is_const, PutMaybe}
 
@@ -35,7 +34,7 @@ pub kind-is : (levels : ℕ) (s : List ℕ) (at : ℕ) {lit l : Literal} → lit
 kind-is levels s at f e = sym (kind-by (lit_kind (mark_of (tree_at levels s at))) at (tree_at levels s at)) ∙ ap kind_of (sym f ∙ e)
 
 -- what is written for a literal of a case, where the definition is F, in a position of a kind
-pub lit-put : (F : Lit → Rec → Bool → Option Rec) (levels : ℕ) (s : List ℕ) (at : ℕ) {a b : List ℕ} {p : ℕ} {lit l : Literal} {kind k : DeclMutabilityKind} {t : Option Rec} {x : MaybeType}
+pub lit-put : (F : Lit → Rec → Bool → Option Rec) (levels : ℕ) (s : List ℕ) (at : ℕ) {a b : List ℕ} {p : ℕ} {lit l : Literal} {kind k : DeclMutabilityKind} {t : Option Rec} {x : Answer ℕ}
     → lit ≡ literal_of at (tree_at levels s at) → lit ≡ l → kind ≡ k → t ≡ F (kind_of l) (tree_at levels s at) (is_const k) → PutMaybe a b p t x
     → PutMaybe a b p (F (lit_kind (mark_of (tree_at levels s at))) (tree_at levels s at) (is_const kind)) x
 lit-put F levels s at f e d q w = rw (kind-is levels s at f e, d, ← q) w
@@ -44,22 +43,22 @@ lit-put F levels s at f e d q w = rw (kind-is levels s at f e, d, ← q) w
 
 -- the mark of a number, and of a big integer
 is_number : (a b c d e f : Bool) → cond a l_str (cond b l_bool (cond c l_null (cond d l_num (cond e l_big_int (cond f l_regex l_jsx_text))))) ≡ l_num → d ≡ true
-is_number true b c d e f q = absurd (let z : ◌≡◌ {A = ℕ} 0 1 = cc in omega arith)
-is_number false true c d e f q = absurd (let z : ◌≡◌ {A = ℕ} 0 1 = cc in omega arith)
-is_number false false true d e f q = absurd (let z : ◌≡◌ {A = ℕ} 0 1 = cc in omega arith)
+is_number true b c d e f q = absurd cc
+is_number false true c d e f q = absurd cc
+is_number false false true d e f q = absurd cc
 is_number false false false true e f q = refl
-is_number false false false false true f q = absurd (let z : ◌≡◌ {A = ℕ} 0 1 = cc in omega arith)
-is_number false false false false false true q = absurd (let z : ◌≡◌ {A = ℕ} 0 1 = cc in omega arith)
-is_number false false false false false false q = absurd (let z : ◌≡◌ {A = ℕ} 0 1 = cc in omega arith)
+is_number false false false false true f q = absurd cc
+is_number false false false false false true q = absurd cc
+is_number false false false false false false q = absurd cc
 
 is_big : (a b c d e f : Bool) → cond a l_str (cond b l_bool (cond c l_null (cond d l_num (cond e l_big_int (cond f l_regex l_jsx_text))))) ≡ l_big_int → e ≡ true
-is_big true b c d e f q = absurd (let z : ◌≡◌ {A = ℕ} 0 1 = cc in omega arith)
-is_big false true c d e f q = absurd (let z : ◌≡◌ {A = ℕ} 0 1 = cc in omega arith)
-is_big false false true d e f q = absurd (let z : ◌≡◌ {A = ℕ} 0 1 = cc in omega arith)
-is_big false false false true e f q = absurd (let z : ◌≡◌ {A = ℕ} 0 1 = cc in omega arith)
+is_big true b c d e f q = absurd cc
+is_big false true c d e f q = absurd cc
+is_big false false true d e f q = absurd cc
+is_big false false false true e f q = absurd cc
 is_big false false false false true f q = refl
-is_big false false false false false true q = absurd (let z : ◌≡◌ {A = ℕ} 0 1 = cc in omega arith)
-is_big false false false false false false q = absurd (let z : ◌≡◌ {A = ℕ} 0 1 = cc in omega arith)
+is_big false false false false false true q = absurd cc
+is_big false false false false false false q = absurd cc
 
 module _ (m : ℕ) where
   number-mark : lit_kind m ≡ l_num → m ≡ mark "Nu"
@@ -86,12 +85,12 @@ other-minus JsxText r c h = refl
 value-by : (k : Lit) (at : ℕ) (r : Rec) (v : Float) → literal_by k at r ≡ Num v → v ≡ number_of (text_of r)
 unfolding literal_by
 value-by l_num at r v q = cc
-value-by l_str at r v q = absurd (let z : ◌≡◌ {A = ℕ} 0 1 = cc in omega arith)
-value-by l_bool at r v q = absurd (let z : ◌≡◌ {A = ℕ} 0 1 = cc in omega arith)
-value-by l_null at r v q = absurd (let z : ◌≡◌ {A = ℕ} 0 1 = cc in omega arith)
-value-by l_big_int at r v q = absurd (let z : ◌≡◌ {A = ℕ} 0 1 = cc in omega arith)
-value-by l_regex at r v q = absurd (let z : ◌≡◌ {A = ℕ} 0 1 = cc in omega arith)
-value-by l_jsx_text at r v q = absurd (let z : ◌≡◌ {A = ℕ} 0 1 = cc in omega arith)
+value-by l_str at r v q = absurd cc
+value-by l_bool at r v q = absurd cc
+value-by l_null at r v q = absurd cc
+value-by l_big_int at r v q = absurd cc
+value-by l_regex at r v q = absurd cc
+value-by l_jsx_text at r v q = absurd cc
 
 module _ (levels : ℕ) (s : List ℕ) (at : ℕ) {lit : Literal} (f : lit ≡ literal_of at (tree_at levels s at)) where
   pub number-marked : {v : Float} → lit ≡ Num v → mark_at s at ≡ mark "Nu"

@@ -105,7 +105,7 @@ turned-bytes t l b =
 -- ---- the sign of a big integer
 
 passed : (t x : Bool) → cond t false x ≡ true → x ≡ true
-passed true x e = absurd (let z : ◌≡◌ {A = ℕ} 0 1 = cc in omega arith)
+passed true x e = absurd cc
 passed false x e = e
 
 met : (t x : Bool) → cond t x false ≡ true → t ≡ true
@@ -131,12 +131,12 @@ only_zero : (z : Bool) (sign d : ℕ) (ds : List ℕ) (x : Bool) → cond z (con
 only_zero true sign d ds x e q =
     let n = eqb-true (length (sign ∷ d ∷ ds)) 2 (met (eqb (length (sign ∷ d ∷ ds)) 2) (eqb sign 0) e) in
     same_none ds (omega (arith, n))
-only_zero false sign d ds x e q = absurd (let z : ◌≡◌ {A = ℕ} 0 1 = cc in omega arith)
+only_zero false sign d ds x e q = absurd cc
 
 turned-integer : (t : List ℕ) → is_integer t ≡ true → turned_sign (get_or t 0 0) (get_or t 1 0) ∷ drop 1 t ≡ turned_integer t
 unfolding is_integer turned_integer same_text
-turned-integer [] e = absurd (let z : ◌≡◌ {A = ℕ} 0 1 = cc in omega arith)
-turned-integer (sign ∷ []) e = absurd (let z : ◌≡◌ {A = ℕ} 0 1 = cc in omega arith)
+turned-integer [] e = absurd cc
+turned-integer (sign ∷ []) e = absurd cc
 turned-integer (sign ∷ d ∷ ds) e =
     let e1 = passed (ltb (length (sign ∷ d ∷ ds)) 2) _ e in
     let e2 = passed (ltb 1 sign) _ e1 in
@@ -147,7 +147,7 @@ unfolding is_integer
 integer-length t e = ltb-false (length t) 2 (tested (ltb (length t) 2) _ e)
   where
     tested : (t x : Bool) → cond t false x ≡ true → t ≡ false
-    tested true x e = absurd (let z : ◌≡◌ {A = ℕ} 0 1 = cc in omega arith)
+    tested true x e = absurd cc
     tested false x e = refl
 
 -- a text that was read, behind its first byte

@@ -3,12 +3,12 @@
 // writes what stands before that type.
 #![tactic(auto)]
 
-ghost use Rattle.std.specs.Prelude.{◌≡◌};
+ghost use Rattle.std.specs.Prelude.{◌≡◌, ◌&&◌};
 ghost use Rattle.std.proofs.Math.Option.{some};
 ghost use Rattle.definition.specs.Tree.{encode, tree_at, mark_at};
 ghost use Rattle.definition.specs.Children.{AcceptedAt, child_at};
 ghost use Rattle.definition.specs.Grammar.{mark};
-ghost use Rattle.definition.specs.Record.{mark_of, kids_of};
+ghost use Rattle.definition.specs.Record.{text, mark_of, kids_of};
 ghost use Rattle.definition.specs.Helpers.{ts_keyword_type, any_type_ann, reference_to, type_ref, ts_lit_type, regex_type, ts_type_query};
 ghost use Rattle.definition.specs.Helpers.{object_freeze_call_arg, no_exprs, first_cooked, tpl_to_ts_type, lit_kind, maybe_lit_to_ts_type};
 ghost use Rattle.definition.specs.Typing.{minus_by};
@@ -38,19 +38,28 @@ pub enum TsKeywordTypeKind {
     TsNullKeyword,
 }
 
+impl TsKeywordTypeKind {
+    // "`Kw` the keyword": its text.
+    fn text(self) -> &'static [u8]
+        ensures { result.now ≡ text (keyword self) }
+    {
+        match self {
+            TsKeywordTypeKind::TsAnyKeyword => b"any",
+            TsKeywordTypeKind::TsNumberKeyword => b"number",
+            TsKeywordTypeKind::TsBooleanKeyword => b"boolean",
+            TsKeywordTypeKind::TsBigIntKeyword => b"bigint",
+            TsKeywordTypeKind::TsStringKeyword => b"string",
+            TsKeywordTypeKind::TsUndefinedKeyword => b"undefined",
+            TsKeywordTypeKind::TsNullKeyword => b"null",
+        }
+    }
+}
+
 // `ts_keyword_type`.
 pub fn ts_keyword_type(range: Range, kind: TsKeywordTypeKind, out: &mut [u8], p: usize) -> usize
     ensures { Put out.old out.new p (encode (ts_keyword_type (span range) (keyword kind))) result }
 {
-    match kind {
-        TsKeywordTypeKind::TsAnyKeyword => put_made_leaf(KW, range, b"any", out, p),
-        TsKeywordTypeKind::TsNumberKeyword => put_made_leaf(KW, range, b"number", out, p),
-        TsKeywordTypeKind::TsBooleanKeyword => put_made_leaf(KW, range, b"boolean", out, p),
-        TsKeywordTypeKind::TsBigIntKeyword => put_made_leaf(KW, range, b"bigint", out, p),
-        TsKeywordTypeKind::TsStringKeyword => put_made_leaf(KW, range, b"string", out, p),
-        TsKeywordTypeKind::TsUndefinedKeyword => put_made_leaf(KW, range, b"undefined", out, p),
-        TsKeywordTypeKind::TsNullKeyword => put_made_leaf(KW, range, b"null", out, p),
-    }
+    put_made_leaf(KW, range, kind.text(), out, p)
 }
 
 // `any_type_ann`.
@@ -147,13 +156,6 @@ pub fn ts_type_query(
     records::put_record(tree, at, levels, out, q)
 }
 
-// What may be found: an offset in the tree.
-#[derive(Clone, Copy)]
-pub enum Found {
-    At(usize),
-    Nothing,
-}
-
 // The callee of `object_freeze_call_arg`: `Object.freeze`, where `Object` is the global object.
 fn is_object_freeze(tree: &[u8], at: usize, levels: usize, unresolved: u32) -> bool
     requires { AcceptedAt levels tree.now at }
@@ -174,31 +176,33 @@ fn is_object_freeze(tree: &[u8], at: usize, levels: usize, unresolved: u32) -> b
 }
 
 // `object_freeze_call_arg`: the argument of a call of `Object.freeze` with one argument, which is no spread.
-pub fn object_freeze_call_arg(tree: &[u8], at: usize, levels: usize, unresolved: u32) -> Found
+pub fn object_freeze_call_arg(
+    tree: &[u8],
+    at: usize,
+    levels: usize,
+    unresolved: u32,
+) -> Option<usize>
     requires { AcceptedAt levels tree.now at × (mark_at tree.now at ≡ mark "Ca") }
     ensures { result ≡ found_if (object_freeze_call_arg unresolved (kids_of (tree_at levels tree.now at))) (child_at levels tree.now at 1) }
 {
     let callee = records::body_at(tree, at);
     if !is_object_freeze(tree, callee, levels - 1, unresolved) {
-        return Found::Nothing;
+        return None;
     }
     let count = records::count_at(tree, at);
     if count < 2 {
-        return Found::Nothing;
+        return None;
     }
     let arg = records::record_end(tree, callee, levels - 1);
     match records::mark_at(tree, arg) {
-        OP | SP => return Found::Nothing,
+        OP | SP => return None,
         _ => {}
     }
     if count == 2 {
-        return Found::At(arg);
+        return Some(arg);
     }
     let next = records::record_end(tree, arg, levels - 1);
-    if records::mark_at(tree, next) == OP {
-        return Found::At(arg);
-    }
-    Found::Nothing
+    (records::mark_at(tree, next) == OP).then_some(arg)
 }
 
 // `DeclMutabilityKind`: `Const` where `as_const` is set.
@@ -206,6 +210,18 @@ pub fn object_freeze_call_arg(tree: &[u8], at: usize, levels: usize, unresolved:
 pub enum DeclMutabilityKind {
     Const,
     Mutable,
+}
+
+// `match as_const { true => DeclMutabilityKind::Const, false => DeclMutabilityKind::Mutable }`.
+impl From<bool> for DeclMutabilityKind {
+    ghost from_gives = { λ as_const kind. is_const kind ≡ as_const };
+
+    fn from(as_const: bool) -> DeclMutabilityKind {
+        match as_const {
+            true => DeclMutabilityKind::Const,
+            false => DeclMutabilityKind::Mutable,
+        }
+    }
 }
 
 // `tpl.exprs.is_empty()`: whether the Te at `at` has only quasis.
@@ -229,29 +245,32 @@ fn no_exprs(tree: &[u8], at: usize, levels: usize) -> bool
 fn is_quasi(mark: u16) -> bool
     ensures { result ≡ is_quasi mark }
 {
-    match mark {
-        QU | OP => true,
-        _ => false,
-    }
+    matches!(mark, QU | OP)
 }
 
 // `tpl.quasis.first()` where it is cooked.
-fn first_cooked(tree: &[u8], at: usize, levels: usize) -> Found
+fn first_cooked(tree: &[u8], at: usize, levels: usize) -> Option<usize>
     requires { AcceptedAt levels tree.now at }
     ensures { result ≡ found_if (first_cooked (kids_of (tree_at levels tree.now at))) (child_at levels tree.now at 0) }
 {
     if records::count_at(tree, at) == 0 {
-        return Found::Nothing;
+        return None;
     }
     let quasi = records::body_at(tree, at);
     let head = records::read_head(tree, quasi);
-    if head.mark != QU {
-        return Found::Nothing;
+    (head.mark == QU && has_flag(head.flags, COOKED)).then_some(quasi)
+}
+
+// `if let DeclMutabilityKind::Const = decl_kind && tpl.exprs.is_empty() && let Some(quasi) = tpl.quasis.first() && let Some(cooked) = &quasi.cooked`.
+fn kept_quasi(tree: &[u8], at: usize, levels: usize, kind: DeclMutabilityKind) -> Option<usize>
+    requires { AcceptedAt levels tree.now at }
+    ensures { result ≡ found_if (is_const kind && (no_exprs (kids_of (tree_at levels tree.now at)) && first_cooked (kids_of (tree_at levels tree.now at))))
+        (child_at levels tree.now at 0) }
+{
+    match kind {
+        DeclMutabilityKind::Const if no_exprs(tree, at, levels) => first_cooked(tree, at, levels),
+        _ => None,
     }
-    if has_flag(head.flags, COOKED) {
-        return Found::At(quasi);
-    }
-    Found::Nothing
 }
 
 // `tpl_to_ts_type`: a template without expressions is its first quasi, where a literal is kept, and a string elsewhere.
@@ -267,34 +286,26 @@ pub fn tpl_to_ts_type(
     ensures { Put out.old out.new p
         (encode (tpl_to_ts_type (kids_of (tree_at levels tree.now at)) (is_const kind))) result }
 {
-    if let DeclMutabilityKind::Mutable = kind {
-        return ts_keyword_type(DUMMY_SP, TsKeywordTypeKind::TsStringKeyword, out, p);
-    }
-    if !no_exprs(tree, at, levels) {
-        return ts_keyword_type(DUMMY_SP, TsKeywordTypeKind::TsStringKeyword, out, p);
-    }
-    let Found::At(quasi) = first_cooked(tree, at, levels) else {
+    let Some(quasi) = kept_quasi(tree, at, levels, kind) else {
         return ts_keyword_type(DUMMY_SP, TsKeywordTypeKind::TsStringKeyword, out, p);
     };
     let q = put_made_front(TL, 0, DUMMY_SP, 1, out, p);
     put_made_leaf(SS, DUMMY_SP, records::text_at(tree, quasi), out, q)
 }
 
-// `Option<TsType>`: a type was written, up to this position, or there is none.
-#[derive(Clone, Copy)]
-pub enum MaybeType {
-    Typed(usize),
-    Untyped,
-}
-
 // `Some(ts_keyword_type(..))`.
-pub fn some_keyword(range: Range, kind: TsKeywordTypeKind, out: &mut [u8], p: usize) -> MaybeType
+pub fn some_keyword(
+    range: Range,
+    kind: TsKeywordTypeKind,
+    out: &mut [u8],
+    p: usize,
+) -> Option<usize>
     ensures { PutMaybe out.old out.new p (some (ts_keyword_type (span range) (keyword kind))) result }
 {
-    MaybeType::Typed(ts_keyword_type(range, kind, out, p))
+    Some(ts_keyword_type(range, kind, out, p))
 }
 
-// `maybe_lit_to_ts_type`.
+// `maybe_lit_to_ts_type`: the position behind the type, where a literal has one.
 pub fn maybe_lit_to_ts_type(
     tree: &[u8],
     at: usize,
@@ -302,7 +313,7 @@ pub fn maybe_lit_to_ts_type(
     kind: DeclMutabilityKind,
     out: &mut [u8],
     p: usize,
-) -> MaybeType
+) -> Option<usize>
     requires { AcceptedAt levels tree.now at }
     ensures { PutMaybe out.old out.new p
         (maybe_lit_to_ts_type (lit_kind (mark_of (tree_at levels tree.now at))) (tree_at levels tree.now at) (is_const kind)) result }
@@ -310,13 +321,13 @@ pub fn maybe_lit_to_ts_type(
     let lit = literals::literal_at(tree, at, levels);
     match kind {
         DeclMutabilityKind::Const => match lit {
-            Literal::Str(_) => MaybeType::Typed(ts_lit_type(tree, at, levels, DUMMY_SP, out, p)),
-            Literal::Bool(_) => MaybeType::Typed(ts_lit_type(tree, at, levels, DUMMY_SP, out, p)),
+            Literal::Str(_) => Some(ts_lit_type(tree, at, levels, DUMMY_SP, out, p)),
+            Literal::Bool(_) => Some(ts_lit_type(tree, at, levels, DUMMY_SP, out, p)),
             Literal::Null => some_keyword(DUMMY_SP, TsKeywordTypeKind::TsNullKeyword, out, p),
-            Literal::Num(_) => MaybeType::Typed(ts_lit_type(tree, at, levels, DUMMY_SP, out, p)),
-            Literal::BigInt(_) => MaybeType::Typed(ts_lit_type(tree, at, levels, DUMMY_SP, out, p)),
-            Literal::Regex => MaybeType::Typed(regex_type(DUMMY_SP, out, p)),
-            Literal::JsxText => MaybeType::Untyped,
+            Literal::Num(_) => Some(ts_lit_type(tree, at, levels, DUMMY_SP, out, p)),
+            Literal::BigInt(_) => Some(ts_lit_type(tree, at, levels, DUMMY_SP, out, p)),
+            Literal::Regex => Some(regex_type(DUMMY_SP, out, p)),
+            Literal::JsxText => None,
         },
         DeclMutabilityKind::Mutable => match lit {
             Literal::Str(_) => some_keyword(DUMMY_SP, TsKeywordTypeKind::TsStringKeyword, out, p),
@@ -329,8 +340,8 @@ pub fn maybe_lit_to_ts_type(
                 out,
                 p,
             ),
-            Literal::Regex => MaybeType::Typed(regex_type(DUMMY_SP, out, p)),
-            Literal::JsxText => MaybeType::Untyped,
+            Literal::Regex => Some(regex_type(DUMMY_SP, out, p)),
+            Literal::JsxText => None,
         },
     }
 }
@@ -343,14 +354,14 @@ pub fn minus_lit_to_ts_type(
     kind: DeclMutabilityKind,
     out: &mut [u8],
     p: usize,
-) -> MaybeType
+) -> Option<usize>
     requires { AcceptedAt levels tree.now at }
     ensures { PutMaybe out.old out.new p
         (minus_by (lit_kind (mark_of (tree_at levels tree.now at))) (tree_at levels tree.now at) (is_const kind)) result }
 {
     match literals::literal_at(tree, at, levels) {
         Literal::Num(value) => match kind {
-            DeclMutabilityKind::Const => MaybeType::Typed(literals::negated_number(
+            DeclMutabilityKind::Const => Some(literals::negated_number(
                 tree, at, levels, value, DUMMY_SP, out, p,
             )),
             DeclMutabilityKind::Mutable => {
@@ -359,12 +370,12 @@ pub fn minus_lit_to_ts_type(
         },
         Literal::BigInt(_) => match kind {
             DeclMutabilityKind::Const => {
-                MaybeType::Typed(literals::negated_bigint(tree, at, levels, DUMMY_SP, out, p))
+                Some(literals::negated_bigint(tree, at, levels, DUMMY_SP, out, p))
             }
             DeclMutabilityKind::Mutable => {
                 some_keyword(DUMMY_SP, TsKeywordTypeKind::TsBigIntKeyword, out, p)
             }
         },
-        _ => MaybeType::Untyped,
+        _ => None,
     }
 }

@@ -9,7 +9,7 @@ ghost use Rattle.definition.specs.Helpers.{ts_lit_type};
 ghost use Rattle.definition.specs.Typing.{turned, turned_integer, respelled};
 ghost use Rattle.records.specs.Fields.{span};
 ghost use Rattle.records.specs.Wrote.{Put};
-ghost use Rattle.swc_helpers.specs.Literal.{u64_at, le8, turned_bits, turned_sign, number_of, literal_of, lit_front};
+ghost use Rattle.swc_helpers.specs.Literal.{u64_at, turned_bits, turned_sign, number_of, literal_of, lit_front};
 
 use records::flags::{TRUE, has_flag};
 use records::made::put_made_front;
@@ -40,7 +40,7 @@ fn number_of(bits: u64) -> f64
     ensures { result ≡ from_bits binary64 bits }
 {
     if INFINITY < bits % SIGN {
-        return 0.0 / 0.0;
+        return f64::NAN;
     }
     f64::from_bits(bits)
 }
@@ -50,26 +50,10 @@ fn negated(value: f64, bits: u64) -> u64
     requires { value ≡ from_bits binary64 bits }
     ensures { result ≡ turned_bits bits }
 {
-    if value != value {
-        return std::num::wrapping_add_u64(bits, SIGN);
+    if value.is_nan() {
+        return bits.wrapping_add(SIGN);
     }
     f64::to_bits(-value)
-}
-
-// The eight bytes of 64 bits.
-fn bytes_of(bits: u64) -> [u8; 8]
-    ensures { result ≡ le8 bits }
-{
-    [
-        (bits % 256) as u8,
-        (bits / 256 % 256) as u8,
-        (bits / 65536 % 256) as u8,
-        (bits / 16777216 % 256) as u8,
-        (bits / 4294967296 % 256) as u8,
-        (bits / 1099511627776 % 256) as u8,
-        (bits / 281474976710656 % 256) as u8,
-        (bits / 72057594037927936 % 256) as u8,
-    ]
 }
 
 // The bits of the f64 of the Nu at `at`.
@@ -78,8 +62,8 @@ fn bits_at(tree: &[u8], at: usize) -> u64
     ensures { result ≡ u64_at tree.now (at + head_size) }
 {
     let text = at + records::HEAD_SIZE;
-    let low = records::u32_at(tree, text) as u64;
-    let high = records::u32_at(tree, text + 4) as u64;
+    let low = u64::from(records::u32_at(tree, text));
+    let high = u64::from(records::u32_at(tree, text + 4));
     low + 4294967296 * high
 }
 
@@ -97,11 +81,9 @@ pub fn literal_at(tree: &[u8], at: usize, levels: usize) -> Literal
     ensures { result ≡ literal_of at (tree_at levels tree.now at) }
 {
     let head = records::read_head(tree, at);
-    let mark = head.mark;
-    let flags = head.flags;
-    match mark {
+    match head.mark {
         SS => Literal::Str(at),
-        BL => Literal::Bool(has_flag(flags, TRUE)),
+        BL => Literal::Bool(has_flag(head.flags, TRUE)),
         NL => Literal::Null,
         NU => Literal::Num(number_at(tree, at, levels)),
         BI => Literal::BigInt(at),
@@ -117,18 +99,7 @@ fn put_respelled(tree: &[u8], at: usize, range: Range, out: &mut [u8], p: usize)
 {
     let head = records::read_head(tree, at);
     let q = put_made_front(TL, 0, range, 1, out, p);
-    records::put_head(
-        out,
-        q,
-        Head {
-            mark: head.mark,
-            flags: head.flags,
-            start: head.start,
-            end: head.end,
-            text: head.text,
-            count: 0,
-        },
-    )
+    records::put_head(out, q, Head { count: 0, ..head })
 }
 
 // `-num.value` of the Nu at `at`, as its type: `ts_lit_type(TsLit::Number(Number { span: num.span, value: -num.value, raw: None }))`.
@@ -144,8 +115,7 @@ pub fn negated_number(
     requires { (AcceptedAt levels tree.now at × (mark_at tree.now at ≡ mark "Nu")) × (value ≡ number_of (text_of (tree_at levels tree.now at))) }
     ensures { Put out.old out.new p (encode (ts_lit_type (span range) (respelled (tree_at levels tree.now at) (turned (text_of (tree_at levels tree.now at)))))) result }
 {
-    let bits = negated(value, bits_at(tree, at));
-    let text = bytes_of(bits);
+    let text = negated(value, bits_at(tree, at)).to_le_bytes();
     let q = put_respelled(tree, at, range, out, p);
     records::put_text(out, q, &text)
 }

@@ -15,7 +15,7 @@ use Rattle.records.specs.Whole.{Whole}
 use Rattle.records.proofs.Whole.{accepted-whole}
 use Rattle.swc_helpers.specs.Found.{found_if}
 use Rattle.swc_helpers.proofs.Answers.{is_found}
-use Rattle.swc_helpers.specs.declared.Found.TheVariants.{At}
+use Rattle.std.specs.Prelude.{Some}
 
 -- an accepted record lies in the tree, as `record_at` and `record_end` ask
 pub lies : {levels : ℕ} {s : List ℕ} {at : ℕ} → AcceptedAt levels s at → Whole levels s at
@@ -29,13 +29,13 @@ level {levels} {s} {at} a = omega (arith, some_left levels s at a)
 
 two_at_least : (unresolved : ℕ) (ks : Recs) → object_freeze_call_arg unresolved ks ≡ true → 1 < count ks
 unfolding object_freeze_call_arg
-two_at_least unresolved nil e = absurd (let z : ◌≡◌ {A = ℕ} 0 1 = cc in omega arith)
-two_at_least unresolved (cons c nil) e = absurd (let z : ◌≡◌ {A = ℕ} 0 1 = cc in omega arith)
+two_at_least unresolved nil e = absurd cc
+two_at_least unresolved (cons c nil) e = absurd cc
 two_at_least unresolved (cons c (cons r rs)) e = omega arith
 
 -- where one was found, it is the second child
 pub argument : (levels : ℕ) (s : List ℕ) (at unresolved x : ℕ) → AcceptedAt levels s at →
-    At x ≡ found_if (object_freeze_call_arg unresolved (kids_of (tree_at levels s at))) (child_at levels s at 1) → AcceptedAt (levels - 1) s x
+    Some x ≡ found_if (object_freeze_call_arg unresolved (kids_of (tree_at levels s at))) (child_at levels s at 1) → AcceptedAt (levels - 1) s x
 argument levels s at unresolved x a f =
     let found = is_found (object_freeze_call_arg unresolved (kids_of (tree_at levels s at))) x (child_at levels s at 1) f in
     let there : 1 < count_at s at = omega (

@@ -18,7 +18,7 @@ use records::marks::{
     OB, OC, OE, OT, PR, RE, RF, RO, RT, SS, TA, TC, TE, TF, TL, TS, TU,
 };
 use std::io;
-use swc_helpers::{DeclMutabilityKind, Found, MaybeType, TsKeywordTypeKind};
+use swc_helpers::{DeclMutabilityKind, TsKeywordTypeKind};
 
 // A tenth of the largest power of ten that a counter holds, and the last counter.
 const TENTH: usize = 1000000000000000000;
@@ -105,8 +105,8 @@ fn show_literal_as(
     let mut out = [0u8; ROOM];
     let found = swc_helpers::maybe_lit_to_ts_type(tree, at, levels, kind, &mut out, 0);
     match found {
-        MaybeType::Typed(end) => print_written(rt, &out, end),
-        MaybeType::Untyped => print(rt, b"none\n"),
+        Some(end) => print_written(rt, &out, end),
+        None => print(rt, b"none\n"),
     }
 }
 
@@ -151,8 +151,8 @@ fn show_minus_as(
     let mut out = [0u8; ROOM];
     let found = swc_helpers::minus_lit_to_ts_type(tree, at, levels, kind, &mut out, 0);
     match found {
-        MaybeType::Typed(end) => print_written(rt, &out, end),
-        MaybeType::Untyped => print(rt, b"none\n"),
+        Some(end) => print_written(rt, &out, end),
+        None => print(rt, b"none\n"),
     }
 }
 
@@ -194,8 +194,8 @@ fn show_call(rt: &impl Print, tree: &[u8], at: usize, levels: usize) -> io::Resu
     print_label(rt, at, b"object_freeze_call_arg")?;
     let found = swc_helpers::object_freeze_call_arg(tree, at, levels, UNRESOLVED);
     match found {
-        Found::At(arg) => print_record(rt, tree, arg, levels - 1),
-        Found::Nothing => print(rt, b"none\n"),
+        Some(arg) => print_record(rt, tree, arg, levels - 1),
+        None => print(rt, b"none\n"),
     }
 }
 

@@ -1,5 +1,5 @@
 -- What a typing is asked, what it gives, and what it did to the two buffers.
-use Rattle.std.specs.Prelude.{◌≡◌, List, [], ◌∷◌, Bool, true, false, ◌&&◌, ℕ, ◌≤◌}
+use Rattle.std.specs.Prelude.{◌≡◌, List, [], ◌∷◌, Bool, true, false, ◌&&◌, ℕ, ◌≤◌, Option as Answer, Some as Written, None as Nothing}
 use Rattle.std.proofs.Math.Option.{Option, none, some}
 use Rattle.definition.specs.Tree.{Rec, Recs, nil, encode, start_at, last_at, tree_at}
 use Rattle.definition.specs.Check.{deepest}
@@ -12,8 +12,6 @@ use Rattle.definition.specs.Transform.{texts_fit}
 use Rattle.prescan.specs.declared.Scope.{Scope}
 use Rattle.prescan.specs.Table.{Indexed}
 use Rattle.records.specs.Wrote.{Put, Ran}
-use Rattle.swc_helpers.specs.declared.MaybeType.{MaybeType}
-use Rattle.swc_helpers.specs.declared.MaybeType.TheVariants.{Typed as Made, Untyped}
 use Rattle.typing.specs.declared.State.{State}
 use Rattle.typing.specs.declared.Mode.{Mode}
 use Rattle.typing.specs.declared.Typed.{Typed}
@@ -98,9 +96,9 @@ pub record Filled (o o' g g' : List ℕ) (t : Typed) (r : State) (e : Diag) : Ty
   pub any : (s : State) → t ≡ None s → Step o o' g g' s r (encode (any_type_ann dummy_sp)) (e ∷ []) s.counter true
 
 -- the answer of a helper that wrote where `s` stood
-abbrev pub typed_as : State → MaybeType → Typed
-typed_as s (Made q) = Some (record { written = q; reported = s.reported; counter = s.counter; fits = s.fits })
-typed_as s Untyped = None s
+abbrev pub typed_as : State → Answer ℕ → Typed
+typed_as s (Written q) = Some (record { written = q; reported = s.reported; counter = s.counter; fits = s.fits })
+typed_as s Nothing = None s
 
 -- at another position of the output, or of the diagnostics
 abbrev pub moved_to : State → ℕ → State

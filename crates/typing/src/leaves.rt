@@ -9,7 +9,7 @@ ghost use Rattle.definition.specs.Helpers.{ts_type_query};
 ghost use Rattle.definition.specs.Typing.{ident_to_ts_type};
 ghost use Rattle.prescan.specs.Table.{Indexed};
 ghost use Rattle.records.specs.Wrote.{Put};
-ghost use Rattle.swc_helpers.specs.Found.{is_const, PutMaybe};
+ghost use Rattle.swc_helpers.specs.Found.{PutMaybe};
 ghost use Rattle.typing.specs.Did.{ids_of};
 ghost use Rattle.typing.specs.Parts.{number_name, name_type, class_type, as_type};
 ghost use Rattle.typing.specs.Leaf.{leaf_type};
@@ -20,20 +20,10 @@ use prescan::Scope;
 use records::DUMMY_SP;
 use records::marks::{BI, BL, ID, JT, MI, NE, NL, NO, NU, RE, SS, TE};
 use records::text::same_text;
-use swc_helpers::{DeclMutabilityKind, MaybeType, TsKeywordTypeKind, some_keyword};
-
-// `match as_const { true => DeclMutabilityKind::Const, false => DeclMutabilityKind::Mutable }`.
-fn decl_kind(as_const: bool) -> DeclMutabilityKind
-    ensures { is_const result ≡ as_const }
-{
-    if as_const {
-        return DeclMutabilityKind::Const;
-    }
-    DeclMutabilityKind::Mutable
-}
+use swc_helpers::{DeclMutabilityKind, TsKeywordTypeKind, some_keyword};
 
 // `"NaN" | "Infinity" =>` of the `match` in `ident_to_ts_type`, and what follows it.
-fn number_name(tree: &[u8], at: usize, levels: usize, out: &mut [u8], p: usize) -> MaybeType
+fn number_name(tree: &[u8], at: usize, levels: usize, out: &mut [u8], p: usize) -> Option<usize>
     requires { AcceptedAt levels tree.now at × (mark_at tree.now at ≡ mark "Id") }
     ensures { PutMaybe out.old out.new p (number_name (symbol_of (tree_at levels tree.now at))) result }
 {
@@ -44,7 +34,7 @@ fn number_name(tree: &[u8], at: usize, levels: usize, out: &mut [u8], p: usize) 
     if same_text(name, b"Infinity") {
         return some_keyword(DUMMY_SP, TsKeywordTypeKind::TsNumberKeyword, out, p);
     }
-    MaybeType::Untyped
+    None
 }
 
 // `ident_to_ts_type` of an unresolved name: `match ident.sym.as_str()`.
@@ -55,7 +45,7 @@ fn global_type(
     as_const: bool,
     out: &mut [u8],
     p: usize,
-) -> MaybeType
+) -> Option<usize>
     requires { AcceptedAt levels tree.now at × (mark_at tree.now at ≡ mark "Id") }
     ensures { PutMaybe out.old out.new p (name_type (symbol_of (tree_at levels tree.now at)) as_const) result }
 {
@@ -78,7 +68,7 @@ pub fn ident_to_ts_type(
     as_const: bool,
     out: &mut [u8],
     p: usize,
-) -> MaybeType
+) -> Option<usize>
     requires accepted_at { AcceptedAt levels tree.now at × (mark_at tree.now at ≡ mark "Id") }
     requires indexed { Indexed tree.now index.now }
     ensures { PutMaybe out.old out.new p
@@ -88,9 +78,9 @@ pub fn ident_to_ts_type(
         return global_type(tree, at, levels, as_const, out, p);
     }
     if prescan::look_up(tree, index, at, levels).typeof_safe {
-        return MaybeType::Typed(swc_helpers::ts_type_query(tree, at, levels, DUMMY_SP, out, p));
+        return Some(swc_helpers::ts_type_query(tree, at, levels, DUMMY_SP, out, p));
     }
-    MaybeType::Untyped
+    None
 }
 
 // `Expr::New`: "of a non-generic class declared in this module".
@@ -101,30 +91,23 @@ fn new_type(
     index: &[u32],
     out: &mut [u8],
     p: usize,
-) -> MaybeType
+) -> Option<usize>
     requires accepted_at { AcceptedAt levels tree.now at × (mark_at tree.now at ≡ mark "Ne") }
     requires indexed { Indexed tree.now index.now }
     ensures { PutMaybe out.old out.new p (class_type (ids_of tree.now) (kids_of (tree_at levels tree.now at))) result }
 {
     let ident = records::body_at(tree, at);
     if records::mark_at(tree, ident) != ID {
-        return MaybeType::Untyped;
+        return None;
     }
     let type_args = records::record_end(tree, ident, levels - 1);
     if records::mark_at(tree, type_args) != NO {
-        return MaybeType::Untyped;
+        return None;
     }
     if prescan::look_up(tree, index, ident, levels - 1).non_generic_class {
-        return MaybeType::Typed(swc_helpers::reference_to(
-            tree,
-            ident,
-            levels - 1,
-            DUMMY_SP,
-            out,
-            p,
-        ));
+        return Some(swc_helpers::reference_to(tree, ident, levels - 1, DUMMY_SP, out, p));
     }
-    MaybeType::Untyped
+    None
 }
 
 // `Expr::TsAs`: its type, copied, or written as `readonly_of` it.
@@ -155,16 +138,16 @@ pub fn array_ident(
     index: &[u32],
     out: &mut [u8],
     p: usize,
-) -> MaybeType
+) -> Option<usize>
     requires accepted_at { AcceptedAt levels tree.now at }
     requires indexed { Indexed tree.now index.now }
     ensures { PutMaybe out.old out.new p
         (cond ((ids_of tree.now).array_typed (text_at tree.now at)) (some (ts_type_query dummy_sp (tree_at levels tree.now at))) none) result }
 {
     if prescan::look_up(tree, index, at, levels).array_typed {
-        return MaybeType::Typed(swc_helpers::ts_type_query(tree, at, levels, DUMMY_SP, out, p));
+        return Some(swc_helpers::ts_type_query(tree, at, levels, DUMMY_SP, out, p));
     }
-    MaybeType::Untyped
+    None
 }
 
 // The arms of `expr_to_ts_type` that type nothing below them: `Expr::Lit`, `Expr::Tpl`, `Expr::Ident`, `Expr::Unary`, `Expr::New`, and those that
@@ -177,23 +160,23 @@ pub fn leaf_type(
     mode: Mode,
     out: &mut [u8],
     p: usize,
-) -> MaybeType
+) -> Option<usize>
     requires accepted_at { AcceptedAt levels tree.now at }
     requires indexed { Indexed tree.now index.now }
     ensures { PutMaybe out.old out.new p (leaf_type tree.now mode levels at) result }
 {
-    let kind = decl_kind(mode.as_const);
+    let kind = DeclMutabilityKind::from(mode.as_const);
     match records::mark_at(tree, at) {
         SS | BL | NL | NU | BI | RE | JT => swc_helpers::maybe_lit_to_ts_type(
             tree, at, levels, kind, out, p,
         ),
-        TE => MaybeType::Typed(swc_helpers::tpl_to_ts_type(tree, at, levels, kind, out, p)),
+        TE => Some(swc_helpers::tpl_to_ts_type(tree, at, levels, kind, out, p)),
         ID => ident_to_ts_type(tree, at, levels, index, mode.scope, mode.as_const, out, p),
         MI => {
             let arg = records::body_at(tree, at);
             swc_helpers::minus_lit_to_ts_type(tree, arg, levels - 1, kind, out, p)
         }
         NE => new_type(tree, at, levels, index, out, p),
-        _ => MaybeType::Untyped,
+        _ => None,
     }
 }

@@ -20,7 +20,6 @@ use records::marks::{
     SP, TC, TS, TU,
 };
 use records::{DUMMY_SP, HEAD_SIZE, Range};
-use swc_helpers::{Found, MaybeType};
 
 mod leaves;
 mod made;
@@ -116,16 +115,16 @@ pub fn or_any(
 }
 
 // The answer of a helper as that of a typing.
-fn answer_of(s: State, made: MaybeType) -> Typed
+fn answer_of(s: State, made: Option<usize>) -> Typed
     ensures { result ≡ typed_as s made }
 {
     match made {
-        MaybeType::Typed(q) => {
+        Some(q) => {
             let mut next = s;
             next.written = q;
             Typed::Some(next)
         }
-        MaybeType::Untyped => Typed::None(s),
+        None => Typed::None(s),
     }
 }
 
@@ -185,7 +184,7 @@ fn shorthand(
         out,
         q,
     );
-    let MaybeType::Typed(end) = made else {
+    let Some(end) = made else {
         return skipped(tree, at, D3, diagnostics, s);
     };
     let mut next = s;
@@ -558,7 +557,7 @@ fn call_type(
         (type_of tree.now mode levels at s.counter) }
 {
     let found = swc_helpers::object_freeze_call_arg(tree, at, levels, mode.scope.unresolved);
-    let Found::At(arg) = found else {
+    let Some(arg) = found else {
         return Typed::None(s);
     };
     let mut frozen = mode;

@@ -33,12 +33,6 @@ overflow_sub-levels c = level _ _ _ c.requires
 pub record_end-kid-requires : goal.record_end-kid-requires
 record_end-kid-requires c = is_whole _ _ _ (left-first c.loop-n.invariant.0 c.loop-n-test.true)
 
-pub overflow_sub-n : goal.overflow_sub-n
-overflow_sub-n c = omega arith
-
-pub loop-n-smaller : goal.loop-n-smaller
-loop-n-smaller c = omega arith
-
 pub loop-n-preserved : goal.loop-n-preserved
 unfolding no_exprs
 loop-n-preserved c = (all-turn (λ r. is_quasi (mark_of r)) (λ r rs. refl) c.loop-n.invariant.0 c.loop-n-test.true (c.is_quasi.ensures ∙ ap is_quasi (c.mark_at.ensures.0 ∙ sym (mark-is _ _ _))) c.if-not-is_quasi.false-raw c.record_end-kid.ensures, omega arith)

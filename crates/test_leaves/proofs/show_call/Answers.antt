@@ -8,4 +8,4 @@ pub overflow_sub-levels : goal.overflow_sub-levels
 overflow_sub-levels g c = omega (arith, level c.requires.0)
 
 pub print_record-requires : goal.print_record-requires
-print_record-requires g c = argument c.args.levels c.args.tree.now c.args.at 1 c.in-At.arg c.requires.0 (sym c.in-At.is ∙ c.object_freeze_call_arg-found.ensures)
+print_record-requires g c = argument c.args.levels c.args.tree.now c.args.at 1 c.in-Some.arg c.requires.0 (sym c.in-Some.is ∙ c.object_freeze_call_arg-found.ensures)

@@ -66,9 +66,6 @@ array_type-shape_of-out-in-None t c = (array_type-returns-in-None t c).step.ran.
 pub array_type-shape_of-diagnostics-in-None : goal.array_type-shape_of-diagnostics-in-None
 array_type-shape_of-diagnostics-in-None t c = (array_type-returns-in-None t c).step.ran.dia.same
 
-pub call_type-object_freeze_call_arg-found-requires : goal.call_type-object_freeze_call_arg-found-requires
-call_type-object_freeze_call_arg-found-requires t c = (c.requires.0.accepted, c.requires.1)
-
 pub call_type-returns-in_default : goal.call_type-returns-in_default
 call_type-returns-in_default t c = did-as (did_none (step-none _ _ c.args.s (omega (arith, c.well_formed)) (omega (arith, c.well_formed)))) (sym (type_other_call c.args.tree.now c.args.mode c.args.levels c.args.at c.args.s.counter c.requires.1 (is-nothing _ _ (sym c.in_default.is ∙ c.object_freeze_call_arg-found.ensures))))
 
@@ -76,40 +73,22 @@ pub call_type-overflow_sub-levels : goal.call_type-overflow_sub-levels
 call_type-overflow_sub-levels t c = omega (arith, some_left _ _ _ c.requires.0.accepted)
 
 pub call_type-expr_to_ts_type-inner_type-requires : goal.call_type-expr_to_ts_type-inner_type-requires
-call_type-expr_to_ts_type-inner_type-requires t c = (omega (arith, c.decreases, some_left _ _ _ c.requires.0.accepted), freeze_ready c.args.tree.now c.args.mode c.args.levels c.args.at c.args.s.counter c.requires.0 c.requires.1 (is_found _ _ _ (sym c.in-At.is ∙ c.object_freeze_call_arg-found.ensures)))
+call_type-expr_to_ts_type-inner_type-requires t c = (omega (arith, c.decreases, some_left _ _ _ c.requires.0.accepted), freeze_ready c.args.tree.now c.args.mode c.args.levels c.args.at c.args.s.counter c.requires.0 c.requires.1 (is_found _ _ _ (sym c.in-Some.is ∙ c.object_freeze_call_arg-found.ensures)))
 
 pub call_type-returns-in_default-inner_type : goal.call_type-returns-in_default-inner_type
-call_type-returns-in_default-inner_type t c = did-as (kept-none _ c.expr_to_ts_type-inner_type.ensures c.in_default-inner_type.is) (freeze-is c.args.tree.now c.args.mode c.args.levels c.args.at c.args.s.counter c.requires.0.accepted c.requires.1 (is_found _ _ _ (sym c.in-At.is ∙ c.object_freeze_call_arg-found.ensures)))
-
-pub call_type-shape_of-out-in_default-inner_type : goal.call_type-shape_of-out-in_default-inner_type
-call_type-shape_of-out-in_default-inner_type t c = (call_type-returns-in_default-inner_type t c).step.ran.out.same
-
-pub call_type-shape_of-diagnostics-in_default-inner_type : goal.call_type-shape_of-diagnostics-in_default-inner_type
-call_type-shape_of-diagnostics-in_default-inner_type t c = (call_type-returns-in_default-inner_type t c).step.ran.dia.same
+call_type-returns-in_default-inner_type t c = did-as (kept-none _ c.expr_to_ts_type-inner_type.ensures c.in_default-inner_type.is) (freeze-is c.args.tree.now c.args.mode c.args.levels c.args.at c.args.s.counter c.requires.0.accepted c.requires.1 (is_found _ _ _ (sym c.in-Some.is ∙ c.object_freeze_call_arg-found.ensures)))
 
 pub call_type-overflow_sub-levels-2 : goal.call_type-overflow_sub-levels-2
 call_type-overflow_sub-levels-2 t c = omega (arith, some_left _ _ _ c.requires.0.accepted)
 
 pub call_type-has_readonly-requires : goal.call_type-has_readonly-requires
-call_type-has_readonly-requires t c = (freeze_ready c.args.tree.now c.args.mode c.args.levels c.args.at c.args.s.counter c.requires.0 c.requires.1 (is_found _ _ _ (sym c.in-At.is ∙ c.object_freeze_call_arg-found.ensures))).accepted
+call_type-has_readonly-requires t c = (freeze_ready c.args.tree.now c.args.mode c.args.levels c.args.at c.args.s.counter c.requires.0 c.requires.1 (is_found _ _ _ (sym c.in-Some.is ∙ c.object_freeze_call_arg-found.ensures))).accepted
 
 pub call_type-returns-then-not-has_readonly : goal.call_type-returns-then-not-has_readonly
-call_type-returns-then-not-has_readonly t c = did-as (did_at c.back.ensures (kept_back _ c.expr_to_ts_type-inner_type.ensures (sym c.has_readonly.ensures ∙ c.if-not-has_readonly.true) (omega (arith, c.well_formed)) c.in-Some.is)) (freeze-is c.args.tree.now c.args.mode c.args.levels c.args.at c.args.s.counter c.requires.0.accepted c.requires.1 (is_found _ _ _ (sym c.in-At.is ∙ c.object_freeze_call_arg-found.ensures)))
-
-pub call_type-shape_of-out-then-not-has_readonly : goal.call_type-shape_of-out-then-not-has_readonly
-call_type-shape_of-out-then-not-has_readonly t c = (call_type-returns-then-not-has_readonly t c).step.ran.out.same
-
-pub call_type-shape_of-diagnostics-then-not-has_readonly : goal.call_type-shape_of-diagnostics-then-not-has_readonly
-call_type-shape_of-diagnostics-then-not-has_readonly t c = (call_type-returns-then-not-has_readonly t c).step.ran.dia.same
+call_type-returns-then-not-has_readonly t c = did-as (did_at c.back.ensures (kept_back _ c.expr_to_ts_type-inner_type.ensures (sym c.has_readonly.ensures ∙ c.if-not-has_readonly.true) (omega (arith, c.well_formed)) c.in-Some-inner_type.is)) (freeze-is c.args.tree.now c.args.mode c.args.levels c.args.at c.args.s.counter c.requires.0.accepted c.requires.1 (is_found _ _ _ (sym c.in-Some.is ∙ c.object_freeze_call_arg-found.ensures)))
 
 pub call_type-returns : goal.call_type-returns
-call_type-returns t c = did-as (kept-some _ c.expr_to_ts_type-inner_type.ensures (sym c.has_readonly.ensures ∙ c.if-not-has_readonly.false) c.in-Some.is) (freeze-is c.args.tree.now c.args.mode c.args.levels c.args.at c.args.s.counter c.requires.0.accepted c.requires.1 (is_found _ _ _ (sym c.in-At.is ∙ c.object_freeze_call_arg-found.ensures)))
-
-pub call_type-shape_of-out : goal.call_type-shape_of-out
-call_type-shape_of-out t c = (call_type-returns t c).step.ran.out.same
-
-pub call_type-shape_of-diagnostics : goal.call_type-shape_of-diagnostics
-call_type-shape_of-diagnostics t c = (call_type-returns t c).step.ran.dia.same
+call_type-returns t c = did-as (kept-some _ c.expr_to_ts_type-inner_type.ensures (sym c.has_readonly.ensures ∙ c.if-not-has_readonly.false) c.in-Some-inner_type.is) (freeze-is c.args.tree.now c.args.mode c.args.levels c.args.at c.args.s.counter c.requires.0.accepted c.requires.1 (is_found _ _ _ (sym c.in-Some.is ∙ c.object_freeze_call_arg-found.ensures)))
 
 pub element_type-mark_at-requires : goal.element_type-mark_at-requires
 element_type-mark_at-requires t c = (itself _ _ _ c.requires.accepted).room

@@ -47,7 +47,7 @@ pub returns : goal.returns
 unfolding marks
 returns c =
     let k = placed (sh-ident _ _ _ c.requires.0.accepted c.requires.1) c.body_at-ident.ensures in
-    let u = is-typed _ c.in-Typed.is c.ident_to_ts_type-made.ensures in
+    let u = is-typed _ c.in-Some.is c.ident_to_ts_type-made.ensures in
     let f = tree-fits _ _ _ k.accepted c.shared_slice_known-1.given in
     gives-short _ c.args.s _ u.0 (c.args.mode.as_readonly || c.args.mode.frozen) (omega (arith, c.well_formed)) (omega (arith, c.well_formed)) (short-fits _ _ _ k.accepted (member-one _ _ k.marks) c.shared_slice_known-1.given)
     (sym (ap fit_of u.1) ∙ ident-fits _ _ _ _ f) (rw c.is_readonly.ensures at c.put_shorthand-q.ensures) u.2 (member-shorthand _ c.args.mode _ _ _ c.requires.1 k u.1)

@@ -5,14 +5,11 @@ use Rattle.definition.specs.Helpers.{lit_kind}
 use Rattle.definition.proofs.Children.{itself}
 use Rattle.swc_helpers.specs.Literal.{literal_by}
 use Rattle.swc_helpers.specs.declared.literals.Literal.TheVariants.{Num}
-use Rattle.swc_helpers.proofs.Texts.{marked, literal-is, boolean_is, no_literal}
+use Rattle.swc_helpers.proofs.Texts.{literal-is, boolean_is, no_literal}
 use Rattle.swc_helpers.proofs.literals.literal_at.Goals as goal
 
 pub read_head-head-requires : goal.read_head-head-requires
 read_head-head-requires c = (itself _ _ _ c.requires).room
-
-pub number_at-requires : goal.number_at-requires
-number_at-requires c = let a = c.args in (c.requires, marked a.levels a.tree.now a.at c.read_head-head.result c.read_head-head.ensures (mark "Nu") c.in-30030.is)
 
 pub returns-in-29523 : goal.returns-in-29523
 unfolding lit_kind literal_by

@@ -1,9 +1,7 @@
 -- `literals::negated` meets its contract.
-use Rattle.swc_helpers.proofs.Sign.{negation_is_no_nan, turned-is}
+use Rattle.std.proofs.Common.{sym, ◌∙◌}
+use Rattle.swc_helpers.proofs.Sign.{turned-is}
 use Rattle.swc_helpers.proofs.literals.negated.Goals as goal
 
-pub float_to_bits-result : goal.float_to_bits-result
-float_to_bits-result c = negation_is_no_nan _ c.if-value.false
-
 pub returns : goal.returns
-returns c = turned-is _ _ c.requires c.ranges.bits.fits c.if-value.false
+returns c = turned-is _ _ c.requires c.ranges.bits.fits (sym c.is_nan.ensures.value ∙ c.if-is_nan.false)

@@ -10,17 +10,8 @@ use Rattle.typing.proofs.leaves.ident_to_ts_type.Goals as goal
 pub context_at-requires : goal.context_at-requires
 context_at-requires c = ((itself _ _ _ c.requires.accepted_at.0).fits, id-text _ _ _ c.requires.accepted_at.0 c.requires.accepted_at.1)
 
-pub global_type-requires : goal.global_type-requires
-global_type-requires c = c.requires.accepted_at
-
 pub returns-then-context_at-scope : goal.returns-then-context_at-scope
 returns-then-context_at-scope c = as-type c.global_type.ensures (ident-global _ _ c.args.levels c.args.tree.now c.args.at _ c.context_at.ensures c.if-context_at-scope.true)
-
-pub look_up-requires : goal.look_up-requires
-look_up-requires c = record { accepted_at = c.requires.accepted_at.0; indexed = c.requires.indexed }
-
-pub ts_type_query-requires : goal.ts_type_query-requires
-ts_type_query-requires c = c.requires.accepted_at.0
 
 pub returns-then-look_up : goal.returns-then-look_up
 returns-then-look_up c = maybe_some c.ts_type_query.ensures (ident_safe _ _ c.args.levels c.args.tree.now c.args.at _ c.context_at.ensures c.if-context_at-scope.false (safe_test c.args.levels c.args.tree.now c.args.at (c.look_up.ensures typeof_safe) c.if-look_up.true))

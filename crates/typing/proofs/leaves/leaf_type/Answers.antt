@@ -21,16 +21,16 @@ pub minus_lit_to_ts_type-requires : goal.minus_lit_to_ts_type-requires
 minus_lit_to_ts_type-requires c = (placed (mi_expr _ _ _ c.requires.accepted_at (rw c.mark_at.ensures.0 at c.in-26957.is)) c.body_at-arg.ensures).accepted
 
 pub returns-in-29523 : goal.returns-in-29523
-returns-in-29523 c = as-type c.maybe_lit_to_ts_type.ensures (leaf-lit c.args.tree.now c.args.mode c.args.levels c.args.at (rw c.mark_at.ensures.0 at c.in-29523.is) c.decl_kind-kind.ensures)
+returns-in-29523 c = as-type c.maybe_lit_to_ts_type.ensures (leaf-lit c.args.tree.now c.args.mode c.args.levels c.args.at (rw c.mark_at.ensures.0 at c.in-29523.is) c.from-kind.ensures)
 
 pub returns-in-25940 : goal.returns-in-25940
-returns-in-25940 c = maybe_some c.tpl_to_ts_type.ensures (leaf_tpl c.args.tree.now c.args.mode c.args.levels c.args.at (rw c.mark_at.ensures.0 at c.in-25940.is) c.decl_kind-kind.ensures)
+returns-in-25940 c = maybe_some c.tpl_to_ts_type.ensures (leaf_tpl c.args.tree.now c.args.mode c.args.levels c.args.at (rw c.mark_at.ensures.0 at c.in-25940.is) c.from-kind.ensures)
 
 pub returns-in-25673 : goal.returns-in-25673
 returns-in-25673 c = as-type c.ident_to_ts_type.ensures (leaf-ident c.args.tree.now c.args.mode c.args.levels c.args.at (rw c.mark_at.ensures.0 at c.in-25673.is))
 
 pub returns-in-26957 : goal.returns-in-26957
-returns-in-26957 c = as-type c.minus_lit_to_ts_type.ensures (leaf_unary c.args.tree.now c.args.mode c.args.levels c.args.at (rw c.mark_at.ensures.0 at c.in-26957.is) (placed (mi_expr _ _ _ c.requires.accepted_at (rw c.mark_at.ensures.0 at c.in-26957.is)) c.body_at-arg.ensures) c.decl_kind-kind.ensures)
+returns-in-26957 c = as-type c.minus_lit_to_ts_type.ensures (leaf_unary c.args.tree.now c.args.mode c.args.levels c.args.at (rw c.mark_at.ensures.0 at c.in-26957.is) (placed (mi_expr _ _ _ c.requires.accepted_at (rw c.mark_at.ensures.0 at c.in-26957.is)) c.body_at-arg.ensures) c.from-kind.ensures)
 
 pub returns-in-25934 : goal.returns-in-25934
 returns-in-25934 c = as-type c.new_type.ensures (leaf-new c.args.tree.now c.args.mode c.args.levels c.args.at (rw c.mark_at.ensures.0 at c.in-25934.is))

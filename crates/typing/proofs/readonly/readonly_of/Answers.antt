@@ -1,7 +1,6 @@
 -- `readonly::readonly_of` meets its contract.
 use mathlib.Core.Path.{sym, ◌∙◌}
 use native.Mathlib.Omega.{arith}
-use borrow.Author.Tests.{not-true, not-false}
 use Rattle.definition.proofs.Children.{itself}
 use Rattle.swc_helpers.proofs.Made.{is_whole, copied, put-put, put_as, readonly_is}
 use Rattle.typing.proofs.Maybe.{maybe_some, maybe_none}
@@ -10,9 +9,6 @@ use Rattle.typing.proofs.readonly.readonly_of.Goals as goal
 
 pub mark_at-requires : goal.mark_at-requires
 mark_at-requires c = (itself _ _ _ c.requires).room
-
-pub plain_members-requires : goal.plain_members-requires
-plain_members-requires c = c.requires
 
 pub returns-then-not-plain_members : goal.returns-then-not-plain_members
 returns-then-not-plain_members c = maybe_none _ _ (readonly_unplain _ _ _ (sym c.mark_at.ensures.0 ∙ c.in-26956.is) (sym c.plain_members.ensures ∙ c.if-not-plain_members.true))
