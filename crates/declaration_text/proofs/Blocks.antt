@@ -19,7 +19,7 @@ use Rattle.definition.proofs.Kids.{is-mark, not-mark, text-length}
 use Rattle.records.proofs.Whole.{slice_bytes}
 use Rattle.text_tokens.specs.declared.State.{State}
 use Rattle.declaration_text.specs.declared.lines.Block.{Block}
-use Rattle.declaration_text.specs.declared.lines.Block.TheVariants.{At, Nothing}
+use Rattle.std.specs.Prelude.{Option, Some, None}
 use Rattle.declaration_text.specs.Lines.{WritesLines, records_at, closing, Opens, Found}
 use Rattle.declaration_text.proofs.LinesWritten.{lines_none, lines_then, lines-as, lines_same}
 
@@ -54,23 +54,23 @@ module _ (levels : ℕ) (s : List ℕ) (at : ℕ) (a : AcceptedAt levels s at) w
   marked m e d = block-is d ∙ ap (λ (k : ℕ). block_by k kids d (body_at s at)) e
 
   -- an Nb is the block itself
-  pub block_here : mark_at s at ≡ mark "Nb" → Found levels s at (At at levels)
+  pub block_here : mark_at s at ≡ mark "Nb" → Found levels s at (Some (record { at = at; levels = levels }))
   block_here m = record { accepted = a; lower = omega arith; lines = λ d. marked (mark "Nb") m d }
 
   -- another record than an Ed, an Ns or an Nd opens none
   pub block_none : (mark_at s at ≡ mark "Nb" → ⊥) → (mark_at s at ≡ mark "Ed" → ⊥) → (mark_at s at ≡ mark "Ns" → ⊥) → (mark_at s at ≡ mark "Nd" → ⊥)
-      → Found levels s at Nothing
+      → Found levels s at None
   block_none e f g h = λ d. block-is d ∙ block-other (mark_at s at) kids d (body_at s at) e f g h
 
   -- what is found in a child is found in the record
   from-child : (p : ℕ) → ((d : ℕ) → block_lines (tree_at levels s at) d at ≡ block_lines (tree_at (levels - 1) s p) d p)
-      → (f : Block) → Found (levels - 1) s p f → Found levels s at f
-  from-child p e (At b l) f = record { accepted = f.accepted; lower = omega (arith, f.lower); lines = λ d. e d ∙ f.lines d }
-  from-child p e Nothing f = λ d. e d ∙ f d
+      → (f : Option Block) → Found (levels - 1) s p f → Found levels s at f
+  from-child p e (Some b) f = record { accepted = f.accepted; lower = omega (arith, f.lower); lines = λ d. e d ∙ f.lines d }
+  from-child p e None f = λ d. e d ∙ f d
 
   -- an Ed leads to its first child
   module _ (m : mark_at s at ≡ mark "Ed") where
-    pub first-none : count_at s at ≤ 0 → Found levels s at Nothing
+    pub first-none : count_at s at ≤ 0 → Found levels s at None
     unfolding first_block
     first-none h =
         λ d. marked (mark "Ed") m d
@@ -82,7 +82,7 @@ module _ (levels : ℕ) (s : List ℕ) (at : ℕ) (a : AcceptedAt levels s at) w
         marked (mark "Ed") m d
         ∙ ap (λ (ks : Recs). first_block ks d (body_at s at)) (read_all_more (tree_at (levels - 1) s) (end_at (levels - 1) s) (count_at s at) (body_at s at) h)
 
-    pub first_found : 0 < count_at s at → (p : ℕ) → p ≡ body_at s at → (f : Block) → Found (levels - 1) s p f → Found levels s at f
+    pub first_found : 0 < count_at s at → (p : ℕ) → p ≡ body_at s at → (f : Option Block) → Found (levels - 1) s p f → Found levels s at f
     first_found h p e f x = from-child p (λ d. first-lines h d ∙ ap (λ (q : ℕ). block_lines (tree_at (levels - 1) s q) d q) (sym e)) f x
 
   -- an Ns or an Nd leads to its second
@@ -90,7 +90,7 @@ module _ (levels : ℕ) (s : List ℕ) (at : ℕ) (a : AcceptedAt levels s at) w
     second_is : (d : ℕ) → block_lines (tree_at levels s at) d at ≡ second_block kids d (body_at s at)
     second_is d = ⊎_elim (λ e. marked (mark "Nd") e d) (λ e. marked (mark "Ns") e d) m
 
-    pub second_none : count_at s at < 2 → Found levels s at Nothing
+    pub second_none : count_at s at < 2 → Found levels s at None
     unfolding second_block first_block read_all
     second_none h = λ d. second_is d ∙ go d (count_at s at) h
       where
@@ -114,7 +114,7 @@ module _ (levels : ℕ) (s : List ℕ) (at : ℕ) (a : AcceptedAt levels s at) w
           ∙ (ap (λ (q : ℕ). first_block (records_at (levels - 1) s (n - 1) e) d q) (behind (levels - 1) s known b k)
           ∙ ap (λ (ks : Recs). first_block ks d e) (read_all_more (tree_at (levels - 1) s) (end_at (levels - 1) s) (n - 1) e (omega arith))))
 
-      pub second-found : (p q : ℕ) → p ≡ body_at s at → q ≡ end_at (levels - 1) s p → (f : Block) → Found (levels - 1) s q f → Found levels s at f
+      pub second-found : (p q : ℕ) → p ≡ body_at s at → q ≡ end_at (levels - 1) s p → (f : Option Block) → Found (levels - 1) s q f → Found levels s at f
       second-found p q e g f x =
           from-child q
           (λ d. second-lines d ∙ ap (λ (r : ℕ). block_lines (tree_at (levels - 1) s r) d r) (sym (g ∙ ap (end_at (levels - 1) s) e))) f x
@@ -148,7 +148,7 @@ module _ (levels : ℕ) (tree : List ℕ) (at d : ℕ) {m : ℕ} (e : m ≡ mark
     item-is = rw (not-mark levels tree at (mark "St") (λ z. n (e ∙ z)), not-mark levels tree at (mark "Op") (λ z. n' (e ∙ z)))
 
     -- the line alone
-    pub item_line_lem : Found levels tree at Nothing → WritesLines o o1 s s1 lines_of
+    pub item_line_lem : Found levels tree at None → WritesLines o o1 s s1 lines_of
     item_line_lem f = lines-as w (ap (λ (ls : List Line). line_of ∷ ls) (sym (f d)) ∙ item-is)
 
     -- the line, the items of the block, and the line that closes it

@@ -34,9 +34,12 @@ use Rattle.text_tokens.specs.declared.State.{State}
 use Rattle.text_tokens.specs.Writes.{Writes}
 use Rattle.declaration_text.specs.declared.Answer.{Answer}
 use Rattle.declaration_text.specs.declared.Answer.TheVariants.{Done, Refused}
-use Rattle.declaration_text.specs.Lines.{WritesLines, records_at}
+use Rattle.declaration_text.specs.Lines.{WritesLines, lines_seen, records_at}
 use Rattle.declaration_text.specs.Answers.{start, Accepted, answered, Gives}
 use Rattle.declaration_text.proofs.LinesWritten.{lines_none}
+use Rattle.declaration_text.proofs.Places.{seen-none, seen-place}
+use Rattle.std.specs.Prelude.{Some, None}
+use Rattle.definition.proofs.Converse.{read-accepted}
 
 -- ---- a module
 
@@ -48,6 +51,10 @@ module_lines s a e f =
     rw (e, f, tree_is deepest s 0 a)
     (ap (λ (k : ℕ). first_line (tokens (rec (head_at s 0) (records_at (deepest - 1) s (count_at s 0) (body_at s 0))) false 0) ++ items_lines (records_at (deepest - 1) s (count_at s 0) (body_at s 0)) 0 (0 + head_size + k))
     (sym (own-length deepest s 0 a)))
+
+-- a run begins where all is empty
+pub started : (s : State) → (s.written ≡ 0) × ((s.last ≡ None) × ((s.some ≡ false) × (s.place ≡ None))) → s ≡ start
+started s h = λ i. record { written = h.0 i; last = h.1.0 i; some = h.1.1.0 i; place = h.1.1.1 i }
 
 -- the line of its own Ops, if a dry run from where a run begins has written some
 module _ {a b : List ℕ} {s d : State} {ts : List Token} (e : s ≡ start) (w : Writes a b s d ts) where
@@ -82,16 +89,18 @@ module _ {o1 : List ℕ} {r : State} {ls : List Line} (dry : WritesLines [] o1 s
   kept : o1 ++ out ≡ out
   kept = front-none o1 out nothing
 
-  pub number-outside : r.place < nowhere → Gives (written_text ls out) (Refused NumberOutside r.place) (o1 ++ out)
+  pub number-outside : {p : ℕ} → (first_outside nowhere ls ≡ p) × (p < nowhere) → Gives (written_text ls out) (Refused NumberOutside p) (o1 ++ out)
   unfolding written_text
-  number-outside h =
-      rw (← dry.place, lt-ltb r.place nowhere h) (record { answer = refl; output = kept })
+  number-outside {p} h = rw (h.0, lt-ltb p nowhere h.1) (record { answer = refl; output = kept })
 
-  module _ (l : nowhere ≤ r.place) where
+  module _ (l : r.place ≡ None) where
+    fit : ltb (first_outside nowhere ls) nowhere ≡ false
+    fit = le-ltb (first_outside nowhere ls) nowhere (omega (arith, seen-none ls (sym l ∙ dry.place)))
+
     pub text_too_long : length out < r.written → Gives (written_text ls out) (Refused OutputFull 0) (o1 ++ out)
     unfolding written_text
     text_too_long h =
-        rw (← dry.place, le-ltb r.place nowhere l, lt-leb (length (lines_bytes ls)) (length out) (omega (arith, size)))
+        rw (fit, lt-leb (length (lines_bytes ls)) (length out) (omega (arith, size)))
         (record { answer = refl; output = kept })
 
     pub text-done : r.written ≤ length out → length out < 2 ^ 63 → {o2 : List ℕ} {s : State} → WritesLines (take r.written (o1 ++ out)) o2 start s ls
@@ -101,7 +110,7 @@ module _ {o1 : List ℕ} {r : State} {ls : List Line} (dry : WritesLines [] o1 s
         let n : r.written ≡ length (lines_bytes ls) = omega (arith, size) in
         let x : o2 ≡ lines_bytes ls =
         w.put.bytes ∙ copy-all (take r.written (o1 ++ out)) (lines_bytes ls) (sym (part_length r.written o1 out h) ∙ n) in
-        rw (← dry.place, le-ltb r.place nowhere l, le-leb (length (lines_bytes ls)) (length out) (omega arith))
+        rw (fit, le-leb (length (lines_bytes ls)) (length out) (omega arith))
         (record { answer = λ i. done (n i) 0; output = rw (kept, x, n) })
 
 -- ---- a run that is sure to succeed
@@ -112,6 +121,13 @@ module _ {tree : List ℕ} (a : Accepted tree) where
 
   pub accepted-short : length tree ≤ longest_tree
   accepted-short = (accepted-tree tree [] a.end a.checked).0.short
+
+  -- a place that the code saw lies in the tree
+  pub place_seen : ((i : ℕ) → mir.Val.Fits w8 (get_or tree i 0)) → {p : ℕ} → Some p ≡ lines_seen None (lines_of (tree_at deepest tree 0))
+      → (first_outside nowhere (lines_of (tree_at deepest tree 0)) ≡ p) × (p < nowhere)
+  place_seen known {p} e =
+      let t = read-accepted tree [] a.end (slice_bytes tree known) a.checked in
+      seen-place (tree_at deepest tree 0) (omega (arith, accepted-short, ap length t.same)) p e
 
   pub certain_done : ((i : ℕ) → mir.Val.Fits w8 (get_or tree i 0)) → (out : List ℕ) → length out < 2 ^ 63
       → (6 * length tree ≤ length out) × (numbers_fit (tree_at deepest tree 0) ≡ true) → {o : List ℕ} {r : State} → WritesLines out o start r (lines_of (tree_at deepest tree 0))

@@ -1,7 +1,7 @@
 -- The children of accepted records, with their tokens, as the code meets them: one after the other, by their place, and those behind a place.
 use mathlib.Core.Path.{◌≡◌, refl, sym, ap, ◌∙◌}
 use mathlib.Core.List.{List, [], ◌∷◌}
-use mathlib.Core.Bool.{Bool, true, false}
+use mathlib.Core.Bool.{Bool, false}
 use Prim.Native.Nat.{ℕ, zero, suc, ◌+◌, ◌-◌, ◌<◌, ◌≤◌}
 use native.Mathlib.Decide.{dec_le}
 use native.Mathlib.Omega.{arith}
@@ -15,7 +15,6 @@ use Rattle.definition.specs.Children.{AcceptedAt, AllAccepted, child_at}
 use Rattle.definition.specs.Text.{no_child, nth, is_quoted, tokens, children, text_rows, row_in, row_tokens}
 use Rattle.definition.specs.Record.{mark_of, text_of}
 use Rattle.definition.proofs.Children.{child, tree_is, stands, children as kids, first_one, others, read_all_more, read_all_none, end_of_all-more, end_of_all-none}
-use borrow.Author.Tests.{ne_eqb}
 use Rattle.definition.proofs.Kids.{mark-is, text-is, text-length}
 use Rattle.records.proofs.Whole.{slice_bytes}
 use Rattle.declaration_text.specs.Steps.{children_at, child_alone, children_of, is_chain}
@@ -98,19 +97,8 @@ module _ (levels : ℕ) (s : List ℕ) (at : ℕ) (a : AcceptedAt levels s at) (
   unfolding end_of_all
   name-at h e = rw (kid_at 0 h, e, text-is (levels - 1) s (body_at s at))
 
-  module _ (h : 0 < count_at s at) {p : ℕ} (e : p ≡ body_at s at) {t : List ℕ} (f : t ≡ text_at s p) where
-    pub name_empty : length t ≡ 0 → false ≡ is_quoted (text_of (nth 0 (children_of levels s at)).itself)
-    name_empty z = rw (← name-at h e, ← f) (go t z)
-      where
-        go : (t : List ℕ) → length t ≡ 0 → false ≡ is_quoted t
-        go [] z = refl
-        go (b ∷ bs) z = absurd (omega arith)
-
-    pub name_double : get_or t 0 0 ≡ 34 → true ≡ is_quoted (text_of (nth 0 (children_of levels s at)).itself)
-    name_double z = rw (← name-at h e, ← f, z)
-
-    pub name-single : (get_or t 0 0 ≡ 34 → ⊥) → eqb (get_or t 0 0) 39 ≡ is_quoted (text_of (nth 0 (children_of levels s at)).itself)
-    name-single z = rw (← name-at h e, ← f, ne_eqb (get_or t 0 0) 34 z)
+  pub name_is : 0 < count_at s at → {p : ℕ} → p ≡ body_at s at → {t : List ℕ} → t ≡ text_at s p → is_quoted t ≡ is_quoted (text_of (nth 0 (children_of levels s at)).itself)
+  name_is h e f = ap is_quoted (f ∙ name-at h e)
 
 -- the tokens of a record, by its row and its children
 pub tokens_are : (levels : ℕ) (s : List ℕ) (at : ℕ) (under : Bool) → AcceptedAt levels s at

@@ -1,10 +1,10 @@
 pub mod Children
 pub mod RowsRead
-pub mod Conditions
 pub mod Words
 pub mod Templates
 pub mod Written
 pub mod LinesWritten
 pub mod Blocks
 pub mod NumbersFit
+pub mod Places
 pub mod Calls

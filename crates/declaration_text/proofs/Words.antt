@@ -1,83 +1,36 @@
--- What is written or told of a record without its children: words of the table, symbols, quasis, and the `,` behind an element.
+-- What is told of a record without its children: quasis, and the `,` behind an element.
 use mathlib.Core.Path.{◌≡◌, refl, sym, ap, ◌∙◌}
 use mathlib.Core.List.{List, [], ◌∷◌}
 use mathlib.Core.Bool.{Bool, true, false, not, ◌||◌}
-use Prim.Native.Nat.{ℕ, zero, suc, ◌+◌, ◌-◌, ◌<◌, ◌≤◌, ◌^◌}
+use Prim.Native.Nat.{ℕ, zero, suc, ◌-◌, ◌<◌, ◌≤◌, min}
 use native.Mathlib.Omega.{arith}
 use lib.Dec.{eqb}
-use lib.ListN.{length, get_or, take, drop, length-drop}
-use lib.Seq.{take-nil, take_all}
+use lib.ListN.{length, get_or, take, drop, length-drop, drop_of_length-le}
+use lib.Seq.{take_all}
+use native.Mathlib.Decide.{dec_le}
 use mir.Syntax.{w8}
 use mir.Val
 use Rattle.definition.specs.Tree.{mark_at, end_at, tree_at}
 use Rattle.definition.specs.Grammar.{mark}
 use Rattle.definition.specs.Children.{AllAccepted}
 use Rattle.definition.specs.Record.{is_no}
-use Rattle.definition.specs.Text.{token, own, escaped, more, any_written, last_written, first_place, tokens_bytes}
+use Rattle.definition.specs.Text.{token, own, escaped, more}
 use Rattle.definition.proofs.Children.{others}
 use Rattle.definition.proofs.Kids.{mark-is, is-mark, not-mark}
-use Rattle.text_tokens.specs.declared.State.{State}
-use Rattle.text_tokens.specs.Writes.{Writes}
 use Rattle.text_tokens.proofs.Writes.{or_false, or_true}
-use Rattle.declaration_text.specs.Printed.{words_table}
-use Rattle.declaration_text.specs.Table.{word_at}
 use Rattle.declaration_text.specs.Steps.{children_at}
 use Rattle.declaration_text.specs.Templates.{quasi_if, passed}
 use Rattle.declaration_text.proofs.Children.{children-none, children-more}
 
--- ---- lists
-
-pub drop_past : (n : ℕ) (l : List ℕ) → length l ≤ n → drop n l ≡ []
-drop_past zero [] h = refl
-drop_past zero (b ∷ l) h = absurd (omega arith)
-drop_past (suc n) [] h = refl
-drop_past (suc n) (b ∷ l) h = drop_past n l (omega arith)
-
--- a part that goes to the end
-pub rest_all : (n : ℕ) (l : List ℕ) → take (length l - n) (drop n l) ≡ drop n l
-rest_all n l = take_all (length l - n) (drop n l) (rw length-drop (omega arith))
-
--- ---- tokens
-
--- an empty token writes nothing
-pub writes_empty : (o : List ℕ) (s : State) → s.written < 2 ^ 64 → (t : List ℕ) → t ≡ [] → Writes o o s s (token t ∷ [])
-unfolding tokens_bytes any_written last_written first_place
-writes_empty o s h t e =
-    rw e (record {
-      put = record { bytes = refl; position = omega arith };
-      begun = sym (or_false s.begun);
-      some = sym (or_false s.some);
-      last = refl;
-      place = refl;
-    })
-
--- ---- words
-
-pub words_length : length words_table ≡ 145
-unfolding words_table
-words_length = refl
-
--- behind the table there is none
-pub word-past : (a n : ℕ) → 145 < a → word_at a n ≡ []
-word-past a n h = rw (drop_past a words_table (omega (arith, words_length))) (take-nil n)
-
--- all that is left of the table, and a part of it
-pub word-rest : {w : List ℕ} → w ≡ words_table → (a n : ℕ) → 145 < a + n → token (take (length w - a) (drop a w)) ∷ [] ≡ token (word_at a n) ∷ []
-word-rest e a n h =
-    rw e (ap (λ (t : List ℕ). token t ∷ [])
-    (rest_all a words_table ∙ sym (take_all n (drop a words_table) (rw length-drop (omega (arith, words_length))))))
-
-pub word_part : {w : List ℕ} → w ≡ words_table → (a n : ℕ) → token (take (a + n - a) (drop a w)) ∷ [] ≡ token (word_at a n) ∷ []
-word_part e a n = let z : a + n - a ≡ n = omega arith in rw (e, z)
-
 -- ---- symbols
 
--- a text without a symbol, and one with a symbol
-pub symbol-none : {t u : List ℕ} → t ≡ u → length t < 4 → drop 4 u ≡ []
-symbol-none {t} e h = rw (← e) (drop_past 4 t (omega arith))
-
-pub symbol-is : {t u : List ℕ} → t ≡ u → token (take (length t - 4) (drop 4 t)) ∷ [] ≡ token (drop 4 u) ∷ []
-symbol-is {u = u} e = rw e (ap (λ (t : List ℕ). token t ∷ []) (rest_all 4 u))
+-- what stands behind the first 4 bytes of a text, if it is as long
+pub symbol-is : {t u : List ℕ} → t ≡ u → {k : ℕ} → k ≡ min (length t) 4 → token (take (length t - k) (drop k t)) ∷ [] ≡ token (drop 4 u) ∷ []
+symbol-is {t} e {k} f = rw (← e) (ap (λ (l : List ℕ). token l ∷ []) (take_all (length t - k) (drop k t) (rw length-drop (omega arith)) ∙ go (dec_le 4 (length t))))
+  where
+    go : Dec (4 ≤ length t) → drop k t ≡ drop 4 t
+    go (yes h) = let z : k ≡ 4 = omega arith in rw z
+    go (no h) = drop_of_length-le t {i = k} (omega arith) ∙ sym (drop_of_length-le t {i = 4} (omega arith))
 
 -- ---- the first of n, if there is one
 

@@ -9,19 +9,23 @@ use lib.Dec.{eqb}
 use lib.ListN.{length, get_or, drop}
 use mir.Syntax.{w8}
 use mir.Val
-use borrow.Author.Tests.{ne_eqb}
 use Rattle.definition.specs.Tree.{Head, mark_at, count_at, body_at, text_at, head_at, end_of_all, end_at, tree_at}
 use Rattle.definition.specs.Grammar.{mark, marks, member, known, place}
 use Rattle.definition.specs.Children.{AcceptedAt, AllAccepted, child_at}
 use Rattle.definition.specs.Record.{text, is_no}
 use Rattle.definition.specs.Numerals.{bits_of, whole_of}
-use Rattle.definition.specs.Text.{Token, token, own, is_written, any_written, last_written, string_token, integer_token, decimal_token, Piece, Child, nth, tokens, text_rows, row_in, row_tokens, holds, more, closed, each_of, number_of, template_of, in_braces, in_turns, quasis, behind_quasis, expressions, what_tokens, piece_tokens, pieces_tokens}
+use Rattle.definition.specs.Text.{Token, token, own, is_written, any_written, last_written, decimal_token, Piece, Child, nth, tokens, text_rows, row_in, row_tokens, holds, more, closed, each_of, number_of, template_of, in_braces, in_turns, quasis, behind_quasis, expressions, what_tokens, piece_tokens, pieces_tokens}
 use Rattle.definition.proofs.Children.{children, first_one, others, itself}
 use Rattle.definition.proofs.Kids.{text-is, is-mark, not-mark, all_others}
 use Rattle.text_tokens.specs.declared.State.{State}
-use Rattle.text_tokens.specs.Writes.{Writes, cleared_of}
+use Rattle.text_tokens.specs.Writes.{Writes, last_of, cleared_of}
 use Rattle.text_tokens.proofs.Writes.{or_true, writes-none, writes_then, writes_as, writes-same, any_written_append, last-any}
-use Rattle.declaration_text.specs.Table.{each_by, what_of, word_at, cell, row_at, piece_in, pieces_in}
+use Rattle.declaration_text.specs.Table.{each_by, cell, row_at, pieces_in, when_is, each_is, what_is, piece_is, SaysPiece}
+use Rattle.declaration_text.specs.declared.pieces.Each.{Each}
+use Rattle.declaration_text.specs.declared.pieces.Each.TheVariants.{Ops, Elements, Members}
+use Rattle.declaration_text.specs.declared.pieces.What.{What as NamedWhat}
+use Rattle.declaration_text.specs.declared.pieces.Piece.{Piece as NamedPiece}
+use Rattle.std.specs.Prelude.{Some}
 use Rattle.declaration_text.specs.Steps.{children_at, child_alone, children_of, is_chain, Plain, Name}
 use Rattle.declaration_text.specs.Templates.{texts_of, tokens_of, Quasis, Expressions, quasi_if, braces_if, passed}
 use Rattle.declaration_text.proofs.Children.{children-none, children-first, children-more, kid-none, kid_at, drop-is, drop-none, tokens_are}
@@ -63,46 +67,42 @@ module _ (levels : ℕ) (s : List ℕ) (at : ℕ) (a : AcceptedAt levels s at) (
   unfolding number_of
   number-spelt h = rw (children-more (levels - 1) s known (is_chain s at) (count_at s at) (body_at s at) (children levels s at a) h)
 
--- ---- one of the children behind the slots, by the number of what is written for each
+-- ---- one of the children behind the slots, by what is written for each
 
-module _ {k : ℕ} (levels : ℕ) (s : List ℕ) (under : Bool) (at : ℕ) (cs : List Child) where
-  module _ (e : k ≡ 3) where
-    pub op-written : mark_at s at ≡ mark "Op" → tokens (tree_at levels s at) under at ≡ each_by k (child_alone levels s under at) cs
+module _ (levels : ℕ) (s : List ℕ) (under : Bool) (at : ℕ) (cs : List Child) where
+  pub op-written : mark_at s at ≡ mark "Op" → tokens (tree_at levels s at) under at ≡ each_by Ops (child_alone levels s under at) cs
+  unfolding each_by
+  op-written m = rw (is-mark levels s at (mark "Op") m)
+
+  pub no_op : (mark_at s at ≡ mark "Op" → ⊥) → each_by Ops (child_alone levels s under at) cs ≡ []
+  unfolding each_by
+  no_op m = rw (not-mark levels s at (mark "Op") m)
+
+  pub no_element : mark_at s at ≡ mark "Op" → each_by Elements (child_alone levels s under at) cs ≡ []
+  unfolding each_by
+  no_element m = rw (is-mark levels s at (mark "Op") m)
+
+  module _ (m : mark_at s at ≡ mark "Op" → ⊥) {b : Bool} (f : b ≡ (more cs || is_no (tree_at levels s at))) where
+    pub element-comma : b ≡ true → tokens (tree_at levels s at) under at ++ (token (text ",") ∷ []) ≡ each_by Elements (child_alone levels s under at) cs
     unfolding each_by
-    op-written m = rw (e, is-mark levels s at (mark "Op") m)
+    element-comma t = rw (not-mark levels s at (mark "Op") m, ← f, t)
 
-    pub no_op : (mark_at s at ≡ mark "Op" → ⊥) → each_by k (child_alone levels s under at) cs ≡ []
+    pub element-last : b ≡ false → tokens (tree_at levels s at) under at ≡ each_by Elements (child_alone levels s under at) cs
     unfolding each_by
-    no_op m = rw (e, not-mark levels s at (mark "Op") m)
+    element-last t = rw (not-mark levels s at (mark "Op") m, ← f, t) (sym (append-nil (tokens (tree_at levels s at) under at)))
 
-  module _ (n : k ≡ 3 → ⊥) where
-    pub op_left_out : mark_at s at ≡ mark "Op" → each_by k (child_alone levels s under at) cs ≡ []
+  pub op_no_member : mark_at s at ≡ mark "Op" → each_by Members (child_alone levels s under at) cs ≡ []
+  unfolding each_by
+  op_no_member m = rw (is-mark levels s at (mark "Op") m)
+
+  module _ (m : mark_at s at ≡ mark "Op" → ⊥) where
+    pub no_member : mark_at s at ≡ mark "Dm" → each_by Members (child_alone levels s under at) cs ≡ []
     unfolding each_by
-    op_left_out m = rw (ne_eqb k 3 n, is-mark levels s at (mark "Op") m) (go (eqb k 4))
-      where
-        go : (b : Bool) → cond {A = List Token} b [] [] ≡ []
-        go true = refl
-        go false = refl
+    no_member d = rw (not-mark levels s at (mark "Op") m, is-mark levels s at (mark "Dm") d)
 
-    module _ (m : mark_at s at ≡ mark "Op" → ⊥) where
-      pub element-comma : k ≡ 4 → {b : Bool} → b ≡ (more cs || is_no (tree_at levels s at)) → b ≡ true
-          → tokens (tree_at levels s at) under at ++ (token (text ",") ∷ []) ≡ each_by k (child_alone levels s under at) cs
-      unfolding each_by
-      element-comma e f t = rw (e, not-mark levels s at (mark "Op") m, ← f, t)
-
-      pub element-last : k ≡ 4 → {b : Bool} → b ≡ (more cs || is_no (tree_at levels s at)) → b ≡ false
-          → tokens (tree_at levels s at) under at ≡ each_by k (child_alone levels s under at) cs
-      unfolding each_by
-      element-last e f t = rw (e, not-mark levels s at (mark "Op") m, ← f, t) (sym (append-nil (tokens (tree_at levels s at) under at)))
-
-      module _ (l : k ≡ 4 → ⊥) where
-        pub no_member : mark_at s at ≡ mark "Dm" → each_by k (child_alone levels s under at) cs ≡ []
-        unfolding each_by
-        no_member d = rw (ne_eqb k 3 n, ne_eqb k 4 l, not-mark levels s at (mark "Op") m, is-mark levels s at (mark "Dm") d)
-
-        pub member-closed : (mark_at s at ≡ mark "Dm" → ⊥) → closed (tokens (tree_at levels s at) under at) ≡ each_by k (child_alone levels s under at) cs
-        unfolding each_by
-        member-closed d = rw (ne_eqb k 3 n, ne_eqb k 4 l, not-mark levels s at (mark "Op") m, not-mark levels s at (mark "Dm") d)
+    pub member-closed : (mark_at s at ≡ mark "Dm" → ⊥) → closed (tokens (tree_at levels s at) under at) ≡ each_by Members (child_alone levels s under at) cs
+    unfolding each_by
+    member-closed d = rw (not-mark levels s at (mark "Op") m, not-mark levels s at (mark "Dm") d)
 
 -- ---- tokens from a cleared state
 
@@ -133,10 +133,10 @@ module _ {o o' : List ℕ} (s : State) {r s' : State} {ts : List Token} (e : r �
       }
 
   -- a member: its tokens end in `;`, or it follows
-  module _ {b : Bool} (f : b ≡ (s'.some && eqb s'.last 59)) where
+  module _ {b : Bool} (f : b ≡ (s'.some && eqb (last_of s') 59)) where
     ends : (x : Bool) → any_written ts ≡ x → b ≡ (any_written ts && eqb (last_written 0 ts) 59)
-    ends true t = f ∙ ap (λ (c : Bool). c && eqb s'.last 59) (some_is ∙ t) ∙ ap (λ (x : ℕ). eqb x 59) (w.last ∙ last-any s.last 0 ts t) ∙ sym (ap (λ (c : Bool). c && eqb (last_written 0 ts) 59) t)
-    ends false t = f ∙ ap (λ (c : Bool). c && eqb s'.last 59) (some_is ∙ t) ∙ sym (ap (λ (c : Bool). c && eqb (last_written 0 ts) 59) t)
+    ends true t = f ∙ ap (λ (c : Bool). c && eqb (last_of s') 59) (some_is ∙ t) ∙ ap (λ (x : ℕ). eqb x 59) (w.last ∙ last-any (last_of s) 0 ts t) ∙ sym (ap (λ (c : Bool). c && eqb (last_written 0 ts) 59) t)
+    ends false t = f ∙ ap (λ (c : Bool). c && eqb (last_of s') 59) (some_is ∙ t) ∙ sym (ap (λ (c : Bool). c && eqb (last_written 0 ts) 59) t)
 
     pub member-ends : b ≡ true → Writes o o' s s' (closed ts)
     unfolding closed
@@ -190,21 +190,19 @@ module _ {f : Child → List Child → List Token} {levels : ℕ} {tree : List �
 
 -- ---- the pieces of a row, one after the other
 
--- `done` was written, and n pieces at most are left from the place i on
-pub record Reading (row : ℕ) (under : Bool) (at : ℕ) (h : Head) (cs : List Child) (total : List Token) (o0 o : List ℕ) (s0 s : State) (i n : ℕ) : Type 0 where
-  pub bound : i + 5 * n ≡ 41
+-- `done` was written, and the pieces from the number k on are left
+pub record Reading (row : ℕ) (under : Bool) (at : ℕ) (h : Head) (cs : List Child) (total : List Token) (o0 o : List ℕ) (s0 s : State) (k : ℕ) : Type 0 where
   pub done : List Token
   pub wrote : Writes o0 o s0 s done
-  pub same : total ≡ done ++ pieces_tokens (pieces_in n (row_at row) i) under (cell row 0) at h cs
+  pub same : total ≡ done ++ pieces_tokens (pieces_in (8 - k) (row_at row) (k * 5 + 1)) under (cell row 0) at h cs
 
 -- the row of the record at `at`
 pub reading-start : (levels : ℕ) (s : List ℕ) (at : ℕ) (under : Bool) (a : AcceptedAt levels s at) → {m row : ℕ} → m ≡ mark_at s at → row ≡ place known m
     → (o : List ℕ) (st : State) → st.written < 2 ^ 64
-    → Reading row under at (head_at s at) (children_of levels s at) (tokens (tree_at levels s at) under at) o o st st 1 8
+    → Reading row under at (head_at s at) (children_of levels s at) (tokens (tree_at levels s at) under at) o o st st 0
 reading-start levels s at under a e f o st h =
     let k : place known (mark_at s at) < length known = (itself levels s at a).known in
     rw (f, e) (record {
-      bound = omega arith;
       done = [];
       wrote = writes-none o st h;
       same =
@@ -213,93 +211,56 @@ reading-start levels s at under a e f o st h =
           ∙ ap (λ (ps : List Piece). pieces_tokens ps under (cell (place known (mark_at s at)) 0) at (head_at s at) (children_of levels s at)) (sym (row-pieces (mark_at s at) k));
     })
 
-module _ {row : ℕ} {under : Bool} {at : ℕ} {h : Head} {cs : List Child} {total : List Token} {o0 o : List ℕ} {s0 s : State} {i n : ℕ}
-    (l : Reading row under at h cs total o0 o s0 s i n) where
-  pub reading-turn : length o0 < 2 ^ 64 → 0 < n → {x : ℕ} → x ≡ cell row (i + 2) → (x ≡ 0 → ⊥) → {o' : List ℕ} {s' : State}
-      → Writes o o' s s' (piece_tokens (piece_in (row_at row) i) under (cell row 0) at h cs) → Reading row under at h cs total o0 o' s0 s' (i + 5) (n - 1)
+module _ {row : ℕ} {under : Bool} {at : ℕ} {h : Head} {cs : List Child} {total : List Token} {o0 o : List ℕ} {s0 s : State} {k : ℕ}
+    (l : Reading row under at h cs total o0 o s0 s k) where
+  -- what is left, where the next piece is p, and where there is none
+  next-is : k < 8 → (p : NamedPiece) → SaysPiece (row_at row) (k * 5 + 1) (Some p)
+      → pieces_in (8 - k) (row_at row) (k * 5 + 1) ≡ piece_is p ∷ pieces_in (8 - (k + 1)) (row_at row) ((k + 1) * 5 + 1)
+  next-is g p q =
+      let n : 8 - k - 1 ≡ 8 - (k + 1) = omega arith in
+      let i : k * 5 + 1 + 5 ≡ (k + 1) * 5 + 1 = omega arith in
+      pieces_more (row_at row) (8 - k) (k * 5 + 1) (omega arith) q.0 ∙ rw (q.1, n, i)
+
+  pub reading-turn : length o0 < 2 ^ 64 → k < 8 → (p : NamedPiece) → SaysPiece (row_at row) (k * 5 + 1) (Some p) → {o' : List ℕ} {s' : State}
+      → Writes o o' s s' (piece_tokens (piece_is p) under (cell row 0) at h cs) → Reading row under at h cs total o0 o' s0 s' (k + 1)
   unfolding pieces_tokens
-  reading-turn b g e z w =
-      let q = l.bound in
+  reading-turn b g p q w =
+      let rest : List Token = pieces_tokens (pieces_in (8 - (k + 1)) (row_at row) ((k + 1) * 5 + 1)) under (cell row 0) at h cs in
       record {
-        bound = omega arith;
-        done = l.done ++ piece_tokens (piece_in (row_at row) i) under (cell row 0) at h cs;
+        done = l.done ++ piece_tokens (piece_is p) under (cell row 0) at h cs;
         wrote = writes_then b l.wrote w;
         same =
             l.same
-            ∙ ap (λ (ps : List Piece). l.done ++ pieces_tokens ps under (cell row 0) at h cs) (pieces_more (row_at row) n i g (λ y. z (e ∙ y)))
-            ∙ sym (append_assoc l.done (piece_tokens (piece_in (row_at row) i) under (cell row 0) at h cs) (pieces_tokens (pieces_in (n - 1) (row_at row) (i + 5)) under (cell row 0) at h cs));
+            ∙ ap (λ (ps : List Piece). l.done ++ pieces_tokens ps under (cell row 0) at h cs) (next-is g p q)
+            ∙ sym (append_assoc l.done (piece_tokens (piece_is p) under (cell row 0) at h cs) rest);
       }
 
-  pub reading-end : {x : ℕ} → x ≡ cell row (i + 2) → x ≡ 0 → Writes o0 o s0 s total
+  finished : pieces_in (8 - k) (row_at row) (k * 5 + 1) ≡ [] → Writes o0 o s0 s total
   unfolding pieces_tokens
-  reading-end e z =
-      writes_as l.wrote
-      (sym (l.same ∙ ap (λ (ps : List Piece). l.done ++ pieces_tokens ps under (cell row 0) at h cs) (pieces_end (row_at row) n i (sym e ∙ z)) ∙ append-nil l.done))
+  finished e = writes_as l.wrote (sym (l.same ∙ ap (λ (ps : List Piece). l.done ++ pieces_tokens ps under (cell row 0) at h cs) e ∙ append-nil l.done))
 
-  pub reading-done : n ≤ 0 → Writes o0 o s0 s total
-  unfolding pieces_tokens
-  reading-done z =
-      writes_as l.wrote
-      (sym (l.same ∙ ap (λ (ps : List Piece). l.done ++ pieces_tokens ps under (cell row 0) at h cs) (pieces_none (row_at row) n i z) ∙ append-nil l.done))
+  pub reading-end : get_or (row_at row) (k * 5 + 1 + 2) 0 ≡ 0 → Writes o0 o s0 s total
+  reading-end z = finished (pieces_end (row_at row) (8 - k) (k * 5 + 1) z)
 
--- ---- one piece
+  pub reading-done : 8 ≤ k → Writes o0 o s0 s total
+  reading-done g = finished (pieces_none (row_at row) (8 - k) (k * 5 + 1) (omega arith))
 
-module _ (row i : ℕ) (under : Bool) (at : ℕ) (h : Head) (cs : List Child) where
-  -- the tokens of the piece, whether it is written or not
-  pub piece-not : {b : Bool} → b ≡ holds (piece_in (row_at row) i).when under h cs → b ≡ false
-      → piece_tokens (piece_in (row_at row) i) under (cell row 0) at h cs ≡ []
-  piece-not e f = rw (← e, f)
+-- ---- a piece
 
-  module _ {b : Bool} (e : b ≡ holds (piece_in (row_at row) i).when under h cs) (f : b ≡ true) {k : ℕ} (q : k ≡ cell row (i + 2)) where
-    -- what it says, by its number
-    piece_is : piece_tokens (piece_in (row_at row) i) under (cell row 0) at h cs ≡ what_tokens (what_of k (cell row (i + 3)) (cell row (i + 4))) (cell row 0) at h cs
-    piece_is = rw (← e, f, q)
+-- its tokens, by what it says, where it is written; none where it isn't
+module _ (p : NamedPiece) (under : Bool) (slots at : ℕ) (h : Head) (cs : List Child) {b : Bool} (e : b ≡ holds (when_is p.when) under h cs) where
+  pub piece-not : b ≡ false → piece_tokens (piece_is p) under slots at h cs ≡ []
+  piece-not f = rw (← e, f)
 
-    pub piece-token : k ≡ 1 → {a n : ℕ} → a ≡ cell row (i + 3) → n ≡ cell row (i + 4) → token (word_at a n) ∷ [] ≡ piece_tokens (piece_in (row_at row) i) under (cell row 0) at h cs
-    unfolding what_of what_tokens
-    piece-token z g m = sym (piece_is ∙ rw (z, ← g, ← m))
+  pub piece-says : b ≡ true → {w : NamedWhat} → p.what ≡ w → what_tokens (what_is w) slots at h cs ≡ piece_tokens (piece_is p) under slots at h cs
+  piece-says f q = rw (← e, f, q)
 
-    pub piece-child : k ≡ 2 → {a : ℕ} → a ≡ cell row (i + 3) → (nth a cs).tokens ≡ piece_tokens (piece_in (row_at row) i) under (cell row 0) at h cs
-    unfolding what_of what_tokens
-    piece-child z g = sym (piece_is ∙ rw (z, ← g))
-
-    pub piece-ops : k ≡ 3 → {n : ℕ} → n ≡ cell row 0 → each_of (each_by 3) (drop n cs) ≡ piece_tokens (piece_in (row_at row) i) under (cell row 0) at h cs
-    unfolding what_of what_tokens each_by
-    piece-ops z g = sym (piece_is ∙ rw (z, ← g))
-
-    pub piece-list : k ≡ 4 → {n : ℕ} → n ≡ cell row 0 → each_of (each_by 4) (drop n cs) ≡ piece_tokens (piece_in (row_at row) i) under (cell row 0) at h cs
-    unfolding what_of what_tokens each_by
-    piece-list z g = sym (piece_is ∙ rw (z, ← g))
-
-    pub piece-members : k ≡ 5 → {n : ℕ} → n ≡ cell row 0 → each_of (each_by 5) (drop n cs) ≡ piece_tokens (piece_in (row_at row) i) under (cell row 0) at h cs
-    unfolding what_of what_tokens each_by
-    piece-members z g = sym (piece_is ∙ rw (z, ← g))
-
-    pub piece-template : k ≡ 6 → template_of cs ≡ piece_tokens (piece_in (row_at row) i) under (cell row 0) at h cs
-    unfolding what_of what_tokens
-    piece-template z = sym (piece_is ∙ rw z)
-
-    pub piece-text : k ≡ 7 → {t : List ℕ} → t ≡ h.text → token t ∷ [] ≡ piece_tokens (piece_in (row_at row) i) under (cell row 0) at h cs
-    unfolding what_of what_tokens
-    piece-text z g = sym (piece_is ∙ rw (z, ← g))
-
-    pub piece-symbol : k ≡ 8 → token (drop 4 h.text) ∷ [] ≡ piece_tokens (piece_in (row_at row) i) under (cell row 0) at h cs
-    unfolding what_of what_tokens
-    piece-symbol z = sym (piece_is ∙ rw z)
-
-    pub piece_string : k ≡ 9 → {t : List ℕ} → t ≡ h.text → token (string_token t) ∷ [] ≡ piece_tokens (piece_in (row_at row) i) under (cell row 0) at h cs
-    unfolding what_of what_tokens
-    piece_string z g = sym (piece_is ∙ rw (z, ← g))
-
-    pub piece-number : k ≡ 10 → number_of at h.text cs ≡ piece_tokens (piece_in (row_at row) i) under (cell row 0) at h cs
-    unfolding what_of what_tokens
-    piece-number z = sym (piece_is ∙ rw z)
-
-    pub piece-integer : (k ≡ 1 → ⊥) → (k ≡ 2 → ⊥) → (k ≡ 3 → ⊥) → (k ≡ 4 → ⊥) → (k ≡ 5 → ⊥) → (k ≡ 6 → ⊥) → (k ≡ 7 → ⊥) → (k ≡ 8 → ⊥) → (k ≡ 9 → ⊥) → (k ≡ 10 → ⊥)
-        → {t : List ℕ} → t ≡ h.text → token (integer_token t) ∷ [] ≡ piece_tokens (piece_in (row_at row) i) under (cell row 0) at h cs
-    unfolding what_of what_tokens
-    piece-integer n1 n2 n3 n4 n5 n6 n7 n8 n9 n10 g =
-        sym (piece_is ∙ rw (ne_eqb k 1 n1, ne_eqb k 2 n2, ne_eqb k 3 n3, ne_eqb k 4 n4, ne_eqb k 5 n5, ne_eqb k 6 n6, ne_eqb k 7 n7, ne_eqb k 8 n8, ne_eqb k 9 n9, ne_eqb k 10 n10, ← g))
+-- what is told of each child behind the slots
+pub behind-is : (e : Each) (n at : ℕ) (h : Head) (cs : List Child) → each_of (each_by e) (drop n cs) ≡ what_tokens (each_is e) n at h cs
+unfolding each_by what_tokens
+behind-is Ops n at h cs = refl
+behind-is Elements n at h cs = refl
+behind-is Members n at h cs = refl
 
 -- ---- an expression of a template in its braces
 
@@ -423,10 +384,10 @@ module _ {levels : ℕ} {tree : List ℕ} {under : Bool} {total : List Token} {o
   pub turning_expression : 0 < e → AcceptedAt levels tree x
   turning_expression h = first_one levels tree l.more_expressions x l.expressions_left (let f = l.few_expressions in omega arith)
 
-  pub turning_turn : ((i : ℕ) → mir.Val.Fits w8 (get_or tree i 0)) → length o0 < 2 ^ 64 → 0 < n → {o1 o2 : List ℕ} {s1 s2 : State}
+  pub turning_turn : ((i : ℕ) → mir.Val.Fits w8 (get_or tree i 0)) → length o0 < 2 ^ 64 → {n' : ℕ} → n ≤ n' + 1 → {o1 o2 : List ℕ} {s1 s2 : State}
       → Writes o o1 s s1 (quasi_if q (text_at tree p)) → Writes o1 o2 s1 s2 (braces_if e (tokens (tree_at levels tree x) under x))
       → {p' q' x' e' : ℕ} → p' ≡ passed levels tree q p → q' ≡ q - 1 → x' ≡ passed levels tree e x → e' ≡ e - 1
-      → Turning levels tree under total o0 o2 s0 s2 q' p' e' x' (n - 1)
+      → Turning levels tree under total o0 o2 s0 s2 q' p' e' x' n'
   turning_turn known b h {o1} {o2} {s1} {s2} v w ep eq ex ee =
       let one = passed-left levels tree q l.more_quasis p l.quasis_left l.few_quasis in
       let two = passed-left levels tree e l.more_expressions x l.expressions_left l.few_expressions in

@@ -1,9 +1,9 @@
 -- The call's answers in the terms of the definition.
-use Rattle.std.specs.Prelude.{ℕ, ◌≡◌, false, List, []}
+use Rattle.std.specs.Prelude.{ℕ, ◌≡◌, false, List, [], None}
 use Rattle.definition.specs.Check.{fine, check_tree}
 use Rattle.definition.specs.Transform.{done, refused}
 use Rattle.definition.specs.Transform as Transform
-use Rattle.definition.specs.Text.{nowhere, Written}
+use Rattle.definition.specs.Text.{Written}
 use Rattle.grammar.specs.Answers.{number}
 use Rattle.text_tokens.specs.declared.State.{State}
 use Rattle.declaration_text.specs.declared.Answer.{Answer}
@@ -16,7 +16,7 @@ pub record Accepted (tree : List ℕ) : Type 0 where
 
 -- where a run begins
 abbrev pub start : State
-start = record { written = 0; begun = false; some = false; last = 0; place = nowhere }
+start = record { written = 0; last = None; some = false; place = None }
 
 -- the answer that each case of the enum stands for: "`answer` is (bytes, 0)"
 abbrev pub answered : Answer → Transform.Answer

@@ -1,5 +1,5 @@
 -- How the code's tables are read: conditions, pieces and tokens by their numbers.
-use Rattle.std.specs.Prelude.{ℕ, zero, suc, ◌+◌, List, [], ◌∷◌, cond, ◌≡◌, get_or, take, drop, eqb}
+use Rattle.std.specs.Prelude.{ℕ, zero, suc, ◌+◌, List, [], ◌∷◌, cond, ◌≡◌, ◌≢◌, get_or, take, drop, eqb, Option, Some, None}
 use Rattle.definition.specs.Text.{
   Token,
   When,
@@ -31,6 +31,13 @@ use Rattle.definition.specs.Text.{
   element_of,
   member_of,
 }
+use Rattle.declaration_text.specs.declared.pieces.When.{When as NamedWhen}
+use Rattle.declaration_text.specs.declared.pieces.When.TheVariants.{Always, Flagged, Unflagged, Getter, There, Dotted, Quoted, Unquoted, Chained, Linked}
+use Rattle.declaration_text.specs.declared.pieces.Each.{Each}
+use Rattle.declaration_text.specs.declared.pieces.Each.TheVariants.{Ops, Elements, Members}
+use Rattle.declaration_text.specs.declared.pieces.What.{What as NamedWhat}
+use Rattle.declaration_text.specs.declared.pieces.What.TheVariants.{Word, Child as TheChild, Behind, Template, Text, Symbol, String, Number, Integer}
+use Rattle.declaration_text.specs.declared.pieces.Piece.{Piece as NamedPiece}
 use Rattle.declaration_text.specs.Printed.{words_table, rows_table}
 
 -- the condition with the number k, of a flag or a child b
@@ -73,11 +80,49 @@ row_at row = get_or rows_table row []
 abbrev pub cell : ℕ → ℕ → ℕ
 cell row i = get_or (row_at row) i 0
 
--- both tables, as they are lent
-pub record Tables (rows : List (List ℕ)) (words : List ℕ) : Type 0 where
-  pub rows_are : rows ≡ rows_table
-  pub words_are : words ≡ words_table
+-- the code's conditions, and what it writes, by name
+abbrev pub when_is : NamedWhen → When
+when_is Always = always
+when_is (Flagged b) = flagged b
+when_is (Unflagged b) = unflagged b
+when_is Getter = getter
+when_is (There i) = there i
+when_is Dotted = dotted
+when_is Quoted = quoted
+when_is Unquoted = unquoted
+when_is Chained = chained
+when_is Linked = linked
 
--- what is written for each child, by the number of `the_ops`, `the_list` or `the_members`
-unfoldable pub each_by : ℕ → Child → List Child → List Token
-each_by k c cs = cond (eqb k 3) (op_of c cs) (cond (eqb k 4) (element_of c cs) (member_of c cs))
+abbrev pub each_is : Each → What
+each_is Ops = the_ops
+each_is Elements = the_list
+each_is Members = the_members
+
+abbrev pub what_is : NamedWhat → What
+what_is (Word a n) = a_token (word_at a n)
+what_is (TheChild i) = a_child i
+what_is (Behind e) = each_is e
+what_is Template = the_template
+what_is Text = the_text
+what_is Symbol = the_symbol
+what_is String = the_string
+what_is Number = the_number
+what_is Integer = the_integer
+
+abbrev pub piece_is : NamedPiece → Piece
+piece_is p = record { when = when_is p.when; what = what_is p.what }
+
+-- what was read for the number k, and for the piece at the place i of a row; none for the 0 that ends them
+abbrev pub SaysWhat : ℕ → ℕ → ℕ → Option NamedWhat → Type 0
+SaysWhat k a n (Some w) = (k ≢ 0) × (what_is w ≡ what_of k a n)
+SaysWhat k a n None = k ≡ 0
+
+abbrev pub SaysPiece : List ℕ → ℕ → Option NamedPiece → Type 0
+SaysPiece row i (Some p) = (get_or row (i + 2) 0 ≢ 0) × (piece_is p ≡ piece_in row i)
+SaysPiece row i None = get_or row (i + 2) 0 ≡ 0
+
+-- what is written for each child behind the slots
+unfoldable pub each_by : Each → Child → List Child → List Token
+each_by Ops c cs = op_of c cs
+each_by Elements c cs = element_of c cs
+each_by Members c cs = member_of c cs

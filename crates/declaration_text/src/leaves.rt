@@ -1,35 +1,16 @@
 // Parts of records that are written or counted without going into children.
-ghost use Rattle.std.specs.Prelude.{◌≡◌, Bool, ◌&&◌, ◌||◌, [], ◌∷◌, ◌-◌, ◌<◌, ◌≤◌, eqb, drop};
+ghost use Rattle.std.specs.Prelude.{◌≡◌, Bool, ◌&&◌, ◌||◌, [], ◌∷◌, ◌-◌, ◌<◌, eqb, drop};
 ghost use Rattle.definition.specs.Tree.{end_at, text_at, tree_at};
 ghost use Rattle.definition.specs.Children.{AcceptedAt, AllAccepted};
 ghost use Rattle.definition.specs.Record.{is_no};
 ghost use Rattle.definition.specs.Text.{token, more};
-ghost use Rattle.text_tokens.specs.Writes.{Writes};
-ghost use Rattle.declaration_text.specs.Printed.{words_table};
-ghost use Rattle.declaration_text.specs.Table.{word_at};
+ghost use Rattle.text_tokens.specs.Writes.{Writes, last_of};
 ghost use Rattle.declaration_text.specs.Steps.{children_at};
 ghost use Rattle.declaration_text.specs.Templates.{Quasis, Expressions, quasi_if, passed};
 
-use crate::table::WORDS_SIZE;
 use records::marks::{NO, OP, QU};
 use records::{mark_at, record_end, text_at};
-use text_tokens::{State, put_own_escaped, put_token};
-
-// A token of the table.
-pub fn put_word(words: &[u8], a: u8, n: u8, out: &mut [u8], s: State) -> State
-    requires { words.now ≡ words_table }
-    ensures { Writes out.old out.new s result (token (word_at a n) ∷ []) }
-{
-    let start = a as usize;
-    let end = start + n as usize;
-    if WORDS_SIZE < start {
-        return s;
-    }
-    if WORDS_SIZE < end {
-        return put_token(&words[start..], out, s);
-    }
-    put_token(&words[start..end], out, s)
-}
+use text_tokens::State;
 
 // The symbol of an Id, as it stands.
 pub fn put_symbol(tree: &[u8], at: usize, levels: usize, out: &mut [u8], s: State) -> State
@@ -37,10 +18,7 @@ pub fn put_symbol(tree: &[u8], at: usize, levels: usize, out: &mut [u8], s: Stat
     ensures { Writes out.old out.new s result (token (drop 4 (text_at tree.now at)) ∷ []) }
 {
     let text = text_at(tree, at);
-    if text.len() < 4 {
-        return s;
-    }
-    put_token(&text[4..], out, s)
+    s.put_token(&text[text.len().min(4)..], out)
 }
 
 // Whether a `,` follows the first of n elements: another element, or none behind a hole.
@@ -61,12 +39,9 @@ pub fn comma_follows(tree: &[u8], at: usize, n: usize, levels: usize) -> bool
 
 // Whether a token was written, and the last one ends in `;`.
 pub fn ends_in_semicolon(s: State) -> bool
-    ensures { result ≡ (s.some && eqb s.last 59) }
+    ensures { result ≡ (s.some && eqb (last_of s) 59) }
 {
-    if s.some {
-        return s.last == b';';
-    }
-    false
+    s.some && s.last == Some(b';')
 }
 
 // How many of n children are `Qu`s before the first that isn't.
@@ -111,7 +86,7 @@ pub fn put_quasi(tree: &[u8], at: usize, n: usize, levels: usize, out: &mut [u8]
     if n == 0 {
         return s;
     }
-    put_own_escaped(text_at(tree, at), out, s)
+    s.put_own_escaped(text_at(tree, at), out)
 }
 
 // The offset behind the first of n records, if there is one.
@@ -123,18 +98,4 @@ pub fn pass(tree: &[u8], at: usize, n: usize, levels: usize) -> usize
         return at;
     }
     record_end(tree, at, levels)
-}
-
-// One less, if there is one.
-pub fn fewer(n: usize) -> usize
-    ensures { result ≡ n - 1 }
-{
-    if n == 0 { 0 } else { n - 1 }
-}
-
-// The larger of two numbers.
-pub fn larger(a: usize, b: usize) -> usize
-    ensures { (a ≤ result) × (b ≤ result) }
-{
-    if a < b { b } else { a }
 }

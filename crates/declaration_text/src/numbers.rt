@@ -9,7 +9,7 @@ ghost use Rattle.definition.specs.TextNumbers.{is_some, numbers_fit};
 
 use records::marks::NU;
 use records::{body_at, count_at, mark_at, text_at};
-use text_tokens::numerals::{Whole, bits_of, whole_of};
+use text_tokens::numerals::{bits_of, whole_of};
 
 // Whether the record by itself is no number outside the forms: a `Nu` with a child has a raw spelling.
 fn number_fits(tree: &[u8], at: usize) -> bool
@@ -19,16 +19,10 @@ fn number_fits(tree: &[u8], at: usize) -> bool
         → count_at tree.now at ≡ 0
         → is_some (whole_of (bits_of (text_at tree.now at))) ≡ true }
 {
-    if mark_at(tree, at) != NU {
+    if mark_at(tree, at) != NU || count_at(tree, at) != 0 {
         return true;
     }
-    if count_at(tree, at) != 0 {
-        return true;
-    }
-    match whole_of(bits_of(text_at(tree, at))) {
-        Whole::Number(n) => true,
-        Whole::Outside => false,
-    }
+    whole_of(bits_of(text_at(tree, at))).is_some()
 }
 
 // Whether no number of an accepted tree is outside the forms: a walk over all records in preorder, whatever the text leaves out.

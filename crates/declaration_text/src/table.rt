@@ -1,21 +1,21 @@
 // The rows of `Text.antt` as tables of bytes, and the look-ups in them. What is printed here is proved equal to the rows, by one computation over the
 // whole of it. A mark stands by its number, its row in the grammar.
-ghost use Rattle.std.specs.Prelude.{◌≡◌, ◌<◌};
+ghost use Rattle.std.specs.Prelude.{◌≡◌};
 ghost use Rattle.declaration_text.specs.Printed.{rows_table, words_table};
-ghost use Rattle.declaration_text.specs.Table.{cell};
 
+use crate::pieces::{Piece, What, When};
 use records::marks::KNOWN;
 
 // How many pieces a row has at most, and the bytes of one: when, its number, what, two numbers.
 pub const PIECES: usize = 8;
 
-pub const PIECE_SIZE: usize = 5;
+const PIECE_SIZE: usize = 5;
 
 const ROW_SIZE: usize = 1 + PIECES * PIECE_SIZE;
 
 // printed by tools/text-tables
 
-pub const WORDS_SIZE: usize = 145;
+const WORDS_SIZE: usize = 145;
 
 // The tokens, one behind the other.
 const WORDS: [u8; WORDS_SIZE] =
@@ -112,30 +112,64 @@ const ROWS: [[u8; ROW_SIZE]; KNOWN] = [
 
 // end of what is printed
 
-// A table that a function names is made anew at each call of it, so the call makes the tables once and lends them.
-pub type Rows = [[u8; ROW_SIZE]; KNOWN];
-
-pub type Words = [u8; WORDS_SIZE];
-
-pub fn rows() -> Rows
-    ensures { result ≡ rows_table }
-{
-    ROWS
+// Both tables. One that a function names is made anew at each call of it, so the call makes them once and lends them.
+#[derive(Drop)]
+pub struct Tables {
+    rows: [[u8; ROW_SIZE]; KNOWN],
+    words: [u8; WORDS_SIZE],
+    ghost rows_are: { rows ≡ rows_table },
+    ghost words_are: { words ≡ words_table },
 }
 
-pub fn words() -> Words
-    ensures { result ≡ words_table }
-{
-    WORDS
-}
+impl Tables {
+    ghost use Rattle.std.specs.Prelude.{◌+◌, ◌*◌, ◌<◌};
+    ghost use Rattle.declaration_text.specs.Table.{word_at, cell, row_at, SaysPiece};
 
-// The byte at the place i of a row.
-pub fn cell(rows: &Rows, row: usize, i: usize) -> u8
-    requires { (rows.now ≡ rows_table) × (i < 41) }
-    ensures { result ≡ cell row i }
-{
-    if KNOWN <= row {
-        return 0;
+    pub fn new() -> Tables {
+        Tables {
+            rows: ROWS,
+            words: WORDS,
+        }
     }
-    rows[row][i]
+
+    // The byte at the place i of a row.
+    fn cell(&self, row: usize, i: usize) -> u8
+        requires { i < 41 }
+        ensures { result ≡ cell row i }
+    {
+        if KNOWN <= row {
+            return 0;
+        }
+        self.rows[row][i]
+    }
+
+    // The number of a row's slots.
+    pub fn slots(&self, row: usize) -> usize
+        ensures { result ≡ cell row 0 }
+    {
+        self.cell(row, 0) as usize
+    }
+
+    // The piece with the number i of a row, if the row has so many.
+    pub fn piece(&self, row: usize, i: usize) -> Option<Piece>
+        requires { i < 8 }
+        ensures { SaysPiece (row_at row) (i * 5 + 1) result }
+    {
+        let at = i * PIECE_SIZE + 1;
+        let what = What::of(
+            self.cell(row, at + 2),
+            self.cell(row, at + 3),
+            self.cell(row, at + 4),
+        )?;
+        let when = When::of(self.cell(row, at), self.cell(row, at + 1));
+        Some(Piece { when, what })
+    }
+
+    // A token, by its place in the words and its length.
+    pub fn word(&self, start: usize, size: usize) -> &[u8]
+        ensures { result.now ≡ word_at start size }
+    {
+        let end = start.saturating_add(size).min(WORDS_SIZE);
+        &self.words[start.min(end)..end]
+    }
 }

@@ -6,10 +6,11 @@ use Prim.Native.Nat.{ℕ, ◌<◌, ◌^◌}
 use native.Mathlib.Omega.{arith}
 use lib.ListN.{length}
 use lib.Seq.{length-sets}
-use Rattle.definition.specs.Text.{Token, token, own, outside, is_written, any_written, last_of_token, last_written, first_of_token, first_place, token_bytes, tokens_bytes}
+use Rattle.definition.specs.Text.{Token, token, own, outside, is_written, any_written, last_of_token, last_written, token_bytes, tokens_bytes}
 use Rattle.records.proofs.Puts.{put-put, put_as}
 use Rattle.text_tokens.specs.declared.State.{State}
-use Rattle.text_tokens.specs.Writes.{Writes}
+use Rattle.text_tokens.specs.Writes.{Writes, begun_of, last_of, seen_of_token, first_seen}
+use Rattle.std.specs.Prelude.{Option}
 
 -- ---- truth values
 
@@ -37,10 +38,10 @@ unfolding last_written
 last_written_append x [] us = refl
 last_written_append x (t ∷ ts) us = last_written_append (last_of_token x t) ts us
 
-pub first_place_append : (x : ℕ) (ts us : List Token) → first_place x (ts ++ us) ≡ first_place (first_place x ts) us
-unfolding first_place
-first_place_append x [] us = refl
-first_place_append x (t ∷ ts) us = first_place_append (first_of_token x t) ts us
+pub first_seen_append : (x : Option ℕ) (ts us : List Token) → first_seen x (ts ++ us) ≡ first_seen (first_seen x ts) us
+unfolding first_seen
+first_seen_append x [] us = refl
+first_seen_append x (t ∷ ts) us = first_seen_append (seen_of_token x t) ts us
 
 pub tokens_bytes_append : (b : Bool) (ts us : List Token) → tokens_bytes b (ts ++ us) ≡ tokens_bytes b ts ++ tokens_bytes (b || any_written ts) us
 unfolding tokens_bytes any_written
@@ -65,11 +66,11 @@ last-any x y (outside at ∷ ts) h = last-any x y ts h
 
 -- no tokens. A position is below 2 to the 64
 pub writes-none : (o : List ℕ) (s : State) → s.written < 2 ^ 64 → Writes o o s s []
-unfolding tokens_bytes any_written last_written first_place
+unfolding tokens_bytes any_written last_written first_seen
 writes-none o s h =
     record {
       put = record { bytes = refl; position = omega arith };
-      begun = sym (or_false s.begun);
+      begun = sym (or_false (begun_of s));
       some = sym (or_false s.some);
       last = refl;
       place = refl;
@@ -82,11 +83,11 @@ writes_then {s = s} {s' = s'} {ts = ts} {us = us} h v w =
     record {
       put =
           put_as (put-put h v.put w.put)
-          (ap (λ (b : Bool). tokens_bytes s.begun ts ++ tokens_bytes b us) v.begun ∙ sym (tokens_bytes_append s.begun ts us));
-      begun = either s.begun v.begun w.begun;
+          (ap (λ (b : Bool). tokens_bytes (begun_of s) ts ++ tokens_bytes b us) v.begun ∙ sym (tokens_bytes_append (begun_of s) ts us));
+      begun = either (begun_of s) v.begun w.begun;
       some = either s.some v.some w.some;
-      last = w.last ∙ ap (λ (x : ℕ). last_written x us) v.last ∙ sym (last_written_append s.last ts us);
-      place = w.place ∙ ap (λ (x : ℕ). first_place x us) v.place ∙ sym (first_place_append s.place ts us);
+      last = w.last ∙ ap (λ (x : ℕ). last_written x us) v.last ∙ sym (last_written_append (last_of s) ts us);
+      place = w.place ∙ ap (λ (x : Option ℕ). first_seen x us) v.place ∙ sym (first_seen_append s.place ts us);
     }
   where
     either : (b : Bool) {b' b'' : Bool} → b' ≡ (b || any_written ts) → b'' ≡ (b' || any_written us) → b'' ≡ (b || any_written (ts ++ us))
@@ -100,4 +101,4 @@ writes_as w e = rw (← e) w
 
 -- the output keeps its length
 pub writes-same : {o o' : List ℕ} {s s' : State} {ts : List Token} → Writes o o' s s' ts → length o' ≡ length o
-writes-same {o} {s = s} {ts = ts} w = ap length w.put.bytes ∙ length-sets o s.written (tokens_bytes s.begun ts)
+writes-same {o} {s = s} {ts = ts} w = ap length w.put.bytes ∙ length-sets o s.written (tokens_bytes (begun_of s) ts)

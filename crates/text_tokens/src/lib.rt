@@ -1,101 +1,152 @@
 // Request §3: tokens on their way into the text. "One space parts two nonempty tokens, unless both are one template's own."
 #![tactic(auto)]
 
-ghost use Rattle.std.specs.Prelude.{◌≡◌, [], ◌∷◌, ◌<◌, min};
-ghost use Rattle.definition.specs.Text.{token, own, hex_digit, is_escaped, escaped_byte, escaped, string_token, minus, integer_token, decimal_token};
+ghost use Rattle.std.specs.Prelude.{◌≡◌, [], ◌∷◌, ◌<◌, Some};
+ghost use Rattle.definition.specs.Text.{token, own, outside, hex_digit, is_escaped, last_byte, escaped_byte, escaped, string_token, minus, integer_token, decimal_token};
 ghost use Rattle.definition.specs.Numerals.{bits_of, whole_of};
 ghost use Rattle.records.specs.Wrote.{Put};
-ghost use Rattle.text_tokens.specs.Writes.{Writes, PutLast, space_if, behind_of, cleared_of};
+ghost use Rattle.text_tokens.specs.Writes.{Writes, begun_of, seen_of_token, space_if, behind_of, cleared_of};
 
-use crate::numerals::{Whole, bits_of, is_negative, whole_of};
+use crate::numerals::{bits_of, is_negative, whole_of};
 use names::unique::put_decimal;
 use records::{advance, put, put_text};
 
 pub mod numerals;
 
-// Where the text stands: the position behind it; whether the line has a token; whether a token was written since this was last cleared; the last
-// byte of the last token; the first place of a written number outside the forms.
-#[derive(Clone, Copy)]
+// Where the text stands.
+#[derive(Clone, Copy, Default)]
 pub struct State {
+    // The position behind it.
     pub written: usize,
-    pub begun: bool,
+    // The last byte of the last token, if the line has a token.
+    pub last: Option<u8>,
+    // Whether a token was written since this was last cleared.
     pub some: bool,
-    pub last: u8,
-    pub place: usize,
+    // The first place of a written number outside the forms, if there is one.
+    pub place: Option<usize>,
 }
 
-// A position behind bytes of a token, and the last of them.
-#[derive(Clone, Copy)]
-pub struct Ended {
-    pub written: usize,
-    pub last: u8,
-}
+// `out` stays a parameter beside the state. In a struct that holds the `&mut`, each method, and each function above that is passed the struct, says in a
+// clause of its own that the reference is the same, and all that is said of the output goes through it: that is no plainer.
+impl State {
+    // The state behind a token that isn't empty.
+    fn behind(self, written: usize, last: u8) -> State
+        ensures { result ≡ behind_of self written last }
+    {
+        State {
+            written,
+            last: Some(last),
+            some: true,
+            ..self
+        }
+    }
 
-// The state behind a token that isn't empty.
-fn behind(s: State, written: usize, last: u8) -> State
-    ensures { result ≡ behind_of s written last }
-{
-    State {
-        written,
-        begun: true,
-        some: true,
-        last,
-        place: s.place,
+    // The state from which it is seen whether a token is written.
+    pub fn cleared(self) -> State
+        ensures { result ≡ cleared_of self }
+    {
+        State {
+            some: false,
+            ..self
+        }
+    }
+
+    // The space before a token, where the line has one already.
+    fn put_space(self, out: &mut [u8]) -> usize
+        ensures { Put out.old out.new self.written (space_if (begun_of self)) result }
+    {
+        if self.last.is_some() {
+            put(out, self.written, b' ');
+            return advance(self.written, 1);
+        }
+        self.written
+    }
+
+    // A token as it stands; an empty one is left out.
+    pub fn put_token(self, text: &[u8], out: &mut [u8]) -> State
+        ensures { Writes out.old out.new self result (token text.now ∷ []) }
+    {
+        let Some(last) = text.last() else {
+            return self;
+        };
+        let p = self.put_space(out);
+        let end = put_text(out, p, text);
+        self.behind(end, *last)
+    }
+
+    // An own token of a template behind another.
+    pub fn put_own(self, text: &[u8], out: &mut [u8]) -> State
+        ensures { Writes out.old out.new self result (own text.now ∷ []) }
+    {
+        let Some(last) = text.last() else {
+            return self;
+        };
+        let end = put_text(out, self.written, text);
+        self.behind(end, *last)
+    }
+
+    // A text of a template, as an own token.
+    pub fn put_own_escaped(self, text: &[u8], out: &mut [u8]) -> State
+        ensures { Writes out.old out.new self result (own (escaped text.now) ∷ []) }
+    {
+        let Some(last) = text.last() else {
+            return self;
+        };
+        let end = put_escaped(text, out, self.written);
+        self.behind(end, last_escaped(*last))
+    }
+
+    // A string.
+    pub fn put_string(self, text: &[u8], out: &mut [u8]) -> State
+        ensures { Writes out.old out.new self result (token (string_token text.now) ∷ []) }
+    {
+        let p = self.put_space(out);
+        put(out, p, b'"');
+        let end = put_escaped(text, out, advance(p, 1));
+        put(out, end, b'"');
+        self.behind(advance(end, 1), b'"')
+    }
+
+    // A big integer: "`-` if negative, the digits, `n`". Its text is a sign byte and the digits.
+    pub fn put_integer(self, text: &[u8], out: &mut [u8]) -> State
+        ensures { Writes out.old out.new self result (token (integer_token text.now) ∷ []) }
+    {
+        let p = self.put_space(out);
+        let mut end = p;
+        if let Some((sign, digits)) = text.split_first() {
+            let q = put_minus(*sign == 1, out, p);
+            end = put_text(out, q, digits);
+        }
+        put(out, end, b'n');
+        self.behind(advance(end, 1), b'n')
+    }
+
+    // A number without a spelling, at an offset: its decimal, or its place where it is outside the forms.
+    pub fn put_number(self, text: &[u8], at: usize, out: &mut [u8]) -> State
+        ensures { Writes out.old out.new self result
+            (decimal_token at (bits_of text.now) (whole_of (bits_of text.now)) ∷ []) }
+    {
+        let bits = bits_of(text);
+        match whole_of(bits) {
+            Some(n) => {
+                let p = self.put_space(out);
+                let q = put_minus(is_negative(bits), out, p);
+                let e = put_decimal(n, out, q);
+                self.behind(e, b'0' + (n % 10) as u8)
+            }
+            None => State {
+                place: Some(first_place(self.place, at)),
+                ..self
+            },
+        }
     }
 }
 
-// The smaller of two places.
-fn least(a: usize, b: usize) -> usize
-    ensures { result ≡ min a b }
+// The first place, where a number outside the forms stands at `at`.
+fn first_place(seen: Option<usize>, at: usize) -> usize
+    ensures { Some result ≡ seen_of_token seen (outside at) }
 {
-    if a < b { a } else { b }
-}
-
-// The state from which it is seen whether a token is written.
-pub fn cleared(s: State) -> State
-    ensures { result ≡ cleared_of s }
-{
-    State {
-        written: s.written,
-        begun: s.begun,
-        some: false,
-        last: s.last,
-        place: s.place,
-    }
-}
-
-// The space before a token, where the line has one already.
-fn put_space(out: &mut [u8], s: State) -> usize
-    ensures { Put out.old out.new s.written (space_if s.begun) result }
-{
-    if s.begun {
-        put(out, s.written, b' ');
-        return advance(s.written, 1);
-    }
-    s.written
-}
-
-// A token as it stands; an empty one is left out.
-pub fn put_token(text: &[u8], out: &mut [u8], s: State) -> State
-    ensures { Writes out.old out.new s result (token text.now ∷ []) }
-{
-    if text.len() == 0 {
-        return s;
-    }
-    let p = put_space(out, s);
-    let end = put_text(out, p, text);
-    behind(s, end, text[text.len() - 1])
-}
-
-// An own token of a template behind another.
-pub fn put_own(text: &[u8], out: &mut [u8], s: State) -> State
-    ensures { Writes out.old out.new s result (own text.now ∷ []) }
-{
-    if text.len() == 0 {
-        return s;
-    }
-    let end = put_text(out, s.written, text);
-    behind(s, end, text[text.len() - 1])
+    seen.map_or(at, |first| first.min(at))
 }
 
 // A small hex digit.
@@ -110,70 +161,38 @@ fn hex_digit(d: u8) -> u8
 fn is_escaped(b: u8) -> bool
     ensures { result ≡ is_escaped b }
 {
-    if b < 32 {
-        return true;
-    }
-    match b {
-        b'"' | b'$' | b'\\' | b'`' => true,
-        _ => false,
-    }
+    matches!(b, 0..=31 | b'"' | b'$' | b'\\' | b'`')
 }
 
 // One byte of a string, "\u and four small hex digits" where it is escaped.
-fn put_escaped_byte(b: u8, out: &mut [u8], p: usize) -> Ended
-    ensures { PutLast out.old out.new p 0 (escaped_byte b) result.written result.last }
+fn put_escaped_byte(b: u8, out: &mut [u8], p: usize) -> usize
+    ensures { Put out.old out.new p (escaped_byte b) result }
 {
     if is_escaped(b) {
-        let last = hex_digit(b % 16);
-        let q = put_text(out, p, b"\\u00");
-        put(out, q, hex_digit(b / 16));
-        let q1 = advance(q, 1);
-        put(out, q1, last);
-        return Ended {
-            written: advance(q1, 1),
-            last,
-        };
+        let high = hex_digit(b / 16);
+        let low = hex_digit(b % 16);
+        return put_text(out, p, &[b'\\', b'u', b'0', b'0', high, low]);
     }
     put(out, p, b);
-    Ended {
-        written: advance(p, 1),
-        last: b,
-    }
+    advance(p, 1)
 }
 
-// The bytes of a string; `last` is the byte before them.
-fn put_escaped(text: &[u8], out: &mut [u8], p: usize, last: u8) -> Ended
-    ensures { PutLast out.old out.new p last (escaped text.now) result.written result.last }
+// The last of the bytes that are written for one of a string.
+fn last_escaped(b: u8) -> u8
+    ensures { result ≡ last_byte 0 (escaped_byte b) }
 {
-    let mut ended = Ended { written: p, last };
-    let mut i = 0;
-    while i < text.len() {
-        ended = put_escaped_byte(text[i], out, ended.written);
-        i += 1;
-    }
-    ended
+    if is_escaped(b) { hex_digit(b % 16) } else { b }
 }
 
-// A text of a template, as an own token.
-pub fn put_own_escaped(text: &[u8], out: &mut [u8], s: State) -> State
-    ensures { Writes out.old out.new s result (own (escaped text.now) ∷ []) }
+// The bytes of a string.
+fn put_escaped(text: &[u8], out: &mut [u8], p: usize) -> usize
+    ensures { Put out.old out.new p (escaped text.now) result }
 {
-    if text.len() == 0 {
-        return s;
+    let mut end = p;
+    for b in text {
+        end = put_escaped_byte(*b, out, end);
     }
-    let ended = put_escaped(text, out, s.written, s.last);
-    behind(s, ended.written, ended.last)
-}
-
-// A string.
-pub fn put_string(text: &[u8], out: &mut [u8], s: State) -> State
-    ensures { Writes out.old out.new s result (token (string_token text.now) ∷ []) }
-{
-    let p = put_space(out, s);
-    put(out, p, b'"');
-    let ended = put_escaped(text, out, advance(p, 1), b'"');
-    put(out, ended.written, b'"');
-    behind(s, advance(ended.written, 1), b'"')
+    end
 }
 
 // The minus of a negative number.
@@ -185,43 +204,4 @@ fn put_minus(negative: bool, out: &mut [u8], p: usize) -> usize
         return advance(p, 1);
     }
     p
-}
-
-// A big integer: "`-` if negative, the digits, `n`". Its text is a sign byte and the digits.
-pub fn put_integer(text: &[u8], out: &mut [u8], s: State) -> State
-    ensures { Writes out.old out.new s result (token (integer_token text.now) ∷ []) }
-{
-    let p = put_space(out, s);
-    if text.len() == 0 {
-        put(out, p, b'n');
-        return behind(s, advance(p, 1), b'n');
-    }
-    let q = put_minus(text[0] == 1, out, p);
-    let e = put_text(out, q, &text[1..]);
-    put(out, e, b'n');
-    behind(s, advance(e, 1), b'n')
-}
-
-// A number without a spelling, at an offset: its decimal, or its place where it is outside the forms.
-pub fn put_number(text: &[u8], at: usize, out: &mut [u8], s: State) -> State
-    ensures { Writes out.old out.new s result
-        (decimal_token at (bits_of text.now) (whole_of (bits_of text.now)) ∷ []) }
-{
-    let bits = bits_of(text);
-    let whole = whole_of(bits);
-    match whole {
-        Whole::Number(n) => {
-            let p = put_space(out, s);
-            let q = put_minus(is_negative(bits), out, p);
-            let e = put_decimal(n, out, q);
-            behind(s, e, b'0' + (n % 10) as u8)
-        }
-        Whole::Outside => State {
-            written: s.written,
-            begun: s.begun,
-            some: s.some,
-            last: s.last,
-            place: least(s.place, at),
-        },
-    }
 }

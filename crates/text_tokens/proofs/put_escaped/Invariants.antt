@@ -1,12 +1,8 @@
--- `text_tokens::put_escaped` meets its contract. The loop's invariant: the bytes passed were written, escaped. The measure is how many are left.
-use Prim.Native.Nat.{◌-◌, ◌≤◌}
-use lib.ListN.{length, take}
+-- `text_tokens::put_escaped` meets its contract. The loop's invariant: the bytes passed were written, escaped.
+use lib.ListN.{take}
 use Rattle.definition.specs.Text.{escaped}
-use Rattle.text_tokens.specs.Writes.{PutLast}
+use Rattle.records.specs.Wrote.{Put}
 use Rattle.text_tokens.proofs.put_escaped.Given as goal
 
-abbrev pub invariant-loop-i : goal.invariant-loop-i
-invariant-loop-i l = (l.i ≤ length l.text) × PutLast l.initial.out l.out l.p l.last (escaped (take l.i l.text)) l.ended.written l.ended.last
-
-abbrev pub decreases-loop-i : goal.decreases-loop-i
-decreases-loop-i l = length l.text - l.i
+abbrev pub invariant-loop-b : goal.invariant-loop-b
+invariant-loop-b l = Put l.initial.out l.out l.p (escaped (take l.b-index l.text)) l.end

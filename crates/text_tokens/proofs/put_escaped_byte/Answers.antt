@@ -1,11 +1,13 @@
 -- `text_tokens::put_escaped_byte` meets its contract: `\u00` and two hex digits, or the byte.
 use mathlib.Core.Path.{sym, ◌∙◌}
-use native.Mathlib.Omega.{arith}
-use Rattle.text_tokens.proofs.Leaves.{byte_escaped, byte_plain}
+use Rattle.definition.specs.Text.{escaped_byte}
+use Rattle.records.proofs.Puts.{put_byte}
 use Rattle.text_tokens.proofs.put_escaped_byte.Goals as goal
 
 pub returns-then-is_escaped : goal.returns-then-is_escaped
-returns-then-is_escaped c = byte_escaped _ (omega (arith, c.well_formed)) (sym c.is_escaped.ensures ∙ c.if-is_escaped.true) c.put_text-q.ensures c.hex_digit.ensures c.put.ensures c.advance-q1.ensures c.hex_digit-last.ensures c.put-then-is_escaped.ensures c.advance.ensures
+unfolding escaped_byte
+returns-then-is_escaped c = rw (sym c.is_escaped.ensures ∙ c.if-is_escaped.true, ← c.hex_digit-high.ensures, ← c.hex_digit-low.ensures) c.put_text.ensures
 
 pub returns : goal.returns
-returns c = byte_plain _ _ (sym c.is_escaped.ensures ∙ c.if-is_escaped.false) c.put-2.ensures c.advance-2.ensures
+unfolding escaped_byte
+returns c = rw (sym c.is_escaped.ensures ∙ c.if-is_escaped.false) (put_byte c.args.p c.args.b c.put.ensures c.advance.ensures)

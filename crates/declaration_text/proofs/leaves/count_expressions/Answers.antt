@@ -15,7 +15,7 @@ pub overflow_sub-result : goal.overflow_sub-result
 overflow_sub-result c = omega (arith, c.loop-k.invariant.few)
 
 pub returns-then-mark_at-eq-OP : goal.returns-then-mark_at-eq-OP
-returns-then-mark_at-eq-OP c = counting_stop c.loop-k.invariant (expressions-stop _ _ c.shared_slice_known-1.given _ _ (counting_first c.loop-k.invariant c.loop-k-test.true) c.loop-k-test.true (sym c.mark_at.ensures.0 ∙ c.if-mark_at-eq-OP.true))
+returns-then-mark_at-eq-OP c = counting_stop c.loop-k.invariant (expressions-stop _ _ c.type_inv.tree _ _ (counting_first c.loop-k.invariant c.loop-k-test.true) c.loop-k-test.true (sym c.mark_at.ensures.0 ∙ c.if-mark_at-eq-OP.true))
 
 pub record_end-child-requires : goal.record_end-child-requires
 record_end-child-requires c = lies (counting_first c.loop-k.invariant c.loop-k-test.true)
@@ -27,7 +27,7 @@ pub loop-k-smaller : goal.loop-k-smaller
 loop-k-smaller c = omega arith
 
 pub loop-k-preserved : goal.loop-k-preserved
-loop-k-preserved c = counting_turn c.loop-k.invariant c.loop-k-test.true (expressions-more _ _ c.shared_slice_known-1.given _ _ (counting_first c.loop-k.invariant c.loop-k-test.true) c.loop-k-test.true (λ e. c.if-mark_at-eq-OP.false (c.mark_at.ensures.0 ∙ e))) c.record_end-child.ensures
+loop-k-preserved c = counting_turn c.loop-k.invariant c.loop-k-test.true (expressions-more _ _ c.type_inv.tree _ _ (counting_first c.loop-k.invariant c.loop-k-test.true) c.loop-k-test.true (λ e. c.if-mark_at-eq-OP.false (c.mark_at.ensures.0 ∙ e))) c.record_end-child.ensures
 
 pub returns : goal.returns
-returns c = counting_done c.loop-k.invariant c.loop-k-test.false (expressions-none _ _ c.shared_slice_known-1.given _ _ c.loop-k-test.false)
+returns c = counting_done c.loop-k.invariant c.loop-k-test.false (expressions-none _ _ c.type_inv.tree _ _ c.loop-k-test.false)

@@ -57,7 +57,7 @@ pub returns-else-count_at-eq0 : goal.returns-else-count_at-eq0
 returns-else-count_at-eq0 t c = first_found _ _ _ c.requires (sym c.mark_at.ensures.0 ∙ c.in-25669.is) (omega (arith, c.count_at.ensures.0, c.if-count_at-eq0.false)) _ c.body_at.ensures c.block_at.result c.block_at.ensures
 
 pub returns-else-count_at-lt2 : goal.returns-else-count_at-lt2
-returns-else-count_at-lt2 t c = second-found _ _ _ c.requires (spaced (sym c.mark_at.ensures.0) c.in-29518.is) c.shared_slice_known-1.given (omega (arith, c.count_at-in-29518.ensures.0, c.if-count_at-lt2.false)) _ _ c.body_at-name.ensures c.record_end-body.ensures c.block_at-in-29518.result c.block_at-in-29518.ensures
+returns-else-count_at-lt2 t c = second-found _ _ _ c.requires (spaced (sym c.mark_at.ensures.0) c.in-29518.is) c.type_inv.tree (omega (arith, c.count_at-in-29518.ensures.0, c.if-count_at-lt2.false)) _ _ c.body_at-name.ensures c.record_end-body.ensures c.block_at-in-29518.result c.block_at-in-29518.ensures
 
 pub returns-in_default : goal.returns-in_default
 returns-in_default t c = block_none _ _ _ c.requires (λ q. c.in_default.in_default-own.rest.0.0.1 (c.mark_at.ensures.0 ∙ q)) (λ q. c.in_default.in_default-own.rest.0.1 (c.mark_at.ensures.0 ∙ q)) (λ q. c.in_default.in_default-own.rest.1 (inr (c.mark_at.ensures.0 ∙ q))) (λ q. c.in_default.in_default-own.rest.1 (inl (c.mark_at.ensures.0 ∙ q)))

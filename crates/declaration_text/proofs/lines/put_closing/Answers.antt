@@ -1,4 +1,4 @@
--- `put_closing` meets its contract: the indent, one token, and a line feed.
+-- `put_closing` meets its contract: the indent, `}`, and a line feed.
 use native.Mathlib.Omega.{arith}
 use Rattle.declaration_text.proofs.LinesWritten.{line_put}
 use Rattle.declaration_text.proofs.lines.put_closing.Goals as goal

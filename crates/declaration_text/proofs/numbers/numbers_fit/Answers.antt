@@ -1,6 +1,5 @@
 -- `declaration_text::numbers::numbers_fit` meets its contract: each turn puts a record's children in its place among the records that are pending.
 use native.Mathlib.Omega.{arith}
-use borrow.Author.Tests.{not-false}
 use Rattle.definition.specs.Check.{deepest}
 use Rattle.definition.proofs.Tests.{never}
 use Rattle.records.proofs.Accepted.{lies}
