@@ -4,6 +4,10 @@ use mathlib.Core.List.{List}
 use Prim.Native.Nat.{ℕ, suc, ◌-◌, ◌<◌, ◌≤◌}
 use native.Mathlib.Omega.{arith}
 use lib.ListN.{length}
+use Rattle.std.specs.declared.result.Result.{Result}
+use Rattle.std.specs.declared.result.Result.TheVariants.{Ok, Err}
+use Rattle.std.specs.Result.{MatchResult, IsErrAnd}
+use Rattle.std.proofs.lemmas.Result.{err_from_is_err_and}
 use Rattle.definition.specs.Tree.{mark_at, body_at}
 use Rattle.definition.specs.Grammar.{Part, after}
 use Rattle.definition.specs.Check.{Opening.opened, Opening.stopped, open_at, Checked, Checked.fine, Checked.refused, onward, check_all, check_at}
@@ -24,6 +28,18 @@ body-inside s at ps b n qs e =
     let o = record_open s at ps b n qs (sym e) in
     let b≡ : body_at s at ≡ b = cc o.1 in
     omega (arith, o.0.fits)
+
+-- ---- what the tests of a record by itself found, with its place
+
+-- r is o with an error that is made of its error
+module _ {T E D : Type 0} (P : E → D → Type 0) where
+  pub same_ok : (o : Result T E) {r : Result T D} → MatchResult o (λ x. r ≡ Ok x) (λ e. IsErrAnd r (P e)) → {x : T} → r ≡ Ok x → o ≡ Ok x
+  same_ok (Ok y) m q = let z = sym m ∙ q in cc
+  same_ok (Err e) m q = absurd (let p = err_from_is_err_and _ m in let z = sym p.1 ∙ q in cc)
+
+  pub same_err : (o : Result T E) {r : Result T D} → MatchResult o (λ x. r ≡ Ok x) (λ e. IsErrAnd r (P e)) → {d : D} → r ≡ Err d → (e : E) × (o ≡ Err e) × P e d
+  same_err (Ok y) m q = absurd (let z = sym m ∙ q in cc)
+  same_err (Err e) m {d} q = let p = err_from_is_err_and _ m in let z : p.0 ≡ d = (let w = sym p.1 ∙ q in cc) in (e, refl, rw z at p.2)
 
 -- n records are left, the first of them at p, at the slots qs: r is what their check finds
 pub record Passed (levels : ℕ) (s : List ℕ) (r : Checked) (n p : ℕ) (qs : List Part) : Type 0 where

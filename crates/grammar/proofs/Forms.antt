@@ -1,47 +1,36 @@
 -- The forms of a text: the digits of an integer one by one, and the number of a form.
-use mathlib.Core.Path.{◌≡◌, refl, ap, ◌∙◌}
-use mathlib.Core.List.{List}
-use mathlib.Core.Bool.{Bool, true, false, cond}
-use Prim.Native.Nat.{ℕ, zero, suc, ◌+◌, ◌/◌, ◌%◌, ◌<◌, ◌≤◌}
-use native.Mathlib.Numerals.{add-one}
+use mathlib.Core.Path.{◌≡◌, refl, sym, ap, ◌∙◌}
+use mathlib.Core.List.{List, [], ◌∷◌}
+use mathlib.Core.Bool.{Bool, true, false, cond, ◌&&◌}
+use Prim.Native.Nat.{ℕ, zero, suc, ◌/◌, ◌%◌, ◌<◌, ◌≤◌}
 use native.Mathlib.Omega.{arith}
-use borrow.Author.Tests.{ne_eqb, lt-ltb, le-ltb}
-use lib.Dec.{eqb, ltb}
-use lib.ListN.{length, get_or, drop, drop_of_length-le}
-use lib.Seq.{drop-cons}
+use borrow.Author.Tests.{ne_eqb, le-ltb, le-leb, lt-leb, ltb-true, ltb-false}
+use lib.Dec.{eqb, ltb, leb}
+use lib.ListN.{length, get_or, drop}
+use Rattle.std.specs.List.{list_all}
 use Rattle.definition.specs.Grammar.{Form.empty}
 use Rattle.definition.specs.Check.{digits, is_integer}
 use Rattle.definition.specs.Record.{has_flag}
 use Rattle.grammar.specs.Slots.{form_at}
 
--- the digits before i are in order: what is left to say of the text t is whether those from i on are
-pub record Digits (t : List ℕ) (i : ℕ) : Type 0 where
-  pub within : i ≤ length t
-  pub same : is_integer t ≡ digits (drop i t)
+-- whether a byte is a digit
+abbrev pub is_digit : ℕ → Bool
+is_digit d = leb 48 d && leb d 57
 
--- a sign, and no zero in front
-pub digits-start : (t : List ℕ) → 2 ≤ length t → get_or t 0 0 ≤ 1 → (get_or t 1 0 ≡ 48 → ⊥) → Digits t 1
+digits_cons : (b c : Bool) (d : ℕ) (r : Bool) → ltb d 48 ≡ b → ltb 57 d ≡ c → cond b false (cond c false r) ≡ (is_digit d && r)
+digits_cons true c d r p q = let h : d < 48 = ltb-true _ _ p in rw (lt-leb _ _ h)
+digits_cons false true d r p q = let h : 48 ≤ d = ltb-false _ _ p in let k : 57 < d = ltb-true _ _ q in rw (le-leb _ _ h, lt-leb _ _ k)
+digits_cons false false d r p q = let h : 48 ≤ d = ltb-false _ _ p in let k : d ≤ 57 = ltb-false _ _ q in rw (le-leb _ _ h, le-leb _ _ k)
+
+digits_all : (ds : List ℕ) → digits ds ≡ list_all is_digit ds
+unfolding digits
+digits_all [] = refl
+digits_all (d ∷ ds) = rw (digits_all ds) (digits_cons _ _ d (list_all is_digit ds) refl refl)
+
+-- a sign, and no zero in front: what is left to say of the text is whether the bytes behind the sign are digits
+pub all_digits : (t : List ℕ) → 2 ≤ length t → get_or t 0 0 ≤ 1 → (get_or t 1 0 ≡ 48 → ⊥) → list_all is_digit (drop 1 t) ≡ is_integer t
 unfolding is_integer
-digits-start t l s z = record { within = omega arith; same = rw (le-ltb _ _ l, le-ltb _ _ s, ne_eqb _ _ z) }
-
-module _ (t : List ℕ) (i : ℕ) (d : Digits t i) where
-  module _ (h : i < length t) where
-    first : digits (drop i t) ≡ cond (ltb (get_or t i 0) 48) false (cond (ltb 57 (get_or t i 0)) false (digits (drop (i + 1) t)))
-    unfolding digits
-    first = rw (add-one i, drop-cons t i 0 h)
-
-    pub digits_low : get_or t i 0 < 48 → is_integer t ≡ false
-    digits_low l = d.same ∙ first ∙ rw (lt-ltb _ _ l)
-
-    pub digits-high : 48 ≤ get_or t i 0 → 57 < get_or t i 0 → is_integer t ≡ false
-    digits-high l u = d.same ∙ first ∙ rw (le-ltb _ _ l, lt-ltb _ _ u)
-
-    pub digits-turn : 48 ≤ get_or t i 0 → get_or t i 0 ≤ 57 → Digits t (i + 1)
-    digits-turn l u = record { within = omega arith; same = d.same ∙ first ∙ rw (le-ltb _ _ l, le-ltb _ _ u) }
-
-  pub digits-done : length t ≤ i → is_integer t ≡ true
-  unfolding digits
-  digits-done h = d.same ∙ rw (drop_of_length-le t {i = i} h)
+all_digits t l s z = rw (le-ltb _ _ l, le-ltb _ _ s, ne_eqb _ _ z) (sym (digits_all (drop 1 t)))
 
 -- a number that is none of 1 to 5 is that of the empty text
 pub form_empty : (n : ℕ) → (n ≡ 1 → ⊥) → (n ≡ 2 → ⊥) → (n ≡ 3 → ⊥) → (n ≡ 4 → ⊥) → (n ≡ 5 → ⊥) → form_at n ≡ empty

@@ -10,9 +10,9 @@ use borrow.Author.Tests.{lt-ltb, le-ltb, le-leb, lt-leb}
 use lib.Dec.{T, eqb}
 use lib.ListN.{length, get_or, get_or-map, get_or-eq_default}
 use Rattle.definition.specs.Grammar.{known, forms, slots, least, marks, member}
-use Rattle.grammar.specs.Printed.{sets_table, parts_table}
+use Rattle.grammar.specs.Printed.{sets_table, parts_table, forms_table, starts_table, lows_table, highs_table, others_table}
 use Rattle.grammar.specs.Slots.{set_at, parts_from, decode, form_at, RowsRight, in_run, SetsRight}
-use Rattle.grammar.proofs.Printed.{rows, sets, forms_table, starts_table, lows_table, highs_table, others_table}
+use Rattle.grammar.proofs.Printed.{rows, sets}
 
 -- ---- by mark: the code's FORMS and STARTS; its LEASTS is `map least slots`
 
@@ -146,16 +146,16 @@ module _ (k c : ℕ) where
 pub sets_right : SetsRight (lows_table ∷ highs_table ∷ others_table ∷ [])
 sets_right = record { sets_right = λ k c h l. set_is k c (omega (arith, sets-long)) (omega (arith, known-long)) }
 
--- what the code finds for a set and a mark in such tables
-module _ (t : List (List ℕ)) (r : SetsRight t) (k c : ℕ) (h : k < sets) (l : c < rows) where
-  run_is : in_run t k c ≡ member (get_or known c 0) (marks (set_at k))
-  run_is = r.sets_right k c (omega (arith, sets-long)) (omega (arith, known-long))
+-- what the code finds for a set and a mark in these tables
+module _ (k c : ℕ) (h : k < sets) (l : c < rows) where
+  run_is : in_run columns k c ≡ member (get_or known c 0) (marks (set_at k))
+  run_is = sets_right.sets_right k c (omega (arith, sets-long)) (omega (arith, known-long))
 
-  pub below_run : c < get_or (get_or t 0 []) k 0 → eqb c (get_or (get_or t 2 []) k 0) ≡ member (get_or known c 0) (marks (set_at k))
+  pub below_run : c < get_or lows_table k 0 → eqb c (get_or others_table k 0) ≡ member (get_or known c 0) (marks (set_at k))
   below_run a = rw (lt-leb _ _ a) at run_is
 
-  pub above_run : get_or (get_or t 0 []) k 0 ≤ c → get_or (get_or t 1 []) k 0 ≤ c → eqb c (get_or (get_or t 2 []) k 0) ≡ member (get_or known c 0) (marks (set_at k))
+  pub above_run : get_or lows_table k 0 ≤ c → get_or highs_table k 0 ≤ c → eqb c (get_or others_table k 0) ≡ member (get_or known c 0) (marks (set_at k))
   above_run a b = rw (le-leb _ _ a, le-ltb _ _ b) at run_is
 
-  pub within_run : get_or (get_or t 0 []) k 0 ≤ c → c < get_or (get_or t 1 []) k 0 → true ≡ member (get_or known c 0) (marks (set_at k))
+  pub within_run : get_or lows_table k 0 ≤ c → c < get_or highs_table k 0 → true ≡ member (get_or known c 0) (marks (set_at k))
   within_run a b = rw (le-leb _ _ a, lt-ltb _ _ b) at run_is

@@ -9,7 +9,7 @@ use borrow.Author.Tests.{lt-ltb, le-ltb, le-leb, lt-leb, eqb-true}
 use lib.Dec.{eqb}
 use lib.ListN.{length, get_or, take, drop}
 use Rattle.definition.specs.Tree.{head_size, mark_at, length_at, count_at, flags_at, start_at, last_at, text_at}
-use Rattle.definition.specs.Grammar.{Part, known, forms, slots, place, least, allowed, after}
+use Rattle.definition.specs.Grammar.{Part, Form, known, forms, slots, place, least, allowed, after}
 use Rattle.definition.specs.Check.{has_form, form_of, slots_of, inside, Opening, Opening.opened, Opening.stopped, open_body, open_at}
 use Rattle.records.specs.Fields.{fields_at}
 use Rattle.records.specs.declared.Head.{Head}
@@ -96,10 +96,10 @@ module _ (s : List ℕ) (at : ℕ) (ps : List Part) (h : Head) (code : ℕ) (is 
   unfolding open_body
   cut_text a = rw (lt-ltb (length s - (at + head_size)) (length_at s at) (omega (arith, length-is)))
 
-  module _ (form : ℕ) (f : form_at form ≡ get_or forms code (form_at 0)) (a : h.text ≤ length s - (at + head_size)) where
+  module _ (form : Form) (f : form ≡ get_or forms code (form_at 0)) (a : h.text ≤ length s - (at + head_size)) where
     -- what the code asks of the part of the tree that the text fills
     abbrev Asked : Bool → Type 0
-    Asked b = has_form (form_at form) h.flags (take (at + head_size + h.text - (at + head_size)) (drop (at + head_size) s)) ≡ b
+    Asked b = has_form form h.flags (take (at + head_size + h.text - (at + head_size)) (drop (at + head_size) s)) ≡ b
 
     asked : (b : Bool) → Asked b → has_form (form_of h.mark) (flags_at s at) (text_at s at) ≡ b
     unfolding form_at

@@ -1,4 +1,5 @@
--- The sets of marks and the slots, as the code numbers them. Printed by tools/grammar-tables from definition/specs/Grammar.antt.
+-- The code's tables: the sets of marks, the slots, and what stands by mark and by set. Printed by tools/grammar-tables from
+-- definition/specs/Grammar.antt.
 use Rattle.std.specs.Prelude.{ℕ, List, [], ◌∷◌}
 use Prim.Native.String.{String}
 use Rattle.definition.specs.Grammar.{declaration, item, expression, type, pattern, key, class_member, optional, ◌or◌}
@@ -92,4 +93,38 @@ parts_table =
     15 ∷ 29 ∷ 76 ∷ 66 ∷ 0 ∷  -- 155 Ft
     34 ∷ 5 ∷ 66 ∷ 0 ∷  -- 160 the Ag of a Pp
     35 ∷ 0 ∷  -- 164 a root
+    []
+
+-- by mark: FORMS and STARTS
+unfoldable pub forms_table : List ℕ
+forms_table =
+    0 ∷ 1 ∷ 0 ∷ 0 ∷ 0 ∷ 0 ∷ 0 ∷ 0 ∷ 0 ∷ 0 ∷ 0 ∷ 0 ∷ 0 ∷ 0 ∷ 0 ∷ 0 ∷ 0 ∷ 0 ∷ 0 ∷ 0 ∷ 0 ∷ 0 ∷ 0 ∷ 0 ∷ 0 ∷ 0 ∷ 0 ∷ 0 ∷ 0 ∷ 0 ∷ 0 ∷ 0 ∷ 0 ∷ 0 ∷ 0 ∷ 0 ∷
+    0 ∷ 0 ∷ 1 ∷ 0 ∷ 1 ∷ 2 ∷ 3 ∷ 0 ∷ 0 ∷ 0 ∷ 0 ∷ 4 ∷ 0 ∷ 0 ∷ 0 ∷ 0 ∷ 0 ∷ 0 ∷ 0 ∷ 0 ∷ 0 ∷ 0 ∷ 0 ∷ 0 ∷ 0 ∷ 0 ∷ 0 ∷ 0 ∷ 0 ∷ 0 ∷ 0 ∷ 0 ∷ 0 ∷ 0 ∷ 0 ∷ 5 ∷
+    0 ∷ 1 ∷ 0 ∷ 0 ∷ 0 ∷ 0 ∷ 0 ∷ 0 ∷ 0 ∷ 0 ∷ 0 ∷ 0 ∷ 0 ∷
+    []
+
+unfoldable pub starts_table : List ℕ
+starts_table =
+    1 ∷ 2 ∷ 0 ∷ 2 ∷ 2 ∷ 4 ∷ 7 ∷ 79 ∷ 10 ∷ 14 ∷ 18 ∷ 2 ∷ 21 ∷ 25 ∷ 2 ∷ 2 ∷ 29 ∷ 33 ∷ 1 ∷ 37 ∷ 41 ∷ 47 ∷ 50 ∷ 53 ∷ 57 ∷ 61 ∷ 65 ∷ 2 ∷ 2 ∷ 70 ∷ 2 ∷ 71 ∷
+    71 ∷ 74 ∷ 78 ∷ 2 ∷ 79 ∷ 2 ∷ 2 ∷ 79 ∷ 2 ∷ 2 ∷ 2 ∷ 2 ∷ 2 ∷ 2 ∷ 2 ∷ 2 ∷ 82 ∷ 85 ∷ 88 ∷ 92 ∷ 96 ∷ 101 ∷ 79 ∷ 105 ∷ 109 ∷ 113 ∷ 117 ∷ 121 ∷ 79 ∷ 79 ∷
+    79 ∷ 124 ∷ 124 ∷ 124 ∷ 2 ∷ 79 ∷ 128 ∷ 132 ∷ 2 ∷ 2 ∷ 135 ∷ 2 ∷ 139 ∷ 142 ∷ 146 ∷ 149 ∷ 2 ∷ 152 ∷ 125 ∷ 125 ∷ 155 ∷ 2 ∷ 2 ∷
+    []
+
+-- by set: LOWS, HIGHS and OTHERS
+unfoldable pub lows_table : List ℕ
+lows_table =
+    3 ∷ 1 ∷ 8 ∷ 50 ∷ 40 ∷ 47 ∷ 20 ∷ 23 ∷ 16 ∷ 17 ∷ 18 ∷ 31 ∷ 40 ∷ 18 ∷ 1 ∷ 73 ∷ 21 ∷ 33 ∷ 24 ∷ 21 ∷ 38 ∷ 40 ∷ 67 ∷ 2 ∷ 71 ∷ 40 ∷ 1 ∷ 1 ∷ 73 ∷ 40 ∷ 1 ∷
+    28 ∷ 72 ∷ 33 ∷ 0 ∷
+    []
+
+unfoldable pub highs_table : List ℕ
+highs_table =
+    16 ∷ 2 ∷ 16 ∷ 52 ∷ 67 ∷ 48 ∷ 21 ∷ 24 ∷ 17 ∷ 18 ∷ 20 ∷ 38 ∷ 67 ∷ 20 ∷ 3 ∷ 85 ∷ 22 ∷ 35 ∷ 29 ∷ 23 ∷ 43 ∷ 68 ∷ 71 ∷ 3 ∷ 72 ∷ 68 ∷ 2 ∷ 2 ∷ 85 ∷ 44 ∷
+    2 ∷ 31 ∷ 73 ∷ 38 ∷ 1 ∷
+    []
+
+unfoldable pub others_table : List ℕ
+others_table =
+    255 ∷ 255 ∷ 255 ∷ 14 ∷ 255 ∷ 255 ∷ 255 ∷ 255 ∷ 255 ∷ 255 ∷ 2 ∷ 255 ∷ 2 ∷ 255 ∷ 255 ∷ 2 ∷ 255 ∷ 255 ∷ 255 ∷ 255 ∷ 255 ∷ 2 ∷ 255 ∷ 47 ∷ 255 ∷ 255 ∷
+    38 ∷ 57 ∷ 255 ∷ 1 ∷ 47 ∷ 255 ∷ 255 ∷ 255 ∷ 255 ∷
     []

@@ -21,6 +21,10 @@ use Rattle.definition.specs.Grammar.{
   marks,
 }
 use Rattle.grammar.specs.Printed.{sets_table, parts_table}
+use Rattle.grammar.specs.declared.text.Form as Code
+use Rattle.grammar.specs.declared.text.Form.TheVariants.{Empty, Anything, Eight, Integer, Identifier, Cooked}
+use Rattle.grammar.specs.declared.tables.Entry.{Entry}
+use Rattle.grammar.specs.declared.tables.Entry.TheVariants.{End, One, Many, Property}
 
 -- the set with the number k
 abbrev pub set_at : ℕ → String
@@ -39,6 +43,22 @@ decode (x ∷ xs) = decode_one x (decode xs)
 -- the slots that begin at the place k
 unfoldable pub parts_from : ℕ → List Part
 parts_from k = decode (drop k parts_table)
+
+-- an entry as the code names it, before the slots ps
+abbrev pub entry_parts : Entry → List Part → List Part
+entry_parts End ps = []
+entry_parts (One k) ps = one (set_at k) ∷ ps
+entry_parts (Many k) ps = many (set_at k) ∷ ps
+entry_parts Property ps = property ∷ ps
+
+-- a form as the code names it
+abbrev pub form_told : Code.Form → Form
+form_told Empty = empty
+form_told Anything = anything
+form_told Eight = eight
+form_told Integer = integer
+form_told Identifier = identifier
+form_told Cooked = cooked
 
 -- the form with the number k
 unfoldable pub form_at : ℕ → Form

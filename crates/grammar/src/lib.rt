@@ -13,7 +13,7 @@ mod tables;
 mod text;
 
 // The refusals of document 01's table, 1 to 10 in its order, and document 02's behind them; `number` of specs/Answers.antt gives each its number.
-#[derive(Clone, Copy)]
+#[derive(Clone, Copy, PartialEq, Eq, Debug)]
 pub enum Refusal {
     TreeTooLong,
     BadOverloads,
@@ -28,52 +28,59 @@ pub enum Refusal {
     NumberOutside,
 }
 
-// What a check finds: no refusal and the offset past what was checked, or the first refusal and its place.
-#[derive(Clone, Copy)]
-pub enum Checked {
-    Fine(usize),
-    Refused(Refusal, usize),
+// The number of a refusal in document 01's table, which document 02 goes on with.
+impl From<Refusal> for u32 {
+    ghost from_gives = { λ refusal n. n ≡ number refusal };
+
+    fn from(refusal: Refusal) -> u32 {
+        match refusal {
+            Refusal::TreeTooLong => 1,
+            Refusal::BadOverloads => 2,
+            Refusal::CutShort => 3,
+            Refusal::UnknownMark => 4,
+            Refusal::Misplaced => 5,
+            Refusal::BackwardRange => 6,
+            Refusal::TooDeep => 7,
+            Refusal::TrailingBytes => 8,
+            Refusal::OutputFull => 9,
+            Refusal::DiagnosticsFull => 10,
+            Refusal::NumberOutside => 11,
+        }
+    }
+}
+
+// The first refusal and its place.
+#[derive(Clone, Copy, PartialEq, Eq, Debug)]
+pub struct Refused {
+    pub refusal: Refusal,
+    pub place: usize,
 }
 
 // "tree over 524,288 bytes"
 const LONGEST_TREE: usize = 524288;
 
-// Refusals 1 to 8 of a tree and an overload list, for every two byte strings.
-pub fn check_tree(tree: &[u8], list: &[u8]) -> Checked
+// Refusals 1 to 8 of a tree and an overload list, for every two byte strings; where none applies, the offset past the root.
+pub fn check_tree(tree: &[u8], list: &[u8]) -> Result<usize, Refused>
     ensures { checked result ≡ check_tree tree.now list.now }
 {
     if LONGEST_TREE < tree.len() {
-        return Checked::Refused(Refusal::TreeTooLong, 0);
+        return Err(Refused {
+            refusal: Refusal::TreeTooLong,
+            place: 0,
+        });
     }
-    let good = overloads::list_fine(list);
-    if !good {
-        return Checked::Refused(Refusal::BadOverloads, 0);
+    if !overloads::list_fine(list) {
+        return Err(Refused {
+            refusal: Refusal::BadOverloads,
+            place: 0,
+        });
     }
-    let found = record::check_record(tree, 0, DEEPEST, tables::ROOT);
-    let Checked::Fine(end) = found else {
-        return found;
-    };
+    let end = record::check_record(tree, 0, DEEPEST, tables::ROOT)?;
     if end < tree.len() {
-        return Checked::Refused(Refusal::TrailingBytes, end);
+        return Err(Refused {
+            refusal: Refusal::TrailingBytes,
+            place: end,
+        });
     }
-    found
-}
-
-// The number of a refusal in document 01's table, which document 02 goes on with.
-pub fn number_of(refusal: Refusal) -> u32
-    ensures { result ≡ number refusal }
-{
-    match refusal {
-        Refusal::TreeTooLong => 1,
-        Refusal::BadOverloads => 2,
-        Refusal::CutShort => 3,
-        Refusal::UnknownMark => 4,
-        Refusal::Misplaced => 5,
-        Refusal::BackwardRange => 6,
-        Refusal::TooDeep => 7,
-        Refusal::TrailingBytes => 8,
-        Refusal::OutputFull => 9,
-        Refusal::DiagnosticsFull => 10,
-        Refusal::NumberOutside => 11,
-    }
+    Ok(end)
 }

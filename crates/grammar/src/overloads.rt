@@ -20,9 +20,7 @@ pub fn list_fine(list: &[u8]) -> bool
     if list.len() % ENTRY_SIZE != 0 {
         return false;
     }
-    let n = list.len() / ENTRY_SIZE;
-    let mut i: usize = 0;
-    while i < n {
+    for i in 0..list.len() / ENTRY_SIZE {
         if records::u16_at(list, ENTRY_SIZE * i) != OV {
             return false;
         }
@@ -31,7 +29,6 @@ pub fn list_fine(list: &[u8]) -> bool
         {
             return false;
         }
-        i += 1;
     }
     true
 }

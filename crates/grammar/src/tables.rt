@@ -1,12 +1,13 @@
 // The grammar of document 01 as tables of bytes, and the look-ups in them. Each table is proved equal to what the grammar of crate
 // `definition` gives, by one computation over the whole table. A mark stands here by its number, its row in the grammar, and a slot by
 // its place in PARTS.
-ghost use Rattle.std.specs.Prelude.{◌≡◌, [], ◌<◌, get_or};
+ghost use Rattle.std.specs.Prelude.{◌≡◌, true, false, [], ◌+◌, ◌<◌, get_or, map, MatchOption};
 ghost use Rattle.definition.specs.Grammar.{known, forms, slots, place, member, marks, allowed, after, least};
 ghost use Rattle.definition.specs.Check.{inside};
-ghost use Rattle.grammar.specs.Printed.{parts_table};
-ghost use Rattle.grammar.specs.Slots.{set_at, parts_from, form_at, RowsRight, SetsRight};
+ghost use Rattle.grammar.specs.Printed.{parts_table, forms_table, starts_table, lows_table, highs_table, others_table};
+ghost use Rattle.grammar.specs.Slots.{set_at, parts_from, entry_parts, form_at, form_told};
 
+use crate::text::Form;
 use records::marks::{AG, KNOWN};
 
 // What the entries of PARTS begin with: `T`, `T*`, and the child of a Pp.
@@ -63,51 +64,32 @@ const OTHERS: [u8; SETS] =
 
 // end of what is printed
 
-// A table that a function names is made anew at each call of it, so a check makes the tables once and lends them. PARTS:
-pub type Parts = [u8; PLACES];
-
-// FORMS, STARTS and LEASTS, by their places here:
-pub type Rows = [[u8; KNOWN]; 3];
-
-const FORM: usize = 0;
-
-const START: usize = 1;
-
-const LEAST: usize = 2;
-
-// LOWS, HIGHS and OTHERS, by their places here:
-pub type Sets = [[u8; SETS]; 3];
-
-const LOW: usize = 0;
-
-const HIGH: usize = 1;
-
-const OTHER: usize = 2;
-
-// What a record finds at the slots: whether it may stand there, and the slot after it.
-#[derive(Clone, Copy)]
-pub struct Taken {
-    pub placed: bool,
-    pub next: usize,
+// The tables to lend. A table that a function names is made anew at each call of it, so a check makes them once.
+#[derive(Drop)]
+pub struct Tables {
+    parts: [u8; PLACES],
+    forms: [u8; KNOWN],
+    starts: [u8; KNOWN],
+    leasts: [u8; KNOWN],
+    lows: [u8; SETS],
+    highs: [u8; SETS],
+    others: [u8; SETS],
+    ghost parts_right: { parts ≡ parts_table },
+    ghost forms_right: { forms ≡ forms_table },
+    ghost starts_right: { starts ≡ starts_table },
+    ghost leasts_right: { leasts ≡ map least slots },
+    ghost lows_right: { lows ≡ lows_table },
+    ghost highs_right: { highs ≡ highs_table },
+    ghost others_right: { others ≡ others_table },
 }
 
-// The tables to lend.
-pub fn parts() -> Parts
-    ensures { result ≡ parts_table }
-{
-    PARTS
-}
-
-pub fn rows() -> Rows
-    ensures { RowsRight result }
-{
-    [FORMS, STARTS, LEASTS]
-}
-
-pub fn sets() -> Sets
-    ensures { SetsRight result }
-{
-    [LOWS, HIGHS, OTHERS]
+// An entry of PARTS: the end of a list, one child of a set, any number of them, the one child of a Pp.
+#[derive(Clone, Copy, PartialEq, Eq, Debug)]
+enum Entry {
+    End,
+    One(usize),
+    Many(usize),
+    Property,
 }
 
 // An entry of a table as a number to count with.
@@ -117,114 +99,124 @@ fn wide(x: u8) -> usize
     x as usize
 }
 
-// The form of the text of the mark with the number `code`.
-pub fn form_of(rows: &Rows, code: usize) -> u8
-    requires { RowsRight rows.now }
-    ensures { form_at result ≡ get_or forms code (form_at 0) }
-{
-    if code < KNOWN { rows[FORM][code] } else { 0 }
-}
+impl Tables {
+    pub fn new() -> Tables {
+        Tables {
+            parts: PARTS,
+            forms: FORMS,
+            starts: STARTS,
+            leasts: LEASTS,
+            lows: LOWS,
+            highs: HIGHS,
+            others: OTHERS,
+        }
+    }
 
-// The first slot of its children.
-pub fn start_of(rows: &Rows, code: usize) -> usize
-    requires { RowsRight rows.now }
-    ensures { parts_from result ≡ get_or slots code [] }
-{
-    if code < KNOWN {
-        wide(rows[START][code])
-    } else {
-        0
+    // The form of the text of the mark with the number `code`.
+    pub fn form_of(&self, code: usize) -> Form
+        ensures { form_told result ≡ get_or forms code (form_at 0) }
+    {
+        if code < KNOWN {
+            Form::from(self.forms[code])
+        } else {
+            Form::Empty
+        }
     }
-}
 
-// How many children it has at least.
-pub fn least_of(rows: &Rows, code: usize) -> usize
-    requires { RowsRight rows.now }
-    ensures { result ≡ least (get_or slots code []) }
-{
-    if code < KNOWN {
-        wide(rows[LEAST][code])
-    } else {
-        0
+    // The first slot of its children.
+    pub fn start_of(&self, code: usize) -> usize
+        ensures { parts_from result ≡ get_or slots code [] }
+    {
+        if code < KNOWN {
+            wide(self.starts[code])
+        } else {
+            0
+        }
     }
-}
 
-// Whether it is one of the set k.
-fn in_set(sets: &Sets, k: usize, code: usize) -> bool
-    requires { SetsRight sets.now }
-    ensures { result ≡ member (get_or known code 0) (marks (set_at k)) }
-{
-    if SETS <= k {
-        return false;
+    // How many children it has at least.
+    pub fn least_of(&self, code: usize) -> usize
+        ensures { result ≡ least (get_or slots code []) }
+    {
+        if code < KNOWN {
+            wide(self.leasts[code])
+        } else {
+            0
+        }
     }
-    if KNOWN <= code {
-        return false;
-    }
-    if code < wide(sets[LOW][k]) {
-        return code == wide(sets[OTHER][k]);
-    }
-    if wide(sets[HIGH][k]) <= code {
-        return code == wide(sets[OTHER][k]);
-    }
-    true
-}
 
-// The entry of PARTS at the place k.
-fn part_at(parts: &Parts, k: usize) -> usize
-    requires { parts.now ≡ parts_table }
-    ensures { result ≡ get_or parts_table k 0 }
-{
-    if k < PLACES { wide(parts[k]) } else { 0 }
-}
+    // Whether it is one of the set k.
+    fn in_set(&self, k: usize, code: usize) -> bool
+        ensures { result ≡ member (get_or known code 0) (marks (set_at k)) }
+    {
+        if SETS <= k {
+            return false;
+        }
+        if KNOWN <= code {
+            return false;
+        }
+        if code < wide(self.lows[k]) {
+            return code == wide(self.others[k]);
+        }
+        if wide(self.highs[k]) <= code {
+            return code == wide(self.others[k]);
+        }
+        true
+    }
 
-// What a record with that mark finds at the slot k.
-pub fn take_slot(parts: &Parts, sets: &Sets, k: usize, code: usize) -> Taken
-    requires { (parts.now ≡ parts_table) × SetsRight sets.now }
-    ensures { (result.placed ≡ allowed (parts_from k) (get_or known code 0)) × (parts_from result.next ≡ after (parts_from k) (get_or known code 0)) }
-{
-    let mut i = k;
-    while i < PLACES {
-        let p = part_at(parts, i);
+    // The entry of PARTS at the place k.
+    fn entry_at(&self, k: usize) -> Entry
+        ensures { parts_from k ≡ entry_parts result (parts_from (k + 1)) }
+    {
+        if PLACES <= k {
+            return Entry::End;
+        }
+        let p = wide(self.parts[k]);
         if p == 0 {
-            return Taken {
-                placed: false,
-                next: i,
-            };
+            return Entry::End;
         }
         if p < MANY {
-            let placed = in_set(sets, p - ONE, code);
-            let next = i + 1;
-            return Taken { placed, next };
+            return Entry::One(p - ONE);
         }
-        if PROPERTY <= p {
-            let placed = in_set(sets, PROPERTY_SET, code);
-            let next = i + 1;
-            return Taken { placed, next };
+        if p < PROPERTY {
+            return Entry::Many(p - MANY);
         }
-        if in_set(sets, p - MANY, code) {
-            return Taken {
-                placed: true,
-                next: i,
-            };
-        }
-        i += 1;
+        Entry::Property
     }
-    Taken {
-        placed: false,
-        next: i,
-    }
-}
 
-// The first slot of the children of a record with the mark `mark`, whose number is `code`, at the slot k.
-pub fn kids_slot(parts: &Parts, rows: &Rows, k: usize, mark: u16, code: usize) -> usize
-    requires { (parts.now ≡ parts_table) × RowsRight rows.now × (code ≡ place known mark) }
-    ensures { parts_from result ≡ inside (parts_from k) mark }
-{
-    if mark != AG {
-        return start_of(rows, code);
+    // What a record with that mark finds at the slot k: the slot after it, where it may stand there.
+    pub fn take_slot(&self, k: usize, code: usize) -> Option<usize>
+        ensures { MatchOption result
+            (allowed (parts_from k) (get_or known code 0) ≡ false)
+            (λ next. (allowed (parts_from k) (get_or known code 0) ≡ true)
+            × (parts_from next ≡ after (parts_from k) (get_or known code 0))) }
+    {
+        for i in k..PLACES {
+            match self.entry_at(i) {
+                Entry::End => return None,
+                Entry::One(set) => return self.in_set(set, code).then_some(i + 1),
+                Entry::Property => return self.in_set(PROPERTY_SET, code).then_some(i + 1),
+                Entry::Many(set) => {
+                    if self.in_set(set, code) {
+                        return Some(i);
+                    }
+                }
+            }
+        }
+        None
     }
-    if part_at(parts, k) < PROPERTY {
-        return start_of(rows, code);
+
+    // The first slot of the children of a record with the mark `mark`, whose number is `code`, at the slot k.
+    pub fn kids_slot(&self, k: usize, mark: u16, code: usize) -> usize
+        requires { code ≡ place known mark }
+        ensures { parts_from result ≡ inside (parts_from k) mark }
+    {
+        if mark != AG {
+            return self.start_of(code);
+        }
+        match self.entry_at(k) {
+            Entry::Property => UNDESTRUCTURED,
+            _ => self.start_of(code),
+        }
     }
-    UNDESTRUCTURED
 }

@@ -1,24 +1,41 @@
 // The forms of a text: document 01's text forms and reading 1.
 ghost use Rattle.std.specs.Prelude.{◌≡◌};
 ghost use Rattle.definition.specs.Check.{is_integer, has_form};
-ghost use Rattle.grammar.specs.Slots.{form_at};
+ghost use Rattle.grammar.specs.Slots.{form_at, form_told};
 
 use records::flags::{Flags, has_flag};
 
-// The numbers of the forms in the tables; every other number stands for "empty text". "given text is any bytes":
-const ANYTHING: u8 = 1;
+#[derive(Clone, Copy, PartialEq, Eq, Debug)]
+pub enum Form {
+    // no bytes
+    Empty,
+    // "given text is any bytes"
+    Anything,
+    // "8 bytes of f64"
+    Eight,
+    // "sign byte (1 negative, else 0) and decimal digits"
+    Integer,
+    // "4-byte context, symbol"
+    Identifier,
+    // "1 cooked; its text is the cooked value, else empty"
+    Cooked,
+}
 
-// "8 bytes of f64"
-const EIGHT: u8 = 2;
+// The form that the tables number n; every number that is none stands for "empty text".
+impl From<u8> for Form {
+    ghost from_gives = { λ n form. form_told form ≡ form_at n };
 
-// "sign byte (1 negative, else 0) and decimal digits"
-const INTEGER: u8 = 3;
-
-// "4-byte context, symbol"
-const IDENTIFIER: u8 = 4;
-
-// "1 cooked; its text is the cooked value, else empty"
-const COOKED: u8 = 5;
+    fn from(n: u8) -> Form {
+        match n {
+            1 => Form::Anything,
+            2 => Form::Eight,
+            3 => Form::Integer,
+            4 => Form::Identifier,
+            5 => Form::Cooked,
+            _ => Form::Empty,
+        }
+    }
+}
 
 // Bi: a sign byte, 0 or 1, and decimal digits with no zero in front; zero has the sign 0.
 fn is_integer(t: &[u8]) -> bool
@@ -36,34 +53,19 @@ fn is_integer(t: &[u8]) -> bool
         }
         return false;
     }
-    let mut i: usize = 1;
-    while i < t.len() {
-        if t[i] < b'0' {
-            return false;
-        }
-        if b'9' < t[i] {
-            return false;
-        }
-        i += 1;
-    }
-    true
+    t[1..].iter().all(|d| d.is_ascii_digit())
 }
 
-// Whether the text t has the form that the tables number `form`, in a record with those flags.
-pub fn has_form(form: u8, flags: Flags, t: &[u8]) -> bool
-    ensures { result ≡ has_form (form_at form) flags t.now }
+// Whether the text t has a form, in a record with those flags.
+pub fn has_form(form: Form, flags: Flags, t: &[u8]) -> bool
+    ensures { result ≡ has_form (form_told form) flags t.now }
 {
     match form {
-        ANYTHING => true,
-        EIGHT => t.len() == 8,
-        INTEGER => is_integer(t),
-        IDENTIFIER => 4 <= t.len(),
-        COOKED => {
-            if has_flag(flags, records::flags::COOKED) {
-                return true;
-            }
-            t.len() == 0
-        }
-        _ => t.len() == 0,
+        Form::Empty => t.is_empty(),
+        Form::Anything => true,
+        Form::Eight => t.len() == 8,
+        Form::Integer => is_integer(t),
+        Form::Identifier => 4 <= t.len(),
+        Form::Cooked => has_flag(flags, records::flags::COOKED) || t.is_empty(),
     }
 }

@@ -43,12 +43,6 @@ u32_at-requires-in-loop-i c = omega arith
 pub returns-then-u32_at : goal.returns-then-u32_at
 returns-then-u32_at c = backward _ _ _ c.loop-i.invariant c.loop-i-test.true (sym c.u16_at.ensures.0 ∙ c.if-u16_at-ne-OV.false) (omega (arith, c.u32_at.ensures.0, c.u32_at-in-loop-i.ensures.0, c.if-u32_at.true))
 
-pub overflow_add-i-in-loop-i-2 : goal.overflow_add-i-in-loop-i-2
-overflow_add-i-in-loop-i-2 c = omega arith
-
-pub loop-i-smaller : goal.loop-i-smaller
-loop-i-smaller c = omega arith
-
 pub loop-i-preserved : goal.loop-i-preserved
 loop-i-preserved c = passed-turn _ _ _ c.loop-i.invariant c.loop-i-test.true (sym c.u16_at.ensures.0 ∙ c.if-u16_at-ne-OV.false) (omega (arith, c.u32_at.ensures.0, c.u32_at-in-loop-i.ensures.0, c.if-u32_at.false))
 
