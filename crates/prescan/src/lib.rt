@@ -12,6 +12,8 @@ ghost use Rattle.index.specs.Index.{farthest, has};
 ghost use Rattle.prescan.specs.Decls.{Named, add_var};
 ghost use Rattle.prescan.specs.Table.{declaration_size, Room, Filled, Indexed};
 
+pub mod module_names;
+
 use index::Names;
 pub use index::Sets;
 use records::flags::{CONST, has_flag};

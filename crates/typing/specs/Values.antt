@@ -7,7 +7,7 @@ use Rattle.definition.specs.Record.{head_of, kids_of, mark_of, symbol_of, ranged
 use Rattle.definition.specs.Prescan.{PrescannedModuleIds, prescan_module_ids}
 use Rattle.definition.specs.Typing.{spread_kind, spread_by, fn_type, expr_to_ts_type, elements, prop, pat_to_ts_fn_param, ident_to_ts_type, property_signature, expr_kind}
 use Rattle.definition.specs.Transform.{texts_fit}
-use Rattle.prescan.specs.declared.scope.Scope.{Scope}
+use Rattle.prescan.specs.declared.module_names.Scope.{Scope}
 use Rattle.records.specs.Views.{behind}
 use Rattle.typing.specs.declared.exprs.Mode.{Mode}
 use Rattle.typing.specs.declared.output.Output.{Output}

@@ -13,7 +13,7 @@ use crate::frozen::has_readonly;
 use crate::keys::{put_keyed, put_shorthand};
 use crate::leaf::{array_ident, ident_to_ts_type, leaf_type, put_as_type};
 use crate::output::Output;
-use prescan::scope::Scope;
+use prescan::module_names::Scope;
 use records::diagnostics::FastCheckDtsDiagnostic;
 use records::marks::Mark;
 use records::tree::Record;

@@ -14,7 +14,7 @@ ghost use Rattle.typing.specs.Values.{ids_of, leaf_type};
 
 use crate::exprs::Mode;
 use crate::frozen::put_readonly_or_same;
-use prescan::scope::Scope;
+use prescan::module_names::Scope;
 use records::DUMMY_SP;
 use records::marks::Mark;
 use records::text::same_text;

@@ -2,7 +2,7 @@
 ghost use Rattle.std.specs.Prelude.{◌≡◌};
 ghost use Rattle.prescan.specs.Table.{Indexed};
 
-use crate::Question;
+use index::Sets;
 use records::tree::Record;
 
 // The names that the module in a tree declares: `PrescannedModuleIds`, as an index.
@@ -24,14 +24,17 @@ impl<'t> Index<'t> {
     ghost use Rattle.definition.specs.Tree.{tree_at};
     ghost use Rattle.definition.specs.Check.{deepest};
     ghost use Rattle.definition.specs.Record.{kids_of, text_of};
-    ghost use Rattle.definition.specs.Prescan.{asked};
+    ghost use Rattle.definition.specs.Prescan.{Question, asked};
     ghost use Rattle.records.specs.Views.{rec_of};
-    ghost use Rattle.prescan.specs.Questions.{meant};
+    ghost use Rattle.index.specs.Index.{has};
 
-    // Whether some item of the module adds the name of an Id, its context and its symbol, to the set that is asked for.
-    pub fn has(self, ident: Record, question: Question) -> bool
-        ensures { result ≡ asked (meant question) (kids_of (tree_at deepest self.entry.tree.now 0)) (text_of (rec_of ident.entry)) }
+    // The sets to which the items of the module add the name of an Id, its context and its symbol.
+    pub fn look_up(self, ident: Record) -> Sets
+        ensures { (q : Question) → has q result ≡ asked q (kids_of (tree_at deepest self.entry.tree.now 0)) (text_of (rec_of ident.entry)) }
     {
-        crate::find(self.tree, self.entries, ident.text(), question)
+        match index::find(self.tree, self.entries, ident.text()) {
+            Ok(p) => Sets::of(self.entries[p]),
+            Err(_) => Sets::default(),
+        }
     }
 }
