@@ -21,22 +21,22 @@ use records::{CONTEXT_SIZE, DUMMY_SP, HEAD_SIZE, Range};
 use swc_helpers::types::any_type_ann;
 
 // `return_type.map_or(any_type_ann(), |val| val)`.
-fn put_return_type(w: &mut Writer, return_type: Record)
-    ensures { Writes w.old w.new (encode (return_type (rec_of return_type.entry))) }
+fn put_return_type(w: &mut Writer, ty: Record)
+    ensures { Writes w.old w.new (encode (return_type (rec_of ty.entry))) }
 {
-    if return_type.mark() == Mark::No {
+    if ty.mark() == Mark::No {
         any_type_ann(w, DUMMY_SP);
     } else {
-        w.put_record(return_type);
+        w.put_record(ty);
     }
 }
 
 // `type_params` and the return type of a function, behind the head of the type that is made of it.
-pub fn put_fn_front(w: &mut Writer, type_params: Record, return_type: Record)
-    ensures { Writes w.old w.new (encode (rec_of type_params.entry) ++ encode (return_type (rec_of return_type.entry))) }
+pub fn put_fn_front(w: &mut Writer, type_params: Record, ty: Record)
+    ensures { Writes w.old w.new (encode (rec_of type_params.entry) ++ encode (return_type (rec_of ty.entry))) }
 {
     w.put_record(type_params);
-    put_return_type(w, return_type);
+    put_return_type(w, ty);
 }
 
 // `BindingIdent { id: Ident::new(name, assign_pat.span, Default::default()), type_ann }`, before its type.

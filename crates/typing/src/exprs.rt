@@ -9,7 +9,7 @@ ghost use Rattle.typing.specs.Outputs.{MakesMaybe, MakesCounted, MakesList, Make
 ghost use Rattle.typing.specs.Values.{MakesShorthand};
 
 use crate::bindings::{put_binding, put_fn_front, put_unnamed, unique_binding_size};
-use crate::frozen::has_readonly;
+use crate::readonly_types::has_readonly;
 use crate::keys::{put_keyed, put_shorthand};
 use crate::leaf::{array_ident, ident_to_ts_type, leaf_type, put_as_type};
 use crate::output::Output;

@@ -13,7 +13,7 @@ ghost use Rattle.typing.specs.Parts.{number_name, name_type, class_type, as_type
 ghost use Rattle.typing.specs.Values.{ids_of, leaf_type};
 
 use crate::exprs::Mode;
-use crate::frozen::put_readonly_or_same;
+use crate::readonly_types::put_readonly_or_same;
 use prescan::module_names::Scope;
 use records::DUMMY_SP;
 use records::marks::Mark;
