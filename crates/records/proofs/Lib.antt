@@ -10,3 +10,4 @@ pub mod Views
 pub mod Records
 pub mod Iterates
 pub mod Writers
+pub mod SameMarks

@@ -5,3 +5,8 @@ mod Sign
 mod Texts
 mod Calls
 mod Templates
+pub mod Turned
+mod TurnedSign
+pub mod LitKinds
+pub mod Maybe
+pub mod Freeze

@@ -1,3 +1,5 @@
 pub mod Literal
 pub mod Made
 pub mod Found
+pub mod Maybe
+pub mod Lit

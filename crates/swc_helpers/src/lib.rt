@@ -23,6 +23,7 @@ use records::made::{put_absent, put_ident, put_made_front, put_made_leaf};
 use records::marks::{KI, KW, MB, OP, QU, RF, RO, RT, SP, SS, TF, TL, TM};
 use records::{DUMMY_SP, Range};
 
+pub mod lit;
 pub mod literals;
 pub mod types;
 
