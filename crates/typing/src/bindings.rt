@@ -13,6 +13,7 @@ ghost use Rattle.typing.specs.Moved.{Moved};
 ghost use Rattle.typing.specs.Outputs.{IsUnnamed};
 
 use crate::output::Output;
+use names::generated::make_unique_ident;
 use names::unique::unique_name_length;
 use records::marks::Mark;
 use records::tree::Record;
@@ -80,6 +81,6 @@ pub fn put_unnamed(o: &mut Output, range: Range, at: usize, room: usize)
     move_up(o.out.out, from, to, by);
     o.out.at = at;
     o.out.put_made_front(Mark::Bd, 0, range, 2);
-    o.names.make_unique_ident(&mut o.out, range);
+    make_unique_ident(&mut o.names, &mut o.out, range);
     o.out.at = to.saturating_add(by);
 }

@@ -9,10 +9,10 @@ ghost use Rattle.typing.specs.Outputs.{MakesMaybe, MakesCounted, MakesList, Make
 ghost use Rattle.typing.specs.Values.{MakesShorthand};
 
 use crate::bindings::{put_binding, put_fn_front, put_unnamed, unique_binding_size};
-use crate::readonly_types::has_readonly;
 use crate::keys::{put_keyed, put_shorthand};
 use crate::leaf::{array_ident, ident_to_ts_type, leaf_type, put_as_type};
 use crate::output::Output;
+use crate::readonly_types::has_readonly;
 use prescan::module_names::Scope;
 use records::diagnostics::FastCheckDtsDiagnostic;
 use records::marks::Mark;
@@ -46,7 +46,7 @@ pub fn mutable<'t>(scope: Scope<'t>) -> Mode<'t>
 
 // Whether a tuple or a member is readonly: `as_readonly`, or `readonly_of` the type that it is in.
 fn is_readonly(mode: Mode) -> bool
-    ensures { result ≡ (mode.as_readonly || mode.frozen) }
+    ensures { result ≡ (mode.entry.as_readonly || mode.entry.frozen) }
 {
     mode.as_readonly || mode.frozen
 }
@@ -114,8 +114,11 @@ fn tuple_type(o: &mut Output, array: Record, mode: Mode) -> Option<()>
         };
         count += n;
     }
-    o.out
-        .put_front_at(begun.at, Head::made(Mark::Tu, 0, array.range(), 0, count), b"");
+    o.out.put_front_at(
+        begun.at,
+        Head::made(Mark::Tu, 0, array.range(), 0, count),
+        b"",
+    );
     Some(())
 }
 
@@ -140,7 +143,11 @@ fn element_type(o: &mut Output, element: Record, mode: Mode) -> Option<usize>
                 ..mode
             };
             let made = expr_to_ts_type(o, element, inner);
-            o.or_any(made, FastCheckDtsDiagnostic::UnableToInferType, element.range());
+            o.or_any(
+                made,
+                FastCheckDtsDiagnostic::UnableToInferType,
+                element.range(),
+            );
             Some(1)
         }
     }
@@ -313,8 +320,7 @@ fn function_type(o: &mut Output, function: Record, scope: Scope, has_body: bool)
             count += 1;
         }
     }
-    o.out
-        .put_front_at(at, Head::made(Mark::Ft, 0, function.range(), 0, count), b"");
+    o.out.put_front_at(at, Head::made(Mark::Ft, 0, function.range(), 0, count), b"");
     Some(())
 }
 

@@ -21,7 +21,8 @@ use records::text::same_text;
 use records::tree::Record;
 use records::writer::Writer;
 use swc_helpers::types::{
-    maybe_lit_to_ts_type, minus_lit_to_ts_type, reference_to, some_keyword, tpl_to_ts_type, ts_type_query,
+    maybe_lit_to_ts_type, minus_lit_to_ts_type, reference_to, some_keyword, tpl_to_ts_type,
+    ts_type_query,
 };
 use swc_helpers::{DeclMutabilityKind, TsKeywordTypeKind};
 
@@ -48,7 +49,7 @@ fn global_type(w: &mut Writer, name: &[u8], as_const: bool) -> Option<()>
 // `ident_to_ts_type`.
 pub fn ident_to_ts_type(w: &mut Writer, ident: Record, scope: Scope, as_const: bool) -> Option<()>
     requires { mark_of (rec_of ident) ≡ mark "Id" }
-    ensures { MakesType w.old w.new (ident_to_ts_type (ids_of scope.entry) scope.unresolved (rec_of ident.entry) as_const) result }
+    ensures { MakesType w.old w.new (ident_to_ts_type (ids_of scope.entry) scope.entry.unresolved (rec_of ident.entry) as_const) result }
 {
     if ident.context() == scope.unresolved {
         return global_type(w, ident.symbol(), as_const);

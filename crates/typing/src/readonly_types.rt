@@ -21,9 +21,7 @@ use swc_helpers::types::ts_readonly;
 fn plain_members(type_lit: Record) -> bool
     ensures { result ≡ plain_members (kids_of (rec_of type_lit.entry)) }
 {
-    type_lit
-        .children()
-        .all(|member| matches!(member.mark(), Mark::Ps | Mark::Ix | Mark::Op))
+    type_lit.children().all(|member| matches!(member.mark(), Mark::Ps | Mark::Ix | Mark::Op))
 }
 
 // `prop.readonly = true`, `index.readonly = true`: a member, readonly. An Op is copied as it is.
