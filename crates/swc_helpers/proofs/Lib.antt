@@ -1,10 +1,6 @@
 pub mod Made
 pub mod Answers
-pub mod Lits
-mod Sign
-mod Texts
-mod Calls
-mod Templates
+pub mod ByPlace
 pub mod Turned
 mod TurnedSign
 pub mod LitKinds
