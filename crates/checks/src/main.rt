@@ -6,9 +6,8 @@ use std::io;
 
 fn main(rt: HostRuntime) -> io::Result<()> {
     let mut buffer = [0u8; console::TREE_ROOM];
-    let read = console::read_tree(&rt, &mut buffer)?;
-    if read.whole {
-        console::print_check(&rt, &buffer[..read.length])?;
+    if let Some(length) = console::read_tree(&rt, &mut buffer)? {
+        console::print_check(&rt, &buffer[..length])?;
     }
     Ok(())
 }

@@ -1,14 +1,16 @@
 // What the programs share: what they read from standard input, what they print, and the buffers that they lend.
 #![tactic(auto)]
 
-ghost use Rattle.std.specs.Prelude.{true, ◌≡◌, ◌≤◌, length, take, IfOk};
+ghost use Rattle.std.specs.Prelude.{true, ◌≡◌, ◌≤◌, length, take, IfOk, IfSome};
 ghost use Rattle.console.specs.Counts.{IsPrefixLen};
 ghost use Rattle.definition.specs.Check.{longest_tree, deepest};
 ghost use Rattle.definition.specs.Children.{AcceptedAt};
 
-use grammar::{Checked, Refusal};
+use grammar::Refused;
 use std::io;
 use std::io::Read as _;
+
+pub mod replay;
 
 // The unresolved context that the programs take; their overload list is empty.
 pub const UNRESOLVED: u32 = 1;
@@ -63,28 +65,13 @@ pub fn front_mut(bytes: &mut [u8], n: usize) -> &mut [u8]
 
 // ---- Reading
 
-// What was read: its bytes at the start of the buffer, and whether they are all that was asked for.
-#[derive(Clone, Copy)]
-pub struct Read {
-    pub whole: bool,
-    pub length: usize,
-}
-
-fn nothing() -> Read
-    ensures { result.length ≡ 0 }
-{
-    Read {
-        whole: false,
-        length: 0,
-    }
-}
-
 // Reads until the buffer is full or the input ends; how many bytes it put at the start of the buffer.
 fn read_full(rt: &impl Input, buffer: &mut [u8]) -> io::Result<usize>
     ensures { IfOk result (λ n. IsPrefixLen n buffer.new) }
 {
     let mut reader = rt.reader();
     let mut done = 0;
+    // a read says how many bytes it gave, so no `for`
     while done < buffer.len() {
         let n = reader.read(&mut buffer[done..])?;
         if n == 0 {
@@ -95,43 +82,41 @@ fn read_full(rt: &impl Input, buffer: &mut [u8]) -> io::Result<usize>
     Ok(done)
 }
 
-// The next n bytes; nothing where there is no room for them.
-pub fn read_bytes(rt: &impl Input, buffer: &mut [u8], n: usize) -> io::Result<Read>
-    ensures { IfOk result (λ read. IsPrefixLen read.length buffer.new) }
+// The next n bytes, at the start of the buffer; `None` where there are fewer, or no room for them.
+pub fn read_bytes(rt: &impl Input, buffer: &mut [u8], n: usize) -> io::Result<Option<usize>>
+    ensures { IfOk result (λ read. IfSome read (λ n. IsPrefixLen n buffer.new)) }
 {
     if buffer.len() < n {
-        return Ok(nothing());
+        return Ok(None);
     }
     let length = read_full(rt, &mut buffer[..n])?;
-    Ok(Read {
-        whole: length == n,
-        length,
-    })
+    Ok((length == n).then_some(length))
 }
 
 // The next tree, which stands behind its length in two bytes.
-pub fn read_framed(rt: &impl Input, buffer: &mut [u8]) -> io::Result<Read>
-    ensures { IfOk result (λ read. IsPrefixLen read.length buffer.new) }
+pub fn read_framed(rt: &impl Input, buffer: &mut [u8]) -> io::Result<Option<usize>>
+    ensures { IfOk result (λ read. IfSome read (λ n. IsPrefixLen n buffer.new)) }
 {
     let mut size = [0u8; 2];
-    if !read_bytes(rt, &mut size, 2)?.whole {
-        return Ok(nothing());
+    if read_bytes(rt, &mut size, 2)?.is_none() {
+        return Ok(None);
     }
     read_bytes(rt, buffer, records::u16_at(&size, 0) as usize)
 }
 
 // A tree that is read alone, all of standard input; prints `too long` where there is more.
-pub fn read_tree(rt: &(impl Input + Print), buffer: &mut [u8; TREE_ROOM]) -> io::Result<Read>
-    ensures { IfOk result (λ read. IsPrefixLen read.length buffer.new) }
+pub fn read_tree(
+    rt: &(impl Input + Print),
+    buffer: &mut [u8; TREE_ROOM],
+) -> io::Result<Option<usize>>
+    ensures { IfOk result (λ read. IfSome read (λ n. IsPrefixLen n buffer.new)) }
 {
     let length = read_full(rt, buffer)?;
     if LONGEST < length {
-        print(rt, b"too long\n")?;
+        println!(rt; "too long")?;
+        return Ok(None);
     }
-    Ok(Read {
-        whole: length <= LONGEST,
-        length,
-    })
+    Ok(Some(length))
 }
 
 // ---- Printing
@@ -144,36 +129,26 @@ pub fn print_number(rt: &impl Print, n: usize) -> io::Result<()> {
     print!(rt; "{n}")
 }
 
-fn wide(b: u8) -> u64 {
-    b as u64
-}
-
 // Two digits for each byte.
 pub fn print_hex(rt: &impl Print, bytes: &[u8]) -> io::Result<()> {
-    let mut i = 0;
-    while i < bytes.len() {
-        let b = wide(bytes[i]);
+    for b in bytes {
         print!(rt; "{b:02x}")?;
-        i += 1;
     }
     Ok(())
 }
 
 // A success: the bytes of the output and the number of diagnostics.
 pub fn print_done(rt: &impl Print, length: usize, count: usize) -> io::Result<()> {
-    print(rt, b"ok ")?;
-    print_number(rt, length)?;
-    print(rt, b" ")?;
-    print_number(rt, count)
+    print!(rt; "ok {length} {count}")
 }
 
 // A refusal, a line: its number and its place.
-pub fn print_refusal(rt: &impl Print, refusal: Refusal, place: usize) -> io::Result<()> {
-    print(rt, b"refused ")?;
-    print_number(rt, grammar::number_of(refusal) as usize)?;
-    print(rt, b" at ")?;
-    print_number(rt, place)?;
-    print(rt, b"\n")
+pub fn print_refusal(rt: &impl Print, refused: Refused) -> io::Result<()> {
+    println!(rt;
+        "refused {} at {}",
+        u32::from(refused.refusal),
+        refused.place
+    )
 }
 
 // The check's answer for a tree, a line; whether it is accepted.
@@ -181,12 +156,12 @@ pub fn print_check(rt: &impl Print, tree: &[u8]) -> io::Result<bool>
     ensures { IfOk result (λ r. r ≡ true → AcceptedAt deepest tree.now 0 × (length tree.now ≤ longest_tree)) }
 {
     match grammar::check_tree(tree, b"") {
-        Checked::Fine(end) => {
-            print(rt, b"accepted\n")?;
+        Ok(_) => {
+            println!(rt; "accepted")?;
             Ok(true)
         }
-        Checked::Refused(refusal, place) => {
-            print_refusal(rt, refusal, place)?;
+        Err(refused) => {
+            print_refusal(rt, refused)?;
             Ok(false)
         }
     }

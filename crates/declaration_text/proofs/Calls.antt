@@ -10,6 +10,8 @@ use mir.Val
 use lib.ListN.{length, get_or, take, drop, length-append}
 use lib.Seq.{length-sets, length-take-le}
 use borrow.Author.Tests.{le-leb, lt-leb, lt-ltb, le-ltb}
+use Rattle.std.specs.declared.result.Result.{Result}
+use Rattle.std.specs.declared.result.Result.TheVariants.{Ok, Err}
 use Rattle.definition.specs.Tree.{rec, head_size, count_at, body_at, head_at, tree_at}
 use Rattle.definition.specs.Check.{fine, refused, longest_tree, deepest, check_tree}
 use Rattle.definition.specs.Check as Check
@@ -23,17 +25,13 @@ use Rattle.definition.proofs.TextBound.{accepted-text, text-succeeds}
 use Rattle.definition.proofs.Children.{root-accepted, tree_is}
 use Rattle.definition.proofs.Kids.{text-length as own-length}
 use Rattle.grammar.specs.Answers.{number, checked}
-use Rattle.grammar.specs.declared.Refusal.{Refusal}
 use Rattle.grammar.specs.declared.Refusal.TheVariants.{OutputFull, NumberOutside}
-use Rattle.grammar.specs.declared.Checked.{Checked}
-use Rattle.grammar.specs.declared.Checked.TheVariants.{Fine, Refused as Rejected}
+use Rattle.grammar.specs.declared.Refused.{Refused}
 use Rattle.records.specs.Wrote.{sat}
 use Rattle.records.proofs.Stores.{copy-all, part_sets}
 use Rattle.records.proofs.Whole.{slice_bytes}
 use Rattle.text_tokens.specs.declared.State.{State}
 use Rattle.text_tokens.specs.Writes.{Writes}
-use Rattle.declaration_text.specs.declared.Answer.{Answer}
-use Rattle.declaration_text.specs.declared.Answer.TheVariants.{Done, Refused}
 use Rattle.declaration_text.specs.Lines.{WritesLines, lines_seen, records_at}
 use Rattle.declaration_text.specs.Answers.{start, Accepted, answered, Gives}
 use Rattle.declaration_text.proofs.LinesWritten.{lines_none}
@@ -89,7 +87,7 @@ module _ {o1 : List ℕ} {r : State} {ls : List Line} (dry : WritesLines [] o1 s
   kept : o1 ++ out ≡ out
   kept = front-none o1 out nothing
 
-  pub number-outside : {p : ℕ} → (first_outside nowhere ls ≡ p) × (p < nowhere) → Gives (written_text ls out) (Refused NumberOutside p) (o1 ++ out)
+  pub number-outside : {p : ℕ} → (first_outside nowhere ls ≡ p) × (p < nowhere) → Gives (written_text ls out) (Err (record { refusal = NumberOutside; place = p })) (o1 ++ out)
   unfolding written_text
   number-outside {p} h = rw (h.0, lt-ltb p nowhere h.1) (record { answer = refl; output = kept })
 
@@ -97,14 +95,14 @@ module _ {o1 : List ℕ} {r : State} {ls : List Line} (dry : WritesLines [] o1 s
     fit : ltb (first_outside nowhere ls) nowhere ≡ false
     fit = le-ltb (first_outside nowhere ls) nowhere (omega (arith, seen-none ls (sym l ∙ dry.place)))
 
-    pub text_too_long : length out < r.written → Gives (written_text ls out) (Refused OutputFull 0) (o1 ++ out)
+    pub text_too_long : length out < r.written → Gives (written_text ls out) (Err (record { refusal = OutputFull; place = 0 })) (o1 ++ out)
     unfolding written_text
     text_too_long h =
         rw (fit, lt-leb (length (lines_bytes ls)) (length out) (omega (arith, size)))
         (record { answer = refl; output = kept })
 
     pub text-done : r.written ≤ length out → length out < 2 ^ 63 → {o2 : List ℕ} {s : State} → WritesLines (take r.written (o1 ++ out)) o2 start s ls
-        → Gives (written_text ls out) (Done r.written) (o2 ++ drop r.written (o1 ++ out))
+        → Gives (written_text ls out) (Ok r.written) (o2 ++ drop r.written (o1 ++ out))
     unfolding written_text
     text-done h m {o2} w =
         let n : r.written ≡ length (lines_bytes ls) = omega (arith, size) in
@@ -131,7 +129,7 @@ module _ {tree : List ℕ} (a : Accepted tree) where
 
   pub certain_done : ((i : ℕ) → mir.Val.Fits w8 (get_or tree i 0)) → (out : List ℕ) → length out < 2 ^ 63
       → (6 * length tree ≤ length out) × (numbers_fit (tree_at deepest tree 0) ≡ true) → {o : List ℕ} {r : State} → WritesLines out o start r (lines_of (tree_at deepest tree 0))
-      → Gives (written_text (lines_of (tree_at deepest tree 0)) out) (Done r.written) o
+      → Gives (written_text (lines_of (tree_at deepest tree 0)) out) (Ok r.written) o
   unfolding call_text text_by text_of
   certain_done known out m h {o} {r} w =
       let bytes = slice_bytes tree known in
@@ -144,23 +142,23 @@ module _ {tree : List ℕ} (a : Accepted tree) where
 
 -- ---- the call
 
-module _ (tree out : List ℕ) {f : Checked} (c : checked f ≡ check_tree tree []) where
+module _ (tree out : List ℕ) {f : Result ℕ Refused} (c : checked f ≡ check_tree tree []) where
   -- refusals 1 and 3 to 8
-  pub call-refused : {n : Refusal} {p : ℕ} → f ≡ Rejected n p → Gives (call_text tree out) (Refused n p) out
+  pub call-refused : {r : Refused} → f ≡ Err r → Gives (call_text tree out) (Err r) out
   unfolding call_text text_by
-  call-refused {n} {p} q =
-      let e : check_tree tree [] ≡ refused (number n) p = sym c ∙ ap checked q in
+  call-refused {r} q =
+      let e : check_tree tree [] ≡ refused (number r.refusal) r.place = sym c ∙ ap checked q in
       rw e (record { answer = refl; output = refl })
 
   -- an accepted tree
-  module _ {e : ℕ} (q : f ≡ Fine e) where
+  module _ {e : ℕ} (q : f ≡ Ok e) where
     tree-fine : check_tree tree [] ≡ fine e
     tree-fine = sym c ∙ ap checked q
 
     pub call-root : Accepted tree
     call-root = record { end = e; checked = tree-fine }
 
-    pub call-accepted : {r : Answer} {o : List ℕ} → Gives (written_text (lines_of (tree_at deepest tree 0)) out) r o → Gives (call_text tree out) r o
+    pub call-accepted : {r : Result ℕ Refused} {o : List ℕ} → Gives (written_text (lines_of (tree_at deepest tree 0)) out) r o → Gives (call_text tree out) r o
     unfolding call_text text_by
     call-accepted w = rw tree-fine w
 
@@ -189,7 +187,7 @@ unfolding text_by
 inside (fine e) tree out n q = written-inside (lines_of (tree_at deepest tree 0)) out n q
 inside (refused k p) tree out n q = absurd (never_done k p n 0 q)
 
-module _ (tree out : List ℕ) {a : Answer} {o : List ℕ} (w : Gives (call_text tree out) a o) {n : ℕ} (q : a ≡ Done n) where
+module _ (tree out : List ℕ) {a : Result ℕ Refused} {o : List ℕ} (w : Gives (call_text tree out) a o) {n : ℕ} (q : a ≡ Ok n) where
   pub text-inside : n ≤ length o
   unfolding call_text
   text-inside = omega (arith, inside (check_tree tree []) tree out n (sym w.answer ∙ ap answered q), ap length w.output)

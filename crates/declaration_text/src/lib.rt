@@ -13,7 +13,7 @@ ghost use Rattle.declaration_text.specs.Answers.{start, Accepted, Gives};
 
 use crate::numbers::numbers_fit;
 use crate::table::Tables;
-use grammar::{Checked, Refusal};
+use grammar::{Refusal, Refused};
 use records::{DEEPEST, body_at, count_at};
 use text_tokens::State;
 
@@ -25,12 +25,6 @@ pub mod pieces;
 pub mod record;
 pub mod table;
 
-// The bytes of the text; a refusal and its place.
-#[derive(Clone, Copy)]
-pub enum Answer {
-    Done(usize),
-    Refused(Refusal, usize),
-}
 
 // The bytes of a text for each byte of its tree, at most (`text-short` of definition/proofs/TextBound.antt).
 const MOST_TEXT: usize = 6;
@@ -77,32 +71,36 @@ fn is_certain(tree: &[u8], room: usize) -> bool
 
 // The text of an accepted tree: the run alone where it is sure to succeed; else refusals 11 and 9 by a dry run, then the run, on exactly the room that
 // it takes.
-fn accepted(tree: &[u8], out: &mut [u8]) -> Answer
+fn accepted(tree: &[u8], out: &mut [u8]) -> Result<usize, Refused>
     requires { Accepted tree.now }
     ensures { Gives (written_text (lines_of (tree_at deepest tree.now 0)) out.old) result out.new }
 {
     let tables = Tables::new();
     if is_certain(tree, out.len()) {
         let all = tables.put_module(tree, out);
-        return Answer::Done(all.written);
+        return Ok(all.written);
     }
     let dry = tables.put_module(tree, &mut out[..0]);
     if let Some(place) = dry.place {
-        return Answer::Refused(Refusal::NumberOutside, place);
+        return Err(Refused {
+            refusal: Refusal::NumberOutside,
+            place,
+        });
     }
     if out.len() < dry.written {
-        return Answer::Refused(Refusal::OutputFull, 0);
+        return Err(Refused {
+            refusal: Refusal::OutputFull,
+            place: 0,
+        });
     }
     tables.put_module(tree, &mut out[..dry.written]);
-    Answer::Done(dry.written)
+    Ok(dry.written)
 }
 
-// The call, for every byte string and every buffer: the answer and the buffer are the definition's `call_text`.
-pub fn text(tree: &[u8], out: &mut [u8]) -> Answer
+// The call, for every byte string and every buffer: the answer, the bytes of the text, and the buffer are the definition's `call_text`.
+pub fn text(tree: &[u8], out: &mut [u8]) -> Result<usize, Refused>
     ensures { Gives (call_text tree.now out.old) result out.new }
 {
-    match grammar::check_tree(tree, b"") {
-        Checked::Refused(refusal, place) => Answer::Refused(refusal, place),
-        Checked::Fine(end) => accepted(tree, out),
-    }
+    grammar::check_tree(tree, b"")?;
+    accepted(tree, out)
 }

@@ -4,22 +4,20 @@
 
 use console::{DIAGNOSTICS_ROOM, OUTPUT_ROOM, UNRESOLVED, print, print_refusal};
 use std::io;
-use transform_dts::Answer;
 
 fn declare(rt: &impl Print, tree: &[u8]) -> io::Result<()> {
     let mut out = [0u8; OUTPUT_ROOM];
     let mut diagnostics = [0u8; DIAGNOSTICS_ROOM];
     match transform_dts::transform(tree, b"", UNRESOLVED, &mut out, &mut diagnostics) {
-        Answer::Done(length, count) => print(rt, &out[..length]),
-        Answer::Refused(refusal, place) => print_refusal(rt, refusal, place),
+        Ok(done) => print(rt, &out[..done.length]),
+        Err(refused) => print_refusal(rt, refused),
     }
 }
 
 fn main(rt: HostRuntime) -> io::Result<()> {
     let mut buffer = [0u8; console::TREE_ROOM];
-    let read = console::read_tree(&rt, &mut buffer)?;
-    if read.whole {
-        declare(&rt, &buffer[..read.length])?;
+    if let Some(length) = console::read_tree(&rt, &mut buffer)? {
+        declare(&rt, &buffer[..length])?;
     }
     Ok(())
 }

@@ -4,12 +4,9 @@
 
 ghost use Rattle.std.specs.Prelude.{◌+◌, ◌*◌, ◌≤◌, length};
 
-use console::{
-    DIAGNOSTICS_ROOM, OUTPUT_ROOM, UNRESOLVED, print, print_done, print_number, print_refusal,
-};
+use console::{DIAGNOSTICS_ROOM, OUTPUT_ROOM, UNRESOLVED, print, print_done, print_refusal};
 use records::DIAGNOSTIC_SIZE;
 use std::io;
-use transform_dts::Answer;
 
 // The places of a diagnostic's parts: its mark is a `d` and a digit, then start and end.
 const DIGIT: usize = 1;
@@ -23,23 +20,19 @@ fn show_diagnostic(rt: &impl Print, diagnostics: &[u8], at: usize) -> io::Result
     requires { at + 10 ≤ length diagnostics.now }
 {
     print(rt, &diagnostics[at + DIGIT..at + START])?;
-    print(rt, b" ")?;
-    print_number(rt, records::u32_at(diagnostics, at + START) as usize)?;
-    print(rt, b" ")?;
-    print_number(rt, records::u32_at(diagnostics, at + END) as usize)?;
-    print(rt, b"\n")
+    println!(rt;
+        " {} {}",
+        records::u32_at(diagnostics, at + START),
+        records::u32_at(diagnostics, at + END)
+    )
 }
 
 // The first `count`, each "on one line".
 fn show_diagnostics(rt: &impl Print, diagnostics: &[u8], count: usize) -> io::Result<()>
     requires { count * 10 ≤ length diagnostics.now }
 {
-    let mut at = 0;
-    let mut n = count;
-    while 0 < n {
-        show_diagnostic(rt, diagnostics, at)?;
-        at += DIAGNOSTIC_SIZE;
-        n -= 1;
+    for i in 0..count {
+        show_diagnostic(rt, diagnostics, i * DIAGNOSTIC_SIZE)?;
     }
     Ok(())
 }
@@ -48,20 +41,19 @@ fn declare(rt: &impl Print, tree: &[u8]) -> io::Result<()> {
     let mut out = [0u8; OUTPUT_ROOM];
     let mut diagnostics = [0u8; DIAGNOSTICS_ROOM];
     match transform_dts::transform(tree, b"", UNRESOLVED, &mut out, &mut diagnostics) {
-        Answer::Done(length, count) => {
-            print_done(rt, length, count)?;
+        Ok(done) => {
+            print_done(rt, done.length, done.count)?;
             print(rt, b"\n")?;
-            show_diagnostics(rt, &diagnostics, count)
+            show_diagnostics(rt, &diagnostics, done.count)
         }
-        Answer::Refused(refusal, place) => print_refusal(rt, refusal, place),
+        Err(refused) => print_refusal(rt, refused),
     }
 }
 
 fn main(rt: HostRuntime) -> io::Result<()> {
     let mut buffer = [0u8; console::TREE_ROOM];
-    let read = console::read_tree(&rt, &mut buffer)?;
-    if read.whole {
-        declare(&rt, &buffer[..read.length])?;
+    if let Some(length) = console::read_tree(&rt, &mut buffer)? {
+        declare(&rt, &buffer[..length])?;
     }
     Ok(())
 }

@@ -8,6 +8,8 @@ use mir.Syntax.{w8}
 use mir.Val
 use lib.ListN.{length, get_or, replicate, length-replicate, get_or-replicate, drop, length-append, length-drop, get_or-append}
 use lib.Seq.{ext_get_or}
+use Rattle.std.specs.declared.result.Result.{Result}
+use Rattle.std.specs.declared.result.Result.TheVariants.{Ok, Err}
 use Rattle.definition.specs.Tree.{Recs, count_at, body_at, tree_at}
 use Rattle.definition.specs.Check.{longest_tree, deepest}
 use Rattle.definition.specs.Children.{AcceptedAt}
@@ -26,9 +28,8 @@ use Rattle.prescan.specs.Table.{Indexed}
 use Rattle.typing.specs.Did.{ids_of}
 use Rattle.classes.specs.Typings.{ReadyAll}
 use Rattle.items.specs.Steps.{records_at}
-use Rattle.grammar.specs.declared.Refusal.{Refusal}
-use Rattle.transform_dts.specs.declared.Answer.{Answer}
-use Rattle.transform_dts.specs.declared.Answer.TheVariants.{Done, Refused}
+use Rattle.grammar.specs.declared.Refused.{Refused}
+use Rattle.transform_dts.specs.declared.Done.{Done}
 use Rattle.transform_dts.specs.Answers.{transformed, answered, Gives}
 use Rattle.transform_dts.proofs.Module.{scope_of}
 use Rattle.depth_counts.specs.Tables.{rows, Shape, cell, Small, Adds, Holds}
@@ -117,21 +118,21 @@ blank-small = record {
 
 -- ---- the call
 
-module _ (tree list : List ℕ) (ctx : ℕ) (out diags : List ℕ) {r : Answer} {o g : List ℕ} (w : Gives (call tree list ctx out diags) r o g) where
+module _ (tree list : List ℕ) (ctx : ℕ) (out diags : List ℕ) {r : Result Done Refused} {o g : List ℕ} (w : Gives (call tree list ctx out diags) r o g) where
   -- a success
-  module _ {n k : ℕ} (e : r ≡ Done n k) where
-    succeeded : (call tree list ctx out diags).answer ≡ done n k
+  module _ {d : Done} (e : r ≡ Ok d) where
+    succeeded : (call tree list ctx out diags).answer ≡ done d.length d.count
     succeeded = sym w.answer ∙ ap answered e
 
     pub done-accepted : AcceptedAt deepest tree 0
-    done-accepted = let z = call-done tree list ctx out diags n k succeeded in root-accepted tree list z.0 z.1
+    done-accepted = let z = call-done tree list ctx out diags d.length d.count succeeded in root-accepted tree list z.0 z.1
 
     pub done-short : length tree ≤ longest_tree
-    done-short = let z = call-done tree list ctx out diags n k succeeded in (accepted-tree tree list z.0 z.1).0.short
+    done-short = let z = call-done tree list ctx out diags d.length d.count succeeded in (accepted-tree tree list z.0 z.1).0.short
 
     pub done-holds : Holds g 0 (transformed list ctx tree).1
     done-holds =
-        let z = call-done tree list ctx out diags n k succeeded in
+        let z = call-done tree list ctx out diags d.length d.count succeeded in
         let ds : List Diag = (transformed list ctx tree).1 in
         let is : g ≡ over (diags_bytes ds) diags = w.diagnostics ∙ z.2.diags_are in
         record {
@@ -139,25 +140,25 @@ module _ (tree list : List ℕ) (ctx : ℕ) (out diags : List ℕ) {r : Answer} 
           same = λ i lt. let y : 0 + i ≡ i = omega arith in ap (λ (j : ℕ). get_or g j 0) y ∙ (ap (λ (l : List ℕ). get_or l i 0) is ∙ get_or-append (diags_bytes ds) _ 0 i lt);
         }
 
-    pub done_counted : (t : List (List ℕ)) {u : List (List ℕ)} → u ≡ table_of (placed list ctx (tree_at deepest tree 0)) → GivesCounted (call_depths tree list ctx out diags t) (Done n k) o g u
+    pub done_counted : (t : List (List ℕ)) {u : List (List ℕ)} → u ≡ table_of (placed list ctx (tree_at deepest tree 0)) → GivesCounted (call_depths tree list ctx out diags t) (Ok d) o g u
     unfolding call_depths
     done_counted t {u} f = record {
-      gives = subst (λ (a : Answer). Gives (call tree list ctx out diags) a o g) e w;
+      gives = subst (λ (a : Result Done Refused). Gives (call tree list ctx out diags) a o g) e w;
       table = f ∙ ap (λ (a : Transform.Answer). counts_by a (table_of (placed list ctx (tree_at deepest tree 0))) t) (sym succeeded);
     }
 
   -- a refusal
-  pub refused_counted : (t : List (List ℕ)) {x : Refusal} {place : ℕ} → r ≡ Refused x place → GivesCounted (call_depths tree list ctx out diags t) (Refused x place) o g t
+  pub refused_counted : (t : List (List ℕ)) {x : Refused} → r ≡ Err x → GivesCounted (call_depths tree list ctx out diags t) (Err x) o g t
   unfolding call_depths
   refused_counted t e = record {
-    gives = subst (λ (a : Answer). Gives (call tree list ctx out diags) a o g) e w;
+    gives = subst (λ (a : Result Done Refused). Gives (call tree list ctx out diags) a o g) e w;
     table = ap (λ (a : Transform.Answer). counts_by a (table_of (placed list ctx (tree_at deepest tree 0))) t) (sym (ap answered e) ∙ w.answer);
   }
 
 -- the total of a success
-module _ (tree list : List ℕ) (ctx : ℕ) (out diags : List ℕ) (t : List (List ℕ)) {n k : ℕ} {r : Answer} {o g : List ℕ} {u : List (List ℕ)} (known : (i : ℕ) → mir.Val.Fits w8 (get_or tree i 0))
-    (w : GivesCounted (call_depths tree list ctx out diags t) r o g u) (e : r ≡ Done n k) where
-  answer-done : (call tree list ctx out diags).answer ≡ done n k
+module _ (tree list : List ℕ) (ctx : ℕ) (out diags : List ℕ) (t : List (List ℕ)) {d : Done} {r : Result Done Refused} {o g : List ℕ} {u : List (List ℕ)} (known : (i : ℕ) → mir.Val.Fits w8 (get_or tree i 0))
+    (w : GivesCounted (call_depths tree list ctx out diags t) r o g u) (e : r ≡ Ok d) where
+  answer-done : (call tree list ctx out diags).answer ≡ done d.length d.count
   unfolding call_depths
   answer-done = sym w.gives.answer ∙ ap answered e
 
@@ -169,13 +170,13 @@ module _ (tree list : List ℕ) (ctx : ℕ) (out diags : List ℕ) (t : List (Li
   counted_shape = subst Shape (sym counted_table) (table-shape (placed list ctx (tree_at deepest tree 0)))
 
   -- "the total equals the number of records written"
-  pub counted_total : total u ≡ k
+  pub counted_total : total u ≡ d.count
   counted_total =
-      let z = call-done tree list ctx out diags n k answer-done in
+      let z = call-done tree list ctx out diags d.length d.count answer-done in
       ap total counted_table ∙ (total-is tree list ctx z.0 (slice_bytes tree known) z.1 ∙ sym z.2.count)
 
   -- which is small
   pub counted_small : total u ≤ longest_tree
   counted_small =
-      let z = call-done tree list ctx out diags n k answer-done in
+      let z = call-done tree list ctx out diags d.length d.count answer-done in
       omega (arith, counted_total, z.2.count, diagnostics_of_bytes tree list ctx z.0 (slice_bytes tree known) z.1, (accepted-tree tree list z.0 z.1).0.short)

@@ -14,9 +14,10 @@ ghost use Rattle.depth_counts.specs.Answers.{GivesCounted};
 
 use crate::table::{COLUMNS, ROWS, Table};
 use crate::walk::count_items;
+use grammar::Refused;
 use prescan::{DECLARATION_SIZE, LARGE_TABLE, MIDDLE_TABLE, Scope};
 use records::DEEPEST;
-use transform_dts::Answer;
+use transform_dts::Done;
 use typing::State;
 
 pub mod table;
@@ -63,23 +64,19 @@ fn with_names(
     table
 }
 
-// The same, for a smaller tree.
-fn with_middle_table(tree: &[u8], list: &[u8], unresolved: u32, diagnostics: &[u8]) -> Table
+// The same, with a new table of N numbers for the index.
+fn with_new_table<const N: usize>(
+    tree: &[u8],
+    list: &[u8],
+    unresolved: u32,
+    diagnostics: &[u8],
+) -> Table
     requires accepted_at { AcceptedAt deepest tree.now 0 × Holds diagnostics.now 0 (transformed list.now unresolved tree.now).1 }
-    requires tree_len_bound { length tree.now ≤ declaration_size * 1024 }
+    requires tree_len_bound { length tree.now ≤ declaration_size * (N / 2) }
+    requires table_bound { N ≤ 16384 }
     ensures { result ≡ table_of (placed list.now unresolved (tree_at deepest tree.now 0)) }
 {
-    let mut names = [0u32; MIDDLE_TABLE];
-    with_names(tree, &mut names, list, unresolved, diagnostics)
-}
-
-// The same, for every tree.
-fn with_large_table(tree: &[u8], list: &[u8], unresolved: u32, diagnostics: &[u8]) -> Table
-    requires accepted_at { AcceptedAt deepest tree.now 0 × Holds diagnostics.now 0 (transformed list.now unresolved tree.now).1 }
-    requires tree_len_bound { length tree.now ≤ declaration_size * 8192 }
-    ensures { result ≡ table_of (placed list.now unresolved (tree_at deepest tree.now 0)) }
-{
-    let mut names = [0u32; LARGE_TABLE];
+    let mut names = [0u32; N];
     with_names(tree, &mut names, list, unresolved, diagnostics)
 }
 
@@ -90,9 +87,9 @@ fn counted(tree: &[u8], list: &[u8], unresolved: u32, diagnostics: &[u8]) -> Tab
     ensures { result ≡ table_of (placed list.now unresolved (tree_at deepest tree.now 0)) }
 {
     if tree.len() <= DECLARATION_SIZE * (MIDDLE_TABLE / 2) {
-        return with_middle_table(tree, list, unresolved, diagnostics);
+        return with_new_table::<MIDDLE_TABLE>(tree, list, unresolved, diagnostics);
     }
-    with_large_table(tree, list, unresolved, diagnostics)
+    with_new_table::<LARGE_TABLE>(tree, list, unresolved, diagnostics)
 }
 
 // The transform's call, and the table: the answer, both buffers and the table are the definition's `call_depths`.
@@ -103,17 +100,12 @@ pub fn depths(
     out: &mut [u8],
     diagnostics: &mut [u8],
     table: &mut Table,
-) -> Answer
+) -> Result<Done, Refused>
     ensures { GivesCounted
         (call_depths tree.now list.now unresolved_context out.old diagnostics.old table.old)
         result out.new diagnostics.new table.new }
 {
-    let made = transform_dts::transform(tree, list, unresolved_context, out, diagnostics);
-    match made {
-        Answer::Refused(refusal, place) => Answer::Refused(refusal, place),
-        Answer::Done(bytes, count) => {
-            *table = counted(tree, list, unresolved_context, diagnostics);
-            Answer::Done(bytes, count)
-        }
-    }
+    let done = transform_dts::transform(tree, list, unresolved_context, out, diagnostics)?;
+    *table = counted(tree, list, unresolved_context, diagnostics);
+    Ok(done)
 }

@@ -2,28 +2,22 @@
 // counts, d1 on top, and the total below.
 #![tactic(auto)]
 
-use console::{DIAGNOSTICS_ROOM, OUTPUT_ROOM, UNRESOLVED, print, print_number, print_refusal};
+use console::{DIAGNOSTICS_ROOM, OUTPUT_ROOM, UNRESOLVED, print, print_refusal};
 use depth_counts::table::{COLUMNS, ROWS, Table, total};
 use std::io;
-use transform_dts::Answer;
 
 // A row, a line: "one space between counts".
-fn show_row(rt: &impl Print, row: [usize; COLUMNS]) -> io::Result<()> {
-    print_number(rt, row[0])?;
-    let mut depth = 1;
-    while depth < COLUMNS {
-        print(rt, b" ")?;
-        print_number(rt, row[depth])?;
-        depth += 1;
+fn show_row(rt: &impl Print, row: &[usize; COLUMNS]) -> io::Result<()> {
+    print!(rt; "{}", row[0])?;
+    for count in &row[1..] {
+        print!(rt; " {count}")?;
     }
     print(rt, b"\n")
 }
 
-fn show_table(rt: &impl Print, table: Table) -> io::Result<()> {
-    let mut row = 0;
-    while row < ROWS {
-        show_row(rt, table[row])?;
-        row += 1;
+fn show_table(rt: &impl Print, table: &Table) -> io::Result<()> {
+    for row in table {
+        show_row(rt, row)?;
     }
     Ok(())
 }
@@ -40,20 +34,18 @@ fn count(rt: &impl Print, tree: &[u8]) -> io::Result<()> {
         &mut diagnostics,
         &mut table,
     ) {
-        Answer::Done(length, count) => {
-            show_table(rt, table)?;
-            print_number(rt, total(table))?;
-            print(rt, b"\n")
+        Ok(_) => {
+            show_table(rt, &table)?;
+            println!(rt; "{}", total(table))
         }
-        Answer::Refused(refusal, place) => print_refusal(rt, refusal, place),
+        Err(refused) => print_refusal(rt, refused),
     }
 }
 
 fn main(rt: HostRuntime) -> io::Result<()> {
     let mut buffer = [0u8; console::TREE_ROOM];
-    let read = console::read_tree(&rt, &mut buffer)?;
-    if read.whole {
-        count(&rt, &buffer[..read.length])?;
+    if let Some(length) = console::read_tree(&rt, &mut buffer)? {
+        count(&rt, &buffer[..length])?;
     }
     Ok(())
 }

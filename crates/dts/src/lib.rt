@@ -12,8 +12,8 @@ ghost use Rattle.transform_dts.specs.Answers.{answered};
 ghost use Rattle.dts.specs.Answers.{check_code, check_pair, code_of, pair_of};
 
 use depth_counts::table::{CELLS, COLUMNS, ROWS, in_one};
-use grammar::Checked;
-use transform_dts::Answer;
+use grammar::Refused;
+use transform_dts::Done;
 
 // `check_tree`: 0 with the tree's length and 0 in `answer`, or the refusal's number with its place and 0 there.
 #[unsafe(no_mangle)]
@@ -21,31 +21,22 @@ pub extern "C" fn dts_check(tree: &[u8], list: &[u8], answer: &mut [u64; 2]) -> 
     ensures number { result ≡ check_code (check_tree tree.now list.now) }
     ensures pair { answer.new ≡ check_pair (check_tree tree.now list.now) }
 {
-    let found = grammar::check_tree(tree, list);
-    match found {
-        Checked::Fine(end) => {
-            *answer = [end as u64, 0];
-            0
-        }
-        Checked::Refused(refusal, place) => {
-            *answer = [place as u64, 0];
-            grammar::number_of(refusal)
-        }
-    }
+    let found = grammar::check_tree(tree, list).map(|length| Done { length, count: 0 });
+    tell(found, answer)
 }
 
-// What a call that writes returns, and its two numbers.
-fn tell(made: Answer, answer: &mut [u64; 2]) -> u32
+// What a call returns, and its two numbers.
+fn tell(made: Result<Done, Refused>, answer: &mut [u64; 2]) -> u32
     ensures { (result ≡ code_of (answered made)) × (answer.new ≡ pair_of (answered made)) }
 {
     match made {
-        Answer::Done(length, count) => {
-            *answer = [length as u64, count as u64];
+        Ok(done) => {
+            *answer = [done.length as u64, done.count as u64];
             0
         }
-        Answer::Refused(refusal, place) => {
-            *answer = [place as u64, 0];
-            grammar::number_of(refusal)
+        Err(refused) => {
+            *answer = [refused.place as u64, 0];
+            u32::from(refused.refusal)
         }
     }
 }
@@ -97,14 +88,18 @@ pub extern "C" fn dts_depths(
         counts.old }
 {
     let mut table = [[0usize; COLUMNS]; ROWS];
-    let made = depth_counts::depths(tree, list, unresolved_context, out, diagnostics, &mut table);
-    match made {
-        Answer::Done(length, count) => {
-            *counts = in_one(table);
-            tell(Answer::Done(length, count), answer)
-        }
-        Answer::Refused(refusal, place) => tell(Answer::Refused(refusal, place), answer),
+    let counted = depth_counts::depths(
+        tree,
+        list,
+        unresolved_context,
+        out,
+        diagnostics,
+        &mut table,
+    );
+    if let Ok(_) = counted {
+        *counts = in_one(table);
     }
+    tell(counted, answer)
 }
 
 // `text`: 0 with the bytes of the text and 0 in `answer`, or the refusal's number with its place and 0 there.
@@ -114,12 +109,6 @@ pub extern "C" fn dts_text(tree: &[u8], out: &mut [u8], answer: &mut [u64; 2]) -
     ensures pair { answer.new ≡ pair_of (call_text tree.now out.old).answer }
     ensures output { out.new ≡ (call_text tree.now out.old).out }
 {
-    let made = declaration_text::text(tree, out);
-    match made {
-        declaration_text::Answer::Done(length) => tell(Answer::Done(length, 0), answer),
-        declaration_text::Answer::Refused(refusal, place) => tell(
-            Answer::Refused(refusal, place),
-            answer,
-        ),
-    }
+    let made = declaration_text::text(tree, out).map(|length| Done { length, count: 0 });
+    tell(made, answer)
 }

@@ -386,13 +386,12 @@ fn show_name(rt: &impl Print, raised: usize) -> io::Result<()> {
 // The next tree of the input, of at most 4,096 bytes, with its name; false where there is none.
 fn next_tree(rt: &(impl Input + Print), number: usize) -> io::Result<bool> {
     let mut buffer = [0u8; ROOM];
-    let read = console::read_framed(rt, &mut buffer)?;
-    if !read.whole {
+    let Some(length) = console::read_framed(rt, &mut buffer)? else {
         return Ok(false);
-    }
+    };
     show_name(rt, number)?;
     print(rt, b" ")?;
-    show_tree(rt, &buffer[..read.length])?;
+    show_tree(rt, &buffer[..length])?;
     Ok(true)
 }
 

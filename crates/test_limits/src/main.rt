@@ -2,12 +2,10 @@
 // list and one entry more. Each line is the check's answer, but the last: the call's on the longest tree.
 #![tactic(auto)]
 
-use console::{UNRESOLVED, front, print, print_done, print_number, print_refusal};
-use grammar::Checked;
+use console::{UNRESOLVED, front, print, print_done, print_refusal};
 use records::marks::{AR, IM, MO, OE, OP, PR, XE};
 use records::{ENTRY_SIZE, HEAD_SIZE, Head};
 use std::io;
-use transform_dts::Answer;
 
 const LONGEST_TREE: usize = 524288;
 
@@ -79,10 +77,8 @@ fn fill(tree: &mut [u8]) {
 fn nest(tree: &mut [u8], levels: usize) {
     let mut p = put(tree, 0, MO, 0, 1);
     p = put(tree, p, XE, 0, 1);
-    let mut n = levels;
-    while 0 < n {
+    for _ in 0..levels {
         p = put(tree, p, PR, 0, 1);
-        n -= 1;
     }
     put(tree, p, OE, 0, 0);
 }
@@ -90,11 +86,9 @@ fn nest(tree: &mut [u8], levels: usize) {
 // So many entries of an overload list, each from 0 to 0.
 fn entries(list: &mut [u8], count: usize) {
     let mut p: usize = 0;
-    let mut n = count;
-    while 0 < n {
+    for _ in 0..count {
         records::put2(list, p, OV);
         p = records::advance(p, ENTRY_SIZE);
-        n -= 1;
     }
 }
 
@@ -109,12 +103,8 @@ fn show_check(
 ) -> io::Result<()> {
     print(rt, what)?;
     match grammar::check_tree(front(tree, n), front(list, m)) {
-        Checked::Fine(end) => {
-            print(rt, b"accepted, ")?;
-            print_number(rt, end)?;
-            print(rt, b" bytes\n")
-        }
-        Checked::Refused(refusal, place) => print_refusal(rt, refusal, place),
+        Ok(end) => println!(rt; "accepted, {end} bytes"),
+        Err(refused) => print_refusal(rt, refused),
     }
 }
 
@@ -123,11 +113,11 @@ fn show_call(rt: &impl Print, what: &[u8], tree: &[u8], out: &mut [u8]) -> io::R
     print(rt, what)?;
     let mut diagnostics = [0u8; 0];
     match transform_dts::transform(tree, b"", UNRESOLVED, out, &mut diagnostics) {
-        Answer::Done(length, count) => {
-            print_done(rt, length, count)?;
+        Ok(done) => {
+            print_done(rt, done.length, done.count)?;
             print(rt, b"\n")
         }
-        Answer::Refused(refusal, place) => print_refusal(rt, refusal, place),
+        Err(refused) => print_refusal(rt, refused),
     }
 }
 

@@ -6,16 +6,13 @@
 // count, four bytes each. Where a length is more than the bytes that follow, any bytes do. `oracle answers` makes the cases.
 #![tactic(auto)]
 
-ghost use Rattle.std.specs.Prelude.{◌≤◌, IfOk};
-
-use console::{ROOM, front, front_mut, print, print_number, read_bytes};
+use console::replay::{fill, holds, is_refusal, number_at, replay};
+use console::{ROOM, front, front_mut, read_bytes};
 use depth_counts::table::{CELLS, COLUMNS, ROWS, Table};
+use grammar::Refused;
 use records::DIAGNOSTIC_SIZE;
 use std::io;
-use transform_dts::Answer;
-
-// The most cases that are read.
-const MOST: usize = 1000000;
+use transform_dts::Done;
 
 // The longest tree that is accepted and one byte more; the same of the list.
 const TREE: usize = 524289;
@@ -47,110 +44,33 @@ struct Case {
     cells: usize,
 }
 
-// Whether a case gave what the Rust gave: 0 or 1 differences; or 2, no case.
-const SAME: usize = 0;
-
-const DIFFERS: usize = 1;
-
-const END: usize = 2;
-
-fn print_case(rt: &impl Print, number: usize) -> io::Result<()> {
-    print(rt, b"case ")?;
-    print_number(rt, number)?;
-    print(rt, b" differs\n")
-}
-
-// The number at a place of the twelve; 0 where there is none.
-fn number_at(bytes: &[u8], at: usize) -> usize {
-    if bytes.len() < NUMBERS {
-        return 0;
-    }
-    if NUMBERS - 4 < at {
-        return 0;
-    }
-    records::u32_at(bytes, at) as usize
-}
-
-fn context_at(bytes: &[u8]) -> u32 {
-    if bytes.len() < NUMBERS {
-        return 0;
-    }
-    records::u32_at(bytes, 16)
+// The number of four bytes at a place, to count with.
+fn size_at(bytes: &[u8], at: usize) -> usize {
+    number_at(bytes, at) as usize
 }
 
 fn case_of(bytes: &[u8]) -> Case {
     Case {
-        tree_bytes: number_at(bytes, 0),
-        tree: number_at(bytes, 4),
-        list_bytes: number_at(bytes, 8),
-        list: number_at(bytes, 12),
-        unresolved: context_at(bytes),
-        out: number_at(bytes, 20),
-        diagnostics: number_at(bytes, 24),
-        number: number_at(bytes, 28),
-        first: number_at(bytes, 32),
-        second: number_at(bytes, 36),
-        depths: number_at(bytes, 40),
-        cells: number_at(bytes, 44),
+        tree_bytes: size_at(bytes, 0),
+        tree: size_at(bytes, 4),
+        list_bytes: size_at(bytes, 8),
+        list: size_at(bytes, 12),
+        unresolved: number_at(bytes, 16),
+        out: size_at(bytes, 20),
+        diagnostics: size_at(bytes, 24),
+        number: size_at(bytes, 28),
+        first: size_at(bytes, 32),
+        second: size_at(bytes, 36),
+        depths: size_at(bytes, 40),
+        cells: size_at(bytes, 44),
     }
-}
-
-// What a buffer holds before the call.
-fn noise(i: usize) -> u8 {
-    (i % 251) as u8
-}
-
-fn fill(buffer: &mut [u8]) {
-    let mut i = 0;
-    while i < buffer.len() {
-        buffer[i] = noise(i);
-        i += 1;
-    }
-}
-
-fn is_noise(buffer: &[u8], from: usize) -> bool {
-    let mut i = from;
-    while i < buffer.len() {
-        if buffer[i] != noise(i) {
-            return false;
-        }
-        i += 1;
-    }
-    true
-}
-
-// Whether a buffer begins with the first n bytes of what was expected, and holds the noise behind them.
-fn holds(buffer: &[u8], expected: &[u8], n: usize) -> bool {
-    if expected.len() < n {
-        return false;
-    }
-    if buffer.len() < n {
-        return false;
-    }
-    if !records::text::same_text(front(buffer, n), front(expected, n)) {
-        return false;
-    }
-    is_noise(buffer, n)
 }
 
 // Whether the answer is the one that is expected.
-fn is_answer(answer: Answer, case: Case) -> bool {
+fn is_answer(answer: Result<Done, Refused>, case: Case) -> bool {
     match answer {
-        Answer::Done(bytes, count) => {
-            if case.number != 0 {
-                return false;
-            }
-            if bytes != case.first {
-                return false;
-            }
-            count == case.second
-        }
-        Answer::Refused(refusal, place) => {
-            if case.number != grammar::number_of(refusal) as usize {
-                return false;
-            }
-            place == case.first
-        }
+        Ok(done) => case.number == 0 && done.length == case.first && done.count == case.second,
+        Err(refused) => is_refusal(refused, case.number, case.first),
     }
 }
 
@@ -188,10 +108,8 @@ fn cells_size(case: Case) -> usize {
 // What the table holds before the call.
 fn noise_table() -> Table {
     let mut table = [[0usize; COLUMNS]; ROWS];
-    let mut i = 0;
-    while i < CELLS {
+    for i in 0..CELLS {
         table[i / COLUMNS][i % COLUMNS] = 3 * i + 1;
-        i += 1;
     }
     table
 }
@@ -202,26 +120,13 @@ fn expected_table(case: Case, cells: &[u8]) -> Table {
         return noise_table();
     }
     let mut table = [[0usize; COLUMNS]; ROWS];
-    let mut at = 0;
-    while CELL <= cells.len() - at {
-        let place = records::u32_at(cells, at) as usize;
+    for cell in cells.chunks_exact(CELL) {
+        let place = size_at(cell, 0);
         if place < CELLS {
-            table[place / COLUMNS][place % COLUMNS] = records::u32_at(cells, at + 4) as usize;
+            table[place / COLUMNS][place % COLUMNS] = size_at(cell, 4);
         }
-        at += CELL;
     }
     table
-}
-
-fn same_table(a: Table, b: Table) -> bool {
-    let mut i = 0;
-    while i < CELLS {
-        if a[i / COLUMNS][i % COLUMNS] != b[i / COLUMNS][i % COLUMNS] {
-            return false;
-        }
-        i += 1;
-    }
-    true
 }
 
 // The call on a case, with the table compared where it has one.
@@ -241,10 +146,7 @@ fn answer_of(
     }
     let mut table = noise_table();
     let answer = depth_counts::depths(tree, list, case.unresolved, out, dia, &mut table);
-    if same_table(table, expected_table(case, front(cells, cells_size(case)))) {
-        return is_answer(answer, case);
-    }
-    false
+    table == expected_table(case, front(cells, cells_size(case))) && is_answer(answer, case)
 }
 
 // The same with both buffers compared.
@@ -260,13 +162,9 @@ fn call(
 ) -> bool {
     fill(out);
     fill(dia);
-    if !answer_of(case, tree, list, cells, out, dia) {
-        return false;
-    }
-    if !holds(out, output, written(case)) {
-        return false;
-    }
-    holds(dia, diagnostics, marked(case))
+    answer_of(case, tree, list, cells, out, dia)
+        && holds(out, output, written(case))
+        && holds(dia, diagnostics, marked(case))
 }
 
 // The same with the buffers cut to the lengths of the case.
@@ -310,75 +208,44 @@ fn compare(
     case: Case,
     tree: &[u8],
     list: &[u8],
-    number: usize,
-) -> io::Result<usize>
-    ensures { IfOk result (λ found. found ≤ 2) }
-{
+) -> io::Result<Option<bool>> {
     let mut output = [0u8; ROOM];
     let mut diagnostics = [0u8; ROOM];
     let mut cells = [0u8; CELLS_ROOM];
-    if !read_bytes(rt, &mut output, written(case))?.whole {
-        return Ok(END);
+    if read_bytes(rt, &mut output, written(case))?.is_none() {
+        return Ok(None);
     }
-    if !read_bytes(rt, &mut diagnostics, marked(case))?.whole {
-        return Ok(END);
+    if read_bytes(rt, &mut diagnostics, marked(case))?.is_none() {
+        return Ok(None);
     }
-    if !read_bytes(rt, &mut cells, cells_size(case))?.whole {
-        return Ok(END);
+    if read_bytes(rt, &mut cells, cells_size(case))?.is_none() {
+        return Ok(None);
     }
-    if call_cut(case, tree, list, &output, &diagnostics, &cells) {
-        return Ok(SAME);
-    }
-    print_case(rt, number)?;
-    Ok(DIFFERS)
+    Ok(Some(call_cut(case, tree, list, &output, &diagnostics, &cells)))
 }
 
-// The next case of the input, with its number.
+// The next case of the input: whether it gave what the Rust gave; `None` where there is no case.
 fn replay_one(
     rt: &(impl Input + Print),
     tree: &mut [u8],
     list: &mut [u8],
-    number: usize,
-) -> io::Result<usize>
-    ensures { IfOk result (λ found. found ≤ 2) }
-{
+) -> io::Result<Option<bool>> {
     let mut numbers = [0u8; NUMBERS];
-    if !read_bytes(rt, &mut numbers, NUMBERS)?.whole {
-        return Ok(END);
+    if read_bytes(rt, &mut numbers, NUMBERS)?.is_none() {
+        return Ok(None);
     }
     let case = case_of(&numbers);
-    if !read_bytes(rt, tree, case.tree_bytes)?.whole {
-        return Ok(END);
+    if read_bytes(rt, tree, case.tree_bytes)?.is_none() {
+        return Ok(None);
     }
-    if !read_bytes(rt, list, case.list_bytes)?.whole {
-        return Ok(END);
+    if read_bytes(rt, list, case.list_bytes)?.is_none() {
+        return Ok(None);
     }
-    compare(rt, case, tree, list, number)
-}
-
-fn show_counts(rt: &impl Print, cases: usize, differ: usize) -> io::Result<()> {
-    print_number(rt, cases)?;
-    print(rt, b" cases, ")?;
-    print_number(rt, differ)?;
-    print(rt, b" differ\n")
-}
-
-fn replay(rt: &(impl Input + Print), tree: &mut [u8], list: &mut [u8]) -> io::Result<()> {
-    let mut cases: usize = 0;
-    let mut differ: usize = 0;
-    while cases < MOST {
-        let found = replay_one(rt, tree, list, cases + 1)?;
-        if found == END {
-            return show_counts(rt, cases, differ);
-        }
-        cases += 1;
-        differ += found;
-    }
-    show_counts(rt, cases, differ)
+    compare(rt, case, tree, list)
 }
 
 fn main(rt: HostRuntime) -> io::Result<()> {
     let mut list = [0u8; LIST];
     let mut tree = [0u8; TREE];
-    replay(&rt, tree.as_mut_slice(), &mut list)
+    replay(&rt, || replay_one(&rt, tree.as_mut_slice(), &mut list))
 }

@@ -3,12 +3,8 @@
 // unresolved context.
 #![tactic(auto)]
 
-use console::{
-    FRAMED_ROOM, MOST, UNRESOLVED, front, print, print_done, print_number, print_refusal, unwritten,
-};
+use console::{FRAMED_ROOM, MOST, UNRESOLVED, front, print, print_done, print_refusal, unwritten};
 use std::io;
-use transform_dts::Answer;
-use transform_dts::twice::Twice;
 
 fn show_same(rt: &impl Print, first: &[u8], second: &[u8]) -> io::Result<()> {
     if first == second {
@@ -33,15 +29,16 @@ fn show_module(rt: &impl Print, tree: &[u8]) -> io::Result<()> {
         &mut others,
     );
     match both {
-        Twice::Refused(refusal, place) => print_refusal(rt, refusal, place),
-        Twice::Again(length, count, second) => {
-            print_done(rt, length, count)?;
+        Err(refused) => print_refusal(rt, refused),
+        Ok(twice) => {
+            let length = twice.first.length;
+            print_done(rt, length, twice.first.count)?;
             print(rt, b", again ")?;
-            match second {
-                Answer::Refused(refusal, place) => print_refusal(rt, refusal, place),
-                Answer::Done(n, k) => {
-                    print_done(rt, n, k)?;
-                    show_same(rt, front(&out, length), front(&again, n))
+            match twice.second {
+                Err(refused) => print_refusal(rt, refused),
+                Ok(second) => {
+                    print_done(rt, second.length, second.count)?;
+                    show_same(rt, front(&out, length), front(&again, second.length))
                 }
             }
         }
@@ -51,23 +48,19 @@ fn show_module(rt: &impl Print, tree: &[u8]) -> io::Result<()> {
 // The next module of the input, with its number; false where there is none.
 fn next_module(rt: &(impl Input + Print), number: usize) -> io::Result<bool> {
     let mut buffer = [0u8; FRAMED_ROOM];
-    let read = console::read_framed(rt, &mut buffer)?;
-    if !read.whole {
+    let Some(length) = console::read_framed(rt, &mut buffer)? else {
         return Ok(false);
-    }
-    print_number(rt, number)?;
-    print(rt, b" ")?;
-    show_module(rt, &buffer[..read.length])?;
+    };
+    print!(rt; "{number} ")?;
+    show_module(rt, &buffer[..length])?;
     Ok(true)
 }
 
 fn main(rt: HostRuntime) -> io::Result<()> {
-    let mut number: usize = 1;
-    while number <= MOST {
+    for number in 1..=MOST {
         if !next_module(&rt, number)? {
-            return Ok(());
+            break;
         }
-        number += 1;
     }
     Ok(())
 }

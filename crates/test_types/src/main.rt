@@ -249,13 +249,12 @@ fn show_module(rt: &impl Print, tree: &[u8]) -> io::Result<()> {
 // The next module of the input, with its number; false where there is none.
 fn next_module(rt: &(impl Input + Print), number: usize) -> io::Result<bool> {
     let mut buffer = [0u8; FRAMED_ROOM];
-    let read = console::read_framed(rt, &mut buffer)?;
-    if !read.whole {
+    let Some(length) = console::read_framed(rt, &mut buffer)? else {
         return Ok(false);
-    }
+    };
     print_number(rt, number)?;
     print(rt, b" ")?;
-    show_module(rt, &buffer[..read.length])?;
+    show_module(rt, &buffer[..length])?;
     Ok(true)
 }
 

@@ -3,7 +3,6 @@
 #![tactic(auto)]
 
 use console::{DIAGNOSTICS_ROOM, OUTPUT_ROOM, UNRESOLVED, print, print_refusal};
-use declaration_text::Answer;
 use std::io;
 
 // "text into 393,216 bytes".
@@ -12,8 +11,8 @@ const TEXT_ROOM: usize = 393216;
 fn show(rt: &impl Print, tree: &[u8]) -> io::Result<()> {
     let mut out = [0u8; TEXT_ROOM];
     match declaration_text::text(tree, &mut out) {
-        Answer::Done(length) => print(rt, &out[..length]),
-        Answer::Refused(refusal, place) => print_refusal(rt, refusal, place),
+        Ok(length) => print(rt, &out[..length]),
+        Err(refused) => print_refusal(rt, refused),
     }
 }
 
@@ -21,16 +20,15 @@ fn declare(rt: &impl Print, tree: &[u8]) -> io::Result<()> {
     let mut out = [0u8; OUTPUT_ROOM];
     let mut diagnostics = [0u8; DIAGNOSTICS_ROOM];
     match transform_dts::transform(tree, b"", UNRESOLVED, &mut out, &mut diagnostics) {
-        transform_dts::Answer::Done(length, count) => show(rt, &out[..length]),
-        transform_dts::Answer::Refused(refusal, place) => print_refusal(rt, refusal, place),
+        Ok(done) => show(rt, &out[..done.length]),
+        Err(refused) => print_refusal(rt, refused),
     }
 }
 
 fn main(rt: HostRuntime) -> io::Result<()> {
     let mut buffer = [0u8; console::TREE_ROOM];
-    let read = console::read_tree(&rt, &mut buffer)?;
-    if read.whole {
-        declare(&rt, &buffer[..read.length])?;
+    if let Some(length) = console::read_tree(&rt, &mut buffer)? {
+        declare(&rt, &buffer[..length])?;
     }
     Ok(())
 }

@@ -8,6 +8,7 @@ use lib.Dec.{leb}
 use lib.ListN.{length, take, drop, length-append}
 use lib.Seq.{length-take-le}
 use borrow.Author.Tests.{le-leb, lt-leb}
+use Rattle.std.specs.declared.result.Result.TheVariants.{Ok, Err}
 use Rattle.definition.specs.Tree.{Rec, encode}
 use Rattle.definition.specs.Record.{diags_bytes, Out}
 use Rattle.definition.specs.Transform.{done, texts_fit, over, written}
@@ -17,7 +18,6 @@ use Rattle.records.proofs.Wrote.{wrote_exact}
 use Rattle.grammar.specs.declared.Refusal.TheVariants.{OutputFull, DiagnosticsFull}
 use Rattle.typing.specs.declared.State.{State}
 use Rattle.parts.specs.Makes.{Makes}
-use Rattle.transform_dts.specs.declared.Answer.TheVariants.{Done, Refused}
 use Rattle.transform_dts.specs.Answers.{start, Gives}
 
 -- ---- what was written
@@ -61,12 +61,12 @@ module _ {o1 g1 : List ℕ} {r : State} {x : Out Rec} (dry : Makes [] o1 [] g1 s
   diags_kept = front-none g1 diags dry.step.ran.dia.same
 
   -- 9, "output longer than its buffer": a text that no head can hold (reading 20), or too many bytes
-  pub text_too_long : r.fits ≡ false → Gives (written x.0 x.1 out diags) (Refused OutputFull 0) (o1 ++ out) (g1 ++ diags)
+  pub text_too_long : r.fits ≡ false → Gives (written x.0 x.1 out diags) (Err (record { refusal = OutputFull; place = 0 })) (o1 ++ out) (g1 ++ diags)
   unfolding written
   text_too_long f = rw (texts, f) (record { answer = refl; output = out-kept; diagnostics = diags_kept })
 
   module _ (f : r.fits ≡ true) where
-    pub output_too_long : length out < r.written → Gives (written x.0 x.1 out diags) (Refused OutputFull 0) (o1 ++ out) (g1 ++ diags)
+    pub output_too_long : length out < r.written → Gives (written x.0 x.1 out diags) (Err (record { refusal = OutputFull; place = 0 })) (o1 ++ out) (g1 ++ diags)
     unfolding written
     output_too_long h =
         rw (texts, f, lt-leb (length (encode x.0)) (length out) (omega (arith, output-size)))
@@ -78,7 +78,7 @@ module _ {o1 g1 : List ℕ} {r : State} {x : Out Rec} (dry : Makes [] o1 [] g1 s
       output-fits = le-leb (length (encode x.0)) (length out) (omega (arith, output-size))
 
       -- 10, "diagnostics longer than theirs"
-      pub diagnostics_too_long : length diags < r.reported → Gives (written x.0 x.1 out diags) (Refused DiagnosticsFull 0) (o1 ++ out) (g1 ++ diags)
+      pub diagnostics_too_long : length diags < r.reported → Gives (written x.0 x.1 out diags) (Err (record { refusal = DiagnosticsFull; place = 0 })) (o1 ++ out) (g1 ++ diags)
       unfolding written
       diagnostics_too_long h =
           rw (texts, f, output-fits, lt-leb (length (diags_bytes x.1)) (length diags) (omega (arith, diags_size)))
@@ -87,7 +87,7 @@ module _ {o1 g1 : List ℕ} {r : State} {x : Out Rec} (dry : Makes [] o1 [] g1 s
       -- "Success returns bytes written and the diagnostic count; bytes beyond them are untouched"
       pub done-is : r.reported ≤ length diags → length diags < 2 ^ 63 → {o2 g2 : List ℕ} {s : State}
           → Makes (take r.written (o1 ++ out)) o2 (take r.reported (g1 ++ diags)) g2 start s x
-          → Gives (written x.0 x.1 out diags) (Done r.written (r.reported / 10)) (o2 ++ drop r.written (o1 ++ out)) (g2 ++ drop r.reported (g1 ++ diags))
+          → Gives (written x.0 x.1 out diags) (Ok (record { length = r.written; count = r.reported / 10 })) (o2 ++ drop r.written (o1 ++ out)) (g2 ++ drop r.reported (g1 ++ diags))
       unfolding written
       done-is m short' w =
           let n : r.written ≡ length (encode x.0) = omega (arith, output-size) in

@@ -1,5 +1,6 @@
 -- The call's answers in the terms of document 01.
-use Rattle.std.specs.Prelude.{ℕ, ◌≡◌, true, List}
+use Rattle.std.specs.Prelude.{ℕ, ◌≡◌, true, List, Ok, Err}
+use Rattle.std.specs.declared.result.Result as Code
 use Rattle.definition.specs.Tree.{Rec, tree_at}
 use Rattle.definition.specs.Check.{deepest}
 use Rattle.definition.specs.Record.{Out}
@@ -7,8 +8,8 @@ use Rattle.definition.specs.Transform.{done, refused, Result, transform, written
 use Rattle.definition.specs.Transform as Transform
 use Rattle.typing.specs.declared.State.{State}
 use Rattle.grammar.specs.Answers.{number}
-use Rattle.transform_dts.specs.declared.Answer.{Answer}
-use Rattle.transform_dts.specs.declared.Answer.TheVariants.{Done, Refused}
+use Rattle.grammar.specs.declared.Refused.{Refused}
+use Rattle.transform_dts.specs.declared.Done.{Done}
 
 -- where a run begins
 abbrev pub start : State
@@ -22,13 +23,13 @@ transformed list ctx tree = transform list ctx (tree_at deepest tree 0)
 abbrev pub written_of : List ℕ → ℕ → List ℕ → List ℕ → List ℕ → Result
 written_of list ctx tree out diags = written (transformed list ctx tree).0 (transformed list ctx tree).1 out diags
 
--- the answer that each case of the enum stands for
-abbrev pub answered : Answer → Transform.Answer
-answered (Done n k) = done n k
-answered (Refused r place) = refused (number r) place
+-- what the code's answer stands for
+abbrev pub answered : Code.Result Done Refused → Transform.Answer
+answered (Ok d) = done d.length d.count
+answered (Err r) = refused (number r.refusal) r.place
 
 -- a call gave the result x: the answer r, and these contents of both buffers
-pub record Gives (x : Result) (r : Answer) (out diags : List ℕ) : Type 0 where
+pub record Gives (x : Result) (r : Code.Result Done Refused) (out diags : List ℕ) : Type 0 where
   pub answer : answered r ≡ x.answer
   pub output : out ≡ x.out
   pub diagnostics : diags ≡ x.diagnostics

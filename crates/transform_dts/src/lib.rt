@@ -10,18 +10,18 @@ ghost use Rattle.prescan.specs.Table.{declaration_size, Indexed};
 ghost use Rattle.parts.specs.Makes.{Makes};
 ghost use Rattle.transform_dts.specs.Answers.{start, transformed, written_of, Gives};
 
-use grammar::{Checked, Refusal};
+use grammar::{Refusal, Refused};
 use prescan::{DECLARATION_SIZE, LARGE_TABLE, MIDDLE_TABLE, Scope};
 use records::{DEEPEST, DIAGNOSTIC_SIZE};
 use typing::State;
 
 pub mod twice;
 
-// "Success returns bytes written and the diagnostic count"; a refusal and its place.
-#[derive(Clone, Copy)]
-pub enum Answer {
-    Done(usize, usize),
-    Refused(Refusal, usize),
+// "Success returns bytes written and the diagnostic count"
+#[derive(Clone, Copy, PartialEq, Eq, Debug)]
+pub struct Done {
+    pub length: usize,
+    pub count: usize,
 }
 
 // The length of the table of names of a small tree.
@@ -82,7 +82,7 @@ fn dry_run_and_run(
     unresolved: u32,
     out: &mut [u8],
     diagnostics: &mut [u8],
-) -> Answer
+) -> Result<Done, Refused>
     requires { AcceptedAt deepest tree.now 0 × Indexed tree.now index.now }
     ensures { Gives (written_of list.now unresolved tree.now out.old diagnostics.old)
         result out.new diagnostics.new }
@@ -95,15 +95,23 @@ fn dry_run_and_run(
         &mut out[..0],
         &mut diagnostics[..0],
     );
-    let fits = dry.fits;
-    if !fits {
-        return Answer::Refused(Refusal::OutputFull, 0);
+    if !dry.fits {
+        return Err(Refused {
+            refusal: Refusal::OutputFull,
+            place: 0,
+        });
     }
     if out.len() < dry.written {
-        return Answer::Refused(Refusal::OutputFull, 0);
+        return Err(Refused {
+            refusal: Refusal::OutputFull,
+            place: 0,
+        });
     }
     if diagnostics.len() < dry.reported {
-        return Answer::Refused(Refusal::DiagnosticsFull, 0);
+        return Err(Refused {
+            refusal: Refusal::DiagnosticsFull,
+            place: 0,
+        });
     }
     transform_module(
         tree,
@@ -113,7 +121,10 @@ fn dry_run_and_run(
         &mut out[..dry.written],
         &mut diagnostics[..dry.reported],
     );
-    Answer::Done(dry.written, dry.reported / DIAGNOSTIC_SIZE)
+    Ok(Done {
+        length: dry.written,
+        count: dry.reported / DIAGNOSTIC_SIZE,
+    })
 }
 
 // The same, with a table for the index.
@@ -124,7 +135,7 @@ fn with_table(
     unresolved: u32,
     out: &mut [u8],
     diagnostics: &mut [u8],
-) -> Answer
+) -> Result<Done, Refused>
     requires accepted_at { AcceptedAt deepest tree.now 0 }
     requires tree_len_bound { length tree.now ≤ declaration_size * (length table.old / 2) }
     requires tree_len_bound_2 { length tree.now < farthest }
@@ -135,51 +146,21 @@ fn with_table(
     dry_run_and_run(tree, index, list, unresolved, out, diagnostics)
 }
 
-// The same, for a small tree.
-fn with_small_table(
+// The same, with a new table of N numbers.
+fn with_new_table<const N: usize>(
     tree: &[u8],
     list: &[u8],
     unresolved: u32,
     out: &mut [u8],
     diagnostics: &mut [u8],
-) -> Answer
-    requires { AcceptedAt deepest tree.now 0 × (length tree.now ≤ declaration_size * 64) }
+) -> Result<Done, Refused>
+    requires accepted_at { AcceptedAt deepest tree.now 0 }
+    requires tree_len_bound { length tree.now ≤ declaration_size * (N / 2) }
+    requires table_bound { N ≤ 16384 }
     ensures { Gives (written_of list.now unresolved tree.now out.old diagnostics.old)
         result out.new diagnostics.new }
 {
-    let mut table = [0u32; SMALL_TABLE];
-    with_table(tree, &mut table, list, unresolved, out, diagnostics)
-}
-
-// The same, for a larger one.
-fn with_middle_table(
-    tree: &[u8],
-    list: &[u8],
-    unresolved: u32,
-    out: &mut [u8],
-    diagnostics: &mut [u8],
-) -> Answer
-    requires { AcceptedAt deepest tree.now 0 × (length tree.now ≤ declaration_size * 1024) }
-    ensures { Gives (written_of list.now unresolved tree.now out.old diagnostics.old)
-        result out.new diagnostics.new }
-{
-    let mut table = [0u32; MIDDLE_TABLE];
-    with_table(tree, &mut table, list, unresolved, out, diagnostics)
-}
-
-// The same, for every tree.
-fn with_large_table(
-    tree: &[u8],
-    list: &[u8],
-    unresolved: u32,
-    out: &mut [u8],
-    diagnostics: &mut [u8],
-) -> Answer
-    requires { AcceptedAt deepest tree.now 0 × (length tree.now ≤ declaration_size * 8192) }
-    ensures { Gives (written_of list.now unresolved tree.now out.old diagnostics.old)
-        result out.new diagnostics.new }
-{
-    let mut table = [0u32; LARGE_TABLE];
+    let mut table = [0u32; N];
     with_table(tree, &mut table, list, unresolved, out, diagnostics)
 }
 
@@ -190,18 +171,18 @@ fn accepted(
     unresolved: u32,
     out: &mut [u8],
     diagnostics: &mut [u8],
-) -> Answer
+) -> Result<Done, Refused>
     requires { AcceptedAt deepest tree.now 0 × (length tree.now ≤ longest_tree) }
     ensures { Gives (written_of list.now unresolved tree.now out.old diagnostics.old)
         result out.new diagnostics.new }
 {
     if tree.len() <= DECLARATION_SIZE * (SMALL_TABLE / 2) {
-        return with_small_table(tree, list, unresolved, out, diagnostics);
+        return with_new_table::<SMALL_TABLE>(tree, list, unresolved, out, diagnostics);
     }
     if tree.len() <= DECLARATION_SIZE * (MIDDLE_TABLE / 2) {
-        return with_middle_table(tree, list, unresolved, out, diagnostics);
+        return with_new_table::<MIDDLE_TABLE>(tree, list, unresolved, out, diagnostics);
     }
-    with_large_table(tree, list, unresolved, out, diagnostics)
+    with_new_table::<LARGE_TABLE>(tree, list, unresolved, out, diagnostics)
 }
 
 // The exported call, for every two byte strings, every context and all buffers: the answer and both buffers are the definition's `call`.
@@ -211,12 +192,10 @@ pub fn transform(
     unresolved_context: u32,
     out: &mut [u8],
     diagnostics: &mut [u8],
-) -> Answer
+) -> Result<Done, Refused>
     ensures { Gives (call tree.now list.now unresolved_context out.old diagnostics.old)
         result out.new diagnostics.new }
 {
-    match grammar::check_tree(tree, list) {
-        Checked::Refused(refusal, place) => Answer::Refused(refusal, place),
-        Checked::Fine(end) => accepted(tree, list, unresolved_context, out, diagnostics),
-    }
+    grammar::check_tree(tree, list)?;
+    accepted(tree, list, unresolved_context, out, diagnostics)
 }

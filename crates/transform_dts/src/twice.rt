@@ -4,14 +4,14 @@ ghost use Rattle.definition.specs.Transform.{call};
 ghost use Rattle.transform_dts.specs.Answers.{Gives};
 ghost use Rattle.transform_dts.specs.Twice.{first_of, GivesAgain, Same};
 
-use crate::{Answer, transform};
-use grammar::Refusal;
+use crate::{Done, transform};
+use grammar::Refused;
 
-// What the first call refused; or its counts, and what the second call answered.
-#[derive(Clone, Copy)]
-pub enum Twice {
-    Refused(Refusal, usize),
-    Again(usize, usize, Answer),
+// What a call wrote, and what the call on that answered.
+#[derive(Clone, Copy, PartialEq, Eq, Debug)]
+pub struct Twice {
+    pub first: Done,
+    pub second: Result<Done, Refused>,
 }
 
 // "The second call reads exactly the bytes that the first wrote": a call, and where it succeeds one on what it wrote, into other buffers.
@@ -23,7 +23,7 @@ pub fn transform_twice(
     diagnostics: &mut [u8],
     again: &mut [u8],
     others: &mut [u8],
-) -> Twice
+) -> Result<Twice, Refused>
     ensures first { Gives (call tree.now list.now unresolved_context out.old diagnostics.old)
         (first_of result) out.new diagnostics.new }
     ensures second { GivesAgain list.now unresolved_context out.new again.old others.old
@@ -32,12 +32,13 @@ pub fn transform_twice(
         out.old diagnostics.old again.old others.old
         → Same tree.now list.now unresolved_context result out.new again.new }
 {
-    let first = transform(tree, list, unresolved_context, out, diagnostics);
-    match first {
-        Answer::Done(length, count) => {
-            let second = transform(&out[..length], list, unresolved_context, again, others);
-            Twice::Again(length, count, second)
-        }
-        Answer::Refused(refusal, place) => Twice::Refused(refusal, place),
-    }
+    let first = transform(tree, list, unresolved_context, out, diagnostics)?;
+    let second = transform(
+        &out[..first.length],
+        list,
+        unresolved_context,
+        again,
+        others,
+    );
+    Ok(Twice { first, second })
 }

@@ -5,5 +5,5 @@ use Rattle.definition.proofs.Children.{root-accepted}
 use Rattle.grammar.specs.Answers.{checked}
 use Rattle.console.proofs.print_check.Goals as goal
 
-pub returns-in_ok-print-in-Fine : goal.returns-in_ok-print-in-Fine
-returns-in_ok-print-in-Fine g c = let fine = sym c.check_tree.ensures ∙ ap checked c.in-Fine.is in λ _. (root-accepted _ _ _ fine, (accepted-tree _ _ _ fine).0.short)
+pub returns-in_ok-println-in-Ok : goal.returns-in_ok-println-in-Ok
+returns-in_ok-println-in-Ok g c = let fine = sym c.check_tree.ensures ∙ ap checked c.in-Ok.is in λ _. (root-accepted _ _ _ fine, (accepted-tree _ _ _ fine).0.short)

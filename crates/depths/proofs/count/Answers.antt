@@ -4,4 +4,4 @@ use Rattle.depth_counts.proofs.Whole.{counted_small}
 use Rattle.depths.proofs.count.Goals as goal
 
 pub total-requires : goal.total-requires
-total-requires g c = omega (arith, counted_small _ _ _ _ _ _ c.shared_slice_known-1.given c.depths.ensures c.in-Done.is)
+total-requires g c = omega (arith, counted_small _ _ _ _ _ _ c.shared_slice_known-1.given c.depths.ensures c.in-Ok.is)

@@ -1,13 +1,10 @@
 -- `dts_text` meets its contract: both numbers and the buffer are those of the call.
-use Rattle.dts.proofs.Codes.{text-done, text-refused}
+use Rattle.std.proofs.Common.{rules}
+use Rattle.dts.proofs.Codes.{text-answered, coded-text}
 use Rattle.dts.proofs.dts_text.Goals as goal
 
-pub returns-in-Done : goal.returns-in-Done
-returns-in-Done c =
-    let z = text-done _ c.text-made.ensures c.in-Done.is c.tell.ensures in
-    record { number = z.0; pair = z.1.0; output = z.1.1 }
-
-pub returns-in-Refused : goal.returns-in-Refused
-returns-in-Refused c =
-    let z = text-refused _ c.text-made.ensures c.in-Refused.is c.tell-in-Refused.ensures in
+pub returns : goal.returns
+returns c =
+    let e = text-answered (λ n d k. search rules) c.text.result c.map-made.result c.map-made.ensures.cases in
+    let z = coded-text _ c.text.ensures _ e c.tell.ensures in
     record { number = z.0; pair = z.1.0; output = z.1.1 }

@@ -4,14 +4,14 @@ use borrow.Author.Tests.{not-true, not-false}
 use Rattle.transform_dts.proofs.Runs.{part_length, text_too_long, output_too_long, diagnostics_too_long, done-is}
 use Rattle.transform_dts.proofs.dry_run_and_run.Goals as goal
 
-pub returns-then-not-fits : goal.returns-then-not-fits
-returns-then-not-fits c = text_too_long c.transform_module-dry.ensures _ _ c.if-not-fits.true
+pub returns-then-not-dry : goal.returns-then-not-dry
+returns-then-not-dry c = text_too_long c.transform_module-dry.ensures _ _ (not-true _ c.if-not-dry.true)
 
 pub returns-then-out-dry : goal.returns-then-out-dry
-returns-then-out-dry c = output_too_long c.transform_module-dry.ensures _ _ c.if-not-fits.false (omega arith)
+returns-then-out-dry c = output_too_long c.transform_module-dry.ensures _ _ (not-false _ c.if-not-dry.false) (omega arith)
 
 pub returns-then-diagnostics-dry : goal.returns-then-diagnostics-dry
-returns-then-diagnostics-dry c = diagnostics_too_long c.transform_module-dry.ensures _ _ c.if-not-fits.false (omega arith) (omega (arith, c.well_formed)) (omega arith)
+returns-then-diagnostics-dry c = diagnostics_too_long c.transform_module-dry.ensures _ _ (not-false _ c.if-not-dry.false) (omega arith) (omega (arith, c.well_formed)) (omega arith)
 
 pub slice_bounds-transform_module-end-6 : goal.slice_bounds-transform_module-end-6
 slice_bounds-transform_module-end-6 c = omega (arith, part_length c.transform_module-dry.result.written c.transform_module-dry.new.out c.args.out.now (omega arith))
@@ -20,4 +20,4 @@ pub slice_bounds-transform_module-end-8 : goal.slice_bounds-transform_module-end
 slice_bounds-transform_module-end-8 c = omega (arith, part_length c.transform_module-dry.result.reported c.transform_module-dry.new.diagnostics c.args.diagnostics.now (omega arith))
 
 pub returns : goal.returns
-returns c = done-is c.transform_module-dry.ensures _ _ c.if-not-fits.false (omega (arith, c.if-out-dry.false)) (omega (arith, c.well_formed)) (omega (arith, c.if-diagnostics-dry.false)) (omega (arith, c.well_formed)) c.transform_module.ensures
+returns c = done-is c.transform_module-dry.ensures _ _ (not-false _ c.if-not-dry.false) (omega (arith, c.if-out-dry.false)) (omega (arith, c.well_formed)) (omega (arith, c.if-diagnostics-dry.false)) (omega (arith, c.well_formed)) c.transform_module.ensures

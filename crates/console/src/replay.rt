@@ -1,0 +1,69 @@
+// What the test programs share that replay answers: numbers of four bytes, buffers filled with noise, and the loop over the cases.
+use crate::front;
+use grammar::Refused;
+use std::io;
+
+// The most cases that are read.
+const MOST: usize = 1000000;
+
+// The number of four bytes at a place; 0 where there is none.
+pub fn number_at(bytes: &[u8], at: usize) -> u32 {
+    if bytes.len() < 4 {
+        return 0;
+    }
+    if bytes.len() - 4 < at {
+        return 0;
+    }
+    records::u32_at(bytes, at)
+}
+
+// What a buffer holds before the call, by the place.
+fn noise(i: usize) -> u8 {
+    (i % 251) as u8
+}
+
+pub fn fill(buffer: &mut [u8]) {
+    for (i, b) in buffer.iter_mut().enumerate() {
+        *b = noise(i);
+    }
+}
+
+// Whether a buffer begins with the first n bytes of what was expected, and holds the noise behind them.
+pub fn holds(buffer: &[u8], expected: &[u8], n: usize) -> bool {
+    n <= expected.len()
+        && n <= buffer.len()
+        && front(buffer, n) == front(expected, n)
+        && buffer
+            .iter()
+            .enumerate()
+            .skip(n)
+            .all(|(i, b)| *b == noise(i))
+}
+
+// Whether a refusal is the one that a case expects.
+pub fn is_refusal(refused: Refused, number: usize, place: usize) -> bool {
+    u32::from(refused.refusal) as usize == number && refused.place == place
+}
+
+// Replays the cases of standard input and counts those that differ. `next` reads the next one: whether it gave what it expects; `None` where there is
+// none.
+pub fn replay<F: FnMut() -> io::Result<Option<bool>>>(
+    rt: &impl Print,
+    mut next: F,
+) -> io::Result<()>
+    requires { F.IsAlwaysCallable next }
+{
+    let mut cases: usize = 0;
+    let mut differ: usize = 0;
+    for number in 1..=MOST {
+        let Some(same) = next()? else {
+            break;
+        };
+        cases = number;
+        if !same {
+            println!(rt; "case {number} differs")?;
+            differ += 1;
+        }
+    }
+    println!(rt; "{cases} cases, {differ} differ")
+}
