@@ -1,3 +1,2 @@
-mod Table
 pub mod Decimals
 mod Keys

@@ -1,24 +1,23 @@
--- `names::symbols::is_well_known` meets its contract: none of the names before k is the symbol.
-use mathlib.Core.Path.{◌≡◌, refl, sym, ◌∙◌}
-use native.Mathlib.Omega.{arith}
-use Rattle.definition.specs.Names.{well_known_symbol_names}
-use Rattle.names.proofs.Table.{names-long, any_here, any_next, any-end}
+-- `symbols::is_well_known` meets its contract: the names of the code are those of the definition, and `any` asks what `any_text` asks.
+use Rattle.std.proofs.Common.{rules, tests, ◌≡◌, ℕ, List, [], ◌∷◌, map, refl, ap, ◌∙◌, Bor}
+use Rattle.std.specs.List.{list_any}
+use Rattle.std.proofs.lemmas.Iterator.{YieldsList-from_slice}
+use Rattle.std.proofs.lemmas.Iterator.Search.{any_from_yields_List}
+use Rattle.definition.specs.Record.{same_text}
+use Rattle.definition.specs.Names.{well_known_symbol_names, any_text}
 use Rattle.names.proofs.symbols.is_well_known.Goals as goal
 
-pub loop-k-init : goal.loop-k-init
-loop-k-init c = (omega arith, refl)
+abbrev texts : List (Bor (List ℕ)) → List (List ℕ)
+texts ns = map (λ (n : Bor (List ℕ)). n.now) ns
 
-pub returns-then-is_name : goal.returns-then-is_name
-returns-then-is_name c = sym (c.loop-k.invariant.1 ∙ any_here c.args.symbol.now well_known_symbol_names c.loop-k.k (omega (arith, names-long)) (sym c.is_name.ensures ∙ c.if-is_name.true))
-
-pub overflow_add-k : goal.overflow_add-k
-overflow_add-k c = omega arith
-
-pub loop-k-smaller : goal.loop-k-smaller
-loop-k-smaller c = omega arith
-
-pub loop-k-preserved : goal.loop-k-preserved
-loop-k-preserved c = (omega arith, c.loop-k.invariant.1 ∙ any_next c.args.symbol.now well_known_symbol_names c.loop-k.k (omega (arith, names-long)) (sym c.is_name.ensures ∙ c.if-is_name.false))
+any_is : (t : List ℕ) (ns : List (Bor (List ℕ))) → list_any (λ n. same_text n.now t) ns ≡ any_text (texts ns) t
+unfolding any_text
+any_is t [] = refl
+any_is t (n ∷ ns) = rw (any_is t ns) refl
 
 pub returns : goal.returns
-returns c = let z : c.loop-k.k ≡ 16 = omega arith in sym (c.loop-k.invariant.1 ∙ rw z (any-end c.args.symbol.now))
+unfolding well_known_symbol_names
+returns c =
+    let t = c.args.symbol.now in
+    any_from_yields_List (λ n. same_text n.now t) _ _ _ c.any.ensures.ran (YieldsList-from_slice c.iter.result.rest.now refl) (λ x b q k. search (rules, tests))
+    ∙ (any_is t c.iter.result.rest.now ∙ ap (λ ns. any_text (texts ns) t) c.iter.ensures.rest)
