@@ -40,7 +40,10 @@ fn put_prop_name(
     requires { AcceptedAt levels tree.now at }
     ensures { Named out.old out.new s result (valid_prop_name unresolved (tree_at levels tree.now at)) }
 {
-    match names::valid_prop_name(tree, at, levels, unresolved) {
+    let Some(name) = names::valid_prop_name(tree, at, levels, unresolved) else {
+        return Typed::None(s);
+    };
+    match name {
         Key::Stands(key, levels) => Typed::Some(keep(tree, key, levels, out, s)),
         Key::Computed(expr, levels) => {
             let range = records::range_at(tree, expr);
@@ -48,7 +51,6 @@ fn put_prop_name(
             front.written = put_made_front(KC, 0, range, 1, out, s.written);
             Typed::Some(keep(tree, expr, levels, out, front))
         }
-        Key::Nothing => Typed::None(s),
     }
 }
 

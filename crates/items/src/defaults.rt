@@ -15,7 +15,7 @@ use crate::decls::{bodiless, with_class};
 use crate::vars::readonly;
 use classes::overloads::is_impl_with_overloads;
 use names::unique;
-use names::unique::Made;
+use names::unique::Names;
 use parts::frame::{begin, finish, passed};
 use parts::{keep, keep_all, put_front};
 use prescan::Scope;
@@ -103,15 +103,16 @@ pub fn export_default_decl(
     }
 }
 
-// "a declared const, named _dts_1 at the first", before its type: the counter `n` is raised.
-fn put_const_front(n: usize, out: &mut [u8], p: usize) -> Made
-    requires { n + 1 < 2 ^ 64 }
-    ensures { (result.id_counter ≡ n + 1) × Put out.old out.new p (const_front (n + 1)) result.written }
+// "a declared const, named _dts_1 at the first", before its type: the counter is raised.
+fn put_const_front(names: &mut Names, out: &mut [u8], p: usize) -> usize
+    requires { names.old.id_counter + 1 < 2 ^ 64 }
+    ensures { (names.new.id_counter ≡ names.old.id_counter + 1)
+        × Put out.old out.new p (const_front (names.old.id_counter + 1)) result }
 {
     let q = put_made_front(VD, DECLARE + CONST, DUMMY_SP, 1, out, p);
     let r = put_made_front(VR, 0, DUMMY_SP, 2, out, q);
     let t = put_made_front(BD, 0, DUMMY_SP, 2, out, r);
-    unique::make_unique_ident(DUMMY_SP, n, out, t)
+    names.make_unique_ident(DUMMY_SP, out, t)
 }
 
 // The Xe at `at` with the generated name for its expression; `rest` is what stands behind that.
@@ -155,11 +156,12 @@ pub fn export_default_expr(
         let next = keep(tree, at, levels, out, s);
         return Counted { s: next, count: 1 };
     }
-    let named = put_const_front(s.counter, out, s.written);
-    let counter = named.id_counter;
+    let mut names = Names {
+        id_counter: s.counter,
+    };
     let mut front = s;
-    front.counter = counter;
-    front.written = named.written;
+    front.written = put_const_front(&mut names, out, s.written);
+    front.counter = names.id_counter;
     match typing::expr_to_ts_type(
         tree,
         expr,
@@ -174,7 +176,7 @@ pub fn export_default_expr(
             let mut bare = typed;
             bare.written = put_absent(out, typed.written);
             let rest = record_end(tree, expr, levels - 1);
-            let next = put_default_name(tree, at, rest, levels, counter, out, bare);
+            let next = put_default_name(tree, at, rest, levels, front.counter, out, bare);
             Counted { s: next, count: 2 }
         }
         Typed::None(failed) => {

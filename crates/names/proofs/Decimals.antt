@@ -5,6 +5,7 @@ use mathlib.Core.Bool.{Bool, true, false, cond}
 use Prim.Native.Nat.{ℕ, zero, suc, ◌+◌, ◌*◌, ◌/◌, ◌%◌, ◌≤◌, ◌<◌, ◌^◌}
 use native.Mathlib.Decide.{dec_lt}
 use native.Mathlib.Omega.{arith}
+use native.Mathlib.Nat.{pow-suc}
 use lib.Dec.{ltb}
 use lib.ListN.{length, length-append}
 use borrow.Author.Tests.{lt-ltb, le-ltb, ltb-false}
@@ -39,6 +40,14 @@ length-one n h = ap length (decimal-one n h)
 pub length_more : (n : ℕ) → 10 ≤ n → length (decimal n) ≡ length (decimal (n / 10)) + 1
 length_more n h = ap length (decimal-more n h) ∙ length-append (decimal (n / 10)) (digit (n % 10) ∷ [])
 
+-- one more than its decimal logarithm
+pub length-log : (k n : ℕ) → 10 ^ k ≤ n → n < 10 * 10 ^ k → length (decimal n) ≡ k + 1
+length-log zero n l h = length-one n (omega arith)
+length-log (suc k) n l h =
+    let p : 10 ^ suc k ≡ 10 * 10 ^ k = omega (arith, pow-suc 10 k) in
+    let f : length (decimal (n / 10)) ≡ k + 1 = length-log k (n / 10) (omega arith) (omega arith) in
+    omega (arith, length_more n (omega arith))
+
 unfoldable tens : ℕ → ℕ
 tens zero = 1
 tens (suc k) = 10 * tens k
@@ -56,21 +65,6 @@ few (suc k) n h = go (dec_lt n 10) (few k (n / 10) (omega arith))
 pub at_most_twenty : (n : ℕ) → n < 2 ^ 64 → length (decimal n) ≤ 20
 unfolding tens
 at_most_twenty n h = few 19 n (omega arith)
-
--- ---- a loop that counts them: of n, `rest` is left, and `digits` were counted, the last one with them
-
-pub record Counted (n rest digits : ℕ) : Type 0 where
-  pub sum : digits + length (decimal rest) ≡ length (decimal n) + 1
-  pub bound : digits + rest ≤ n + 1
-
-pub count-start : (n : ℕ) → Counted n n 1
-count-start n = record { sum = omega arith; bound = omega arith }
-
-pub count_turn : (n rest digits : ℕ) → Counted n rest digits → 10 ≤ rest → Counted n (rest / 10) (digits + 1)
-count_turn n rest digits c h = record { sum = omega (arith, c.sum, length_more rest h); bound = omega (arith, c.bound) }
-
-pub count-done : (n rest digits : ℕ) → Counted n rest digits → rest < 10 → digits ≡ length (decimal n)
-count-done n rest digits c h = omega (arith, c.sum, length-one rest h)
 
 -- ---- the name
 

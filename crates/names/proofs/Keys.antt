@@ -19,9 +19,10 @@ use Rattle.definition.proofs.Kids.{fixed, Child, placed, mark-is, text-is, kids_
 use Rattle.records.specs.Texts.{is_global_name}
 use Rattle.names.specs.Keys.{is_well_known_member, only_expression, KeyIs}
 use Rattle.names.specs.declared.Key.{Key}
+use Rattle.std.specs.Prelude.{Option as Answer}
 
 -- an answer for another that is equal
-pub key-as : {s : List ℕ} {r : Key} {k j : Option Rec} → KeyIs s r k → j ≡ k → KeyIs s r j
+pub key-as : {s : List ℕ} {r : Answer Key} {k j : Option Rec} → KeyIs s r k → j ≡ k → KeyIs s r j
 key-as h e = record { key = h.key ∙ sym e; accepted = h.accepted }
 
 -- ---- `is_well_known_symbol_expr`
@@ -96,19 +97,12 @@ module _ {levels : ℕ} {s : List ℕ} {at : ℕ} (a : AcceptedAt levels s at) {
       only-by =
           rw (kids-read ∙ read_all_more (tree_at (levels - 1) s) (end_at (levels - 1) s) n (body_at s at) some-kid, sym pq, mark-is (levels - 1) s p, sym wq)
 
-      pub only-quasi : w ≡ mark "Qu" → only_expression (kids_of (tree_at levels s at)) ≡ false
-      only-quasi e = only-by ∙ rw (eq-eqb w (mark "Qu") e)
+      pub only-marked : (w ≡ mark "Op") ⊎ (w ≡ mark "Qu") → only_expression (kids_of (tree_at levels s at)) ≡ false
+      only-marked h = only-by ∙ ⊎_elim (λ (e : w ≡ mark "Op"). rw e) (λ (e : w ≡ mark "Qu"). rw e) h
 
-      pub only-ops : w ≡ mark "Op" → only_expression (kids_of (tree_at levels s at)) ≡ false
-      only-ops e = only-by ∙ go (eqb w (mark "Qu"))
-        where
-          go : (b : Bool) → ((not b && not (eqb w (mark "Op"))) && ends (others levels s n p)) ≡ false
-          go true = refl
-          go false = rw (eq-eqb w (mark "Op") e)
-
-      module _ (u : w ≡ mark "Qu" → ⊥) (o : w ≡ mark "Op" → ⊥) where
+      module _ (k : (w ≡ mark "Op") ⊎ (w ≡ mark "Qu") → ⊥) where
         only-ends : only_expression (kids_of (tree_at levels s at)) ≡ ends (others levels s n p)
-        only-ends = only-by ∙ rw (ne_eqb w (mark "Qu") u, ne_eqb w (mark "Op") o)
+        only-ends = only-by ∙ rw (ne_eqb w (mark "Qu") (λ e. k (inr e)), ne_eqb w (mark "Op") (λ e. k (inl e)))
 
         pub only_one : n ≡ 1 → only_expression (kids_of (tree_at levels s at)) ≡ true
         only_one e = only-ends ∙ rw (read_all_none (tree_at (levels - 1) s) (end_at (levels - 1) s) (n - 1) (end_at (levels - 1) s p) (omega arith))
@@ -135,7 +129,7 @@ only-there : (levels : ℕ) (s : List ℕ) (at : ℕ) → AcceptedAt levels s at
 only-there levels s at a h = go (count_at s at) refl
   where
     go : (k : ℕ) → count_at s at ≡ k → 0 < k
-    go zero e = absurd (let f = only_none a (sym e) refl in let y : ◌≡◌ {A = ℕ} 0 1 = cc (h, f) in omega arith)
+    go zero e = absurd (cc (h, only_none a (sym e) refl))
     go (suc k) e = omega arith
 
 -- ---- `prop_name_from_expr`

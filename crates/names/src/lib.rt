@@ -16,13 +16,11 @@ pub mod generated;
 pub mod symbols;
 pub mod unique;
 
-// `Option<PropName>`: the record that stands as the key, or the one over which a fresh Kc is made, each by its offset and the levels left for
-// it; or no key.
+// `PropName`: the record that stands as the key, or the one over which a fresh Kc is made, each by its offset and the levels left for it.
 #[derive(Clone, Copy)]
 pub enum Key {
     Stands(usize, usize),
     Computed(usize, usize),
-    Nothing,
 }
 
 // `is_well_known_symbol_expr`
@@ -34,14 +32,14 @@ pub fn is_well_known_symbol_expr(tree: &[u8], at: usize, levels: usize, unresolv
         return false;
     }
     let object = body_at(tree, at);
-    if is_global(tree, object, levels - 1, unresolved, b"Symbol") {
-        let property = record_end(tree, object, levels - 1);
-        if mark_at(tree, property) != KI {
-            return false;
-        }
-        return symbols::is_well_known(text_at(tree, property));
+    if !is_global(tree, object, levels - 1, unresolved, b"Symbol") {
+        return false;
     }
-    false
+    let property = record_end(tree, object, levels - 1);
+    if mark_at(tree, property) != KI {
+        return false;
+    }
+    symbols::is_well_known(text_at(tree, property))
 }
 
 // `e.quasis.is_empty() && e.exprs.len() == 1`: whether the children at `at` are one expression, but for Ops at the end.
@@ -54,12 +52,9 @@ fn is_one_expression(tree: &[u8], at: usize, levels: usize) -> bool
         return false;
     }
     let first = body_at(tree, at);
-    let mark = mark_at(tree, first);
-    if mark == QU {
-        return false;
-    }
-    if mark == OP {
-        return false;
+    match mark_at(tree, first) {
+        QU | OP => return false,
+        _ => {}
     }
     if n == 1 {
         return true;
@@ -68,17 +63,18 @@ fn is_one_expression(tree: &[u8], at: usize, levels: usize) -> bool
 }
 
 // `prop_name_from_expr`
-fn prop_name_from_expr(tree: &[u8], at: usize, levels: usize, unresolved: u32) -> Key
+fn prop_name_from_expr(tree: &[u8], at: usize, levels: usize, unresolved: u32) -> Option<Key>
     requires { AcceptedAt levels tree.now at }
     ensures { KeyIs tree.now result (prop_name_from_expr (tree_at levels tree.now at) unresolved) }
 {
     match mark_at(tree, at) {
-        SS | NU | BI => Key::Stands(at, levels),
+        SS | NU | BI => Some(Key::Stands(at, levels)),
         TE => {
             if is_one_expression(tree, at, levels) {
-                return prop_name_from_expr(tree, body_at(tree, at), levels - 1, unresolved);
+                prop_name_from_expr(tree, body_at(tree, at), levels - 1, unresolved)
+            } else {
+                None
             }
-            Key::Nothing
         }
         PR | TA | TC | NN | AS | TS => prop_name_from_expr(
             tree,
@@ -86,24 +82,25 @@ fn prop_name_from_expr(tree: &[u8], at: usize, levels: usize, unresolved: u32) -
             levels - 1,
             unresolved,
         ),
-        ID => Key::Computed(at, levels),
+        ID => Some(Key::Computed(at, levels)),
         MB => {
             if is_well_known_symbol_expr(tree, at, levels, unresolved) {
-                return Key::Computed(at, levels);
+                Some(Key::Computed(at, levels))
+            } else {
+                None
             }
-            Key::Nothing
         }
-        _ => Key::Nothing,
+        _ => None,
     }
 }
 
 // `valid_prop_name`: "Ki, Ss, Nu, Bi stand"; of a Kc what its expression gives.
-pub fn valid_prop_name(tree: &[u8], at: usize, levels: usize, unresolved: u32) -> Key
+pub fn valid_prop_name(tree: &[u8], at: usize, levels: usize, unresolved: u32) -> Option<Key>
     requires { AcceptedAt levels tree.now at }
     ensures { KeyIs tree.now result (valid_prop_name unresolved (tree_at levels tree.now at)) }
 {
     if mark_at(tree, at) == KC {
         return prop_name_from_expr(tree, body_at(tree, at), levels - 1, unresolved);
     }
-    Key::Stands(at, levels)
+    Some(Key::Stands(at, levels))
 }

@@ -11,6 +11,7 @@ ghost use Rattle.std.specs.Prelude.{◌≡◌};
 
 use console::{MOST, ROOM, UNRESOLVED, front, print, print_hex, print_number};
 use names::Key;
+use names::unique::Names;
 use prescan::LARGE_TABLE;
 use records::DUMMY_SP;
 use records::marks::{
@@ -124,7 +125,9 @@ fn show_key(rt: &impl Print, tree: &[u8], at: usize, levels: usize) -> io::Resul
     requires { AcceptedAt levels tree.now at }
 {
     print_label(rt, at, b"valid_prop_name")?;
-    let key = names::valid_prop_name(tree, at, levels, UNRESOLVED);
+    let Some(key) = names::valid_prop_name(tree, at, levels, UNRESOLVED) else {
+        return print(rt, b"none\n");
+    };
     match key {
         Key::Stands(record, below) => {
             print(rt, b"stands ")?;
@@ -134,7 +137,6 @@ fn show_key(rt: &impl Print, tree: &[u8], at: usize, levels: usize) -> io::Resul
             print(rt, b"computed ")?;
             print_record(rt, tree, record, below)
         }
-        Key::Nothing => print(rt, b"none\n"),
     }
 }
 
@@ -379,8 +381,11 @@ fn show_name(rt: &impl Print, raised: usize) -> io::Result<()> {
         return Ok(());
     }
     let mut out = [0u8; ROOM];
-    let named = names::unique::make_unique_name(raised - 1, &mut out, 0);
-    print(rt, front(&out, named.written))
+    let mut names = Names {
+        id_counter: raised - 1,
+    };
+    let end = names.gen_unique_name(&mut out, 0);
+    print(rt, front(&out, end))
 }
 
 // The next tree of the input, of at most 4,096 bytes, with its name; false where there is none.

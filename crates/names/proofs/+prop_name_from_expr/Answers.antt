@@ -8,9 +8,6 @@ use Rattle.names.proofs.+prop_name_from_expr.Goals as goal
 pub mark_at-requires : goal.mark_at-requires
 mark_at-requires t c = room c.requires
 
-pub is_one_expression-requires : goal.is_one_expression-requires
-is_one_expression-requires t c = c.requires
-
 pub body_at-requires : goal.body_at-requires
 body_at-requires t c = room c.requires
 
@@ -31,9 +28,6 @@ overflow_sub-levels-in-29264 t c = omega (arith, level c.requires)
 
 pub prop_name_from_expr-requires-in-29264 : goal.prop_name_from_expr-requires-in-29264
 prop_name_from_expr-requires-in-29264 t c = (omega (arith, level c.requires, c.decreases), (through_child c.requires c.mark_at.ensures.0 c.args.unresolved c.body_at-in-29264.ensures c.in-29264.is).accepted)
-
-pub is_well_known_symbol_expr-requires : goal.is_well_known_symbol_expr-requires
-is_well_known_symbol_expr-requires t c = c.requires
 
 pub returns-then-is_well_known_symbol_expr : goal.returns-then-is_well_known_symbol_expr
 returns-then-is_well_known_symbol_expr t c = record { key = sym (key-symbol c.requires c.mark_at.ensures.0 c.args.unresolved c.in-25165.is (sym c.is_well_known_symbol_expr.ensures ∙ c.if-is_well_known_symbol_expr.true)); accepted = c.requires }

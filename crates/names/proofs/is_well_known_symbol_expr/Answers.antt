@@ -20,23 +20,23 @@ overflow_sub-levels c = omega (arith, level c.requires)
 pub is_global-requires : goal.is_global-requires
 is_global-requires c = (object_child c.requires c.mark_at.ensures.0 c.args.unresolved c.if-mark_at-ne-MB.false c.body_at-object.ensures).accepted
 
-pub overflow_sub-levels-then-is_global : goal.overflow_sub-levels-then-is_global
-overflow_sub-levels-then-is_global c = omega (arith, level c.requires)
+pub returns-then-not-is_global : goal.returns-then-not-is_global
+returns-then-not-is_global c = sym (well_local c.requires c.mark_at.ensures.0 c.args.unresolved c.if-mark_at-ne-MB.false c.body_at-object.ensures (sym c.is_global.ensures ∙ c.if-not-is_global.true))
+
+pub overflow_sub-levels-2 : goal.overflow_sub-levels-2
+overflow_sub-levels-2 c = omega (arith, level c.requires)
 
 pub record_end-property-requires : goal.record_end-property-requires
 record_end-property-requires c = lies (object_child c.requires c.mark_at.ensures.0 c.args.unresolved c.if-mark_at-ne-MB.false c.body_at-object.ensures).accepted
 
-pub mark_at-requires-then-is_global : goal.mark_at-requires-then-is_global
-mark_at-requires-then-is_global c = room (property-child c.requires c.mark_at.ensures.0 c.args.unresolved c.if-mark_at-ne-MB.false c.body_at-object.ensures (sym c.is_global.ensures ∙ c.if-is_global.true) c.record_end-property.ensures).accepted
+pub mark_at-requires-2 : goal.mark_at-requires-2
+mark_at-requires-2 c = room (property-child c.requires c.mark_at.ensures.0 c.args.unresolved c.if-mark_at-ne-MB.false c.body_at-object.ensures (sym c.is_global.ensures ∙ c.if-not-is_global.false) c.record_end-property.ensures).accepted
 
 pub returns-then-mark_at-ne-KI : goal.returns-then-mark_at-ne-KI
-returns-then-mark_at-ne-KI c = sym (well_computed c.requires c.mark_at.ensures.0 c.args.unresolved c.if-mark_at-ne-MB.false c.body_at-object.ensures (sym c.is_global.ensures ∙ c.if-is_global.true) c.record_end-property.ensures c.mark_at-then-is_global.ensures.0 c.if-mark_at-ne-KI.true)
+returns-then-mark_at-ne-KI c = sym (well_computed c.requires c.mark_at.ensures.0 c.args.unresolved c.if-mark_at-ne-MB.false c.body_at-object.ensures (sym c.is_global.ensures ∙ c.if-not-is_global.false) c.record_end-property.ensures c.mark_at-2.ensures.0 c.if-mark_at-ne-KI.true)
 
 pub text_at-requires : goal.text_at-requires
-text_at-requires c = fits (property-child c.requires c.mark_at.ensures.0 c.args.unresolved c.if-mark_at-ne-MB.false c.body_at-object.ensures (sym c.is_global.ensures ∙ c.if-is_global.true) c.record_end-property.ensures).accepted
-
-pub returns-then-is_global : goal.returns-then-is_global
-returns-then-is_global c = c.is_well_known.ensures ∙ sym (well_named c.requires c.mark_at.ensures.0 c.args.unresolved c.if-mark_at-ne-MB.false c.body_at-object.ensures (sym c.is_global.ensures ∙ c.if-is_global.true) c.record_end-property.ensures c.mark_at-then-is_global.ensures.0 c.if-mark_at-ne-KI.false c.text_at.ensures)
+text_at-requires c = fits (property-child c.requires c.mark_at.ensures.0 c.args.unresolved c.if-mark_at-ne-MB.false c.body_at-object.ensures (sym c.is_global.ensures ∙ c.if-not-is_global.false) c.record_end-property.ensures).accepted
 
 pub returns : goal.returns
-returns c = sym (well_local c.requires c.mark_at.ensures.0 c.args.unresolved c.if-mark_at-ne-MB.false c.body_at-object.ensures (sym c.is_global.ensures ∙ c.if-is_global.false))
+returns c = c.is_well_known.ensures ∙ sym (well_named c.requires c.mark_at.ensures.0 c.args.unresolved c.if-mark_at-ne-MB.false c.body_at-object.ensures (sym c.is_global.ensures ∙ c.if-not-is_global.false) c.record_end-property.ensures c.mark_at-2.ensures.0 c.if-mark_at-ne-KI.false c.text_at.ensures)

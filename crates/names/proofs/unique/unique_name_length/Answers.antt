@@ -3,8 +3,5 @@ use native.Mathlib.Omega.{arith}
 use Rattle.names.proofs.Decimals.{length_unique}
 use Rattle.names.proofs.unique.unique_name_length.Goals as goal
 
-pub overflow_add-result : goal.overflow_add-result
-overflow_add-result c = omega arith
-
 pub returns : goal.returns
 returns c = omega (arith, length_unique c.args.id_counter)
