@@ -19,6 +19,8 @@ use Rattle.std.proofs.Common.{Ordering, Less, Equal, Greater}
 use Rattle.std.specs.Ordering.{MatchOrdering, nat_cmp, is_lt, ordering_reverse}
 use Rattle.std.specs.Cmp.Lexicographic.{slice_cmp}
 use Rattle.std.specs.FinMap.{slice_cmp-IsAntisymmetric, nat_cmp-IsAntisymmetric}
+use Rattle.std.proofs.Math.Bool.{or-false, and-false, or_assoc}
+use Rattle.std.proofs.lemmas.Bool.{false_from_ne_true}
 use Rattle.std.proofs.lemmas.List.{drop-set-add}
 use Rattle.std.proofs.lemmas.Cmp.{same_from_slice_cmp, nat_list_cmp_total, tied_itself}
 use Rattle.std.proofs.lemmas.Bool.Decides.{nat_tests}
@@ -35,14 +37,6 @@ by_lt {P} j k y n = go (ltb j k) refl
     go : (b : Bool) → ltb j k ≡ b → P
     go true e = y (ltb-true j k e)
     go false e = n (ltb-false j k e)
-
-and_false : (b : Bool) → (b && false) ≡ false
-and_false true = refl
-and_false false = refl
-
-or_false : (b : Bool) → (b || false) ≡ b
-or_false true = refl
-or_false false = refl
 
 -- ---- equal texts
 
@@ -63,11 +57,7 @@ same_eq (x ∷ xs) (y ∷ ys) e = go (eqb x y) refl (λ f. same_eq xs ys f) e
     go false q g f = never f refl
 
 pub differs : {a b : List ℕ} → (a ≡ b → ⊥) → same_text a b ≡ false
-differs {a} {b} n = go (same_text a b) refl
-  where
-    go : (t : Bool) → same_text a b ≡ t → t ≡ false
-    go true e = absurd (n (same_eq a b e))
-    go false e = refl
+differs {a} {b} n = false_from_ne_true (same_text a b) (λ e. n (same_eq a b e))
 
 -- ---- the order of texts, which is that of slices
 
@@ -108,11 +98,7 @@ pub less-differs : {a b : List ℕ} → less_text a b ≡ true → a ≡ b → �
 less-differs {a} {b} p e = never p (sym (ap (less_text a) e) ∙ less_irrefl a)
 
 less-one_way : (a b : List ℕ) → less_text a b ≡ true → less_text b a ≡ false
-less-one_way a b p = go (less_text b a) refl
-  where
-    go : (r : Bool) → less_text b a ≡ r → r ≡ false
-    go true q = never (less_trans a b a p q) (less_irrefl a)
-    go false q = refl
+less-one_way a b p = false_from_ne_true (less_text b a) (λ q. never (less_trans a b a p q) (less_irrefl a))
 
 -- ---- the search by halving
 
@@ -121,9 +107,6 @@ pub record Halving (s a : List ℕ) (n : ℕ) (t : List ℕ) (low high : ℕ) : 
   pub within : high ≤ n
   pub before : (k : ℕ) → k < low → less_text (name_at s (get_or a k 0)) t ≡ true
   pub after : (k : ℕ) → high ≤ k → k < n → less_text t (name_at s (get_or a k 0)) ≡ true
-
-pub halving_start : (s a : List ℕ) (n : ℕ) (t : List ℕ) → Halving s a n t 0 n
-halving_start s a n t = record { range = omega arith; within = omega arith; before = λ k h. absurd (omega arith); after = λ k h l. absurd (omega arith) }
 
 module _ {s a : List ℕ} {n : ℕ} {t : List ℕ} {low high : ℕ} (i : Halving s a n t low high) where
   -- no entry has the name
@@ -134,7 +117,7 @@ module _ {s a : List ℕ} {n : ℕ} {t : List ℕ} {low high : ℕ} (i : Halving
       let w = i.within in (
         record { within = omega arith; before = i.before; after = λ k l m. less-one_way _ _ (i.after k (omega arith) m) },
         by_lt low n
-            (λ (l : low < n). rw (differs (λ e. less-differs (i.after low (omega arith) l) (sym e))) (and_false (ltb low n)))
+            (λ (l : low < n). rw (differs (λ e. less-differs (i.after low (omega arith) l) (sym e))) (and-false (ltb low n)))
             (λ (l : n ≤ low). rw (le-ltb low n l)),
       )
 
@@ -313,7 +296,7 @@ module _ {s a : List ℕ} {n : ℕ} {t : List ℕ} {p : ℕ} (o : Sorted s a n) 
       step = λ F g. record {
         found = λ k h q. by_eq k p
             (λ (m : k ≡ p). rw m (ap (λ (u : List ℕ). F q u || Under t x y z q u) (names p ∙ hit-name w e) ∙ (rw (hit w F g e q, under_same t x y z q) (sym (picked q)))))
-            (λ (m : k ≡ p → ⊥). rw (under_other x y z (other k h m) q, or_false, names k, there k m) (g.found k h q));
+            (λ (m : k ≡ p → ⊥). rw (under_other x y z (other k h m) q, or-false, names k, there k m) (g.found k h q));
         missing = λ u m q.
             rw (g.missing u (λ k h f. m k h (names k ∙ f)) q) (under_other x y z (λ f. m p (hit-within w e) (names p ∙ (hit-name w e ∙ f))) q);
       };
@@ -385,7 +368,7 @@ module _ {s a : List ℕ} {n : ℕ} {t : List ℕ} {p : ℕ} (o : Sorted s a n) 
       step = λ F g. record {
         found = λ k l q. place_of (λ (i : ℕ). (F q (name_at s i) || Under t x y z q (name_at s i)) ≡ bit_of q i) k l
             (λ _. rw (name_new, miss w o F g e q, under_same t x y z q) (sym (entry_bit id x y z q)))
-            (λ j m. rw (under_other x y z (not_old j m) q, or_false) (g.found j m q));
+            (λ j m. rw (under_other x y z (not_old j m) q, or-false) (g.found j m q));
         missing = λ u m q.
             rw (g.missing u (λ j l r. m (moved j l).0 (moved j l).1 (ap (name_at s) (moved j l).2 ∙ r)) q)
             (under_other x y z (λ r. m p (omega (arith, w.within)) (ap (name_at s) new-here ∙ (name_new ∙ r))) q);
@@ -398,7 +381,7 @@ pub enters_none : {s a : List ℕ} {n : ℕ} {G : Question → List ℕ → Bool
 enters_none {G = G} o none = record {
   sorted = o;
   step = λ F g. record {
-    found = λ k h q. rw (none q _, or_false) (g.found k h q);
+    found = λ k h q. rw (none q _, or-false) (g.found k h q);
     missing = λ t m q. rw (g.missing t m q) (none q t);
   };
 }
@@ -411,10 +394,6 @@ enters_eq same i = record {
     missing = λ t m q. rw (same q t) ((i.step F g).missing t m q);
   };
 }
-
-or_assoc : (x y z : Bool) → ((x || y) || z) ≡ (x || (y || z))
-or_assoc true y z = refl
-or_assoc false y z = refl
 
 pub enters_then : {s a b c : List ℕ} {n m l : ℕ} {G H : Question → List ℕ → Bool} → Enters s a n b m G → Enters s b m c l H → Enters s a n c l (λ q t. G q t || H q t)
 enters_then {G = G} {H = H} i j = record {

@@ -6,6 +6,7 @@ use mathlib.Core.Logic.{⊎_elim}
 use Prim.Native.Nat.{ℕ, ◌+◌, ◌*◌, ◌-◌, ◌/◌, ◌<◌, ◌≤◌}
 use native.Mathlib.Omega.{arith}
 use lib.ListN.{length, get_or, take, length-drop}
+use Rattle.std.proofs.Math.Bool.{or-false, or_assoc}
 use Rattle.definition.specs.Tree.{Rec, Recs, nil, cons, head_size, mark_at, count_at, text_at, body_at, end_of_all, end_at, tree_at}
 use Rattle.definition.specs.Grammar.{mark, marks, optional, grammar, known, slots, place}
 use Rattle.definition.specs.Check.{deepest}
@@ -57,12 +58,6 @@ module _ {levels : ℕ} {s : List ℕ} {at : ℕ} (a : AcceptedAt levels s at) w
 -- ---- what is entered
 
 module _ {s : List ℕ} {a : Names} {at : ℕ} (r : Room s a at) where
-  -- there is room for one more
-  pub room-one : at + declaration_size ≤ length s → (0 < a.from) × (a.from + a.count < length a.table.now)
-  room-one h =
-      let few : a.count < length a.table.now / 2 = omega (arith, r.few, r.long) in
-      (omega (arith, r.to, few), omega (arith, r.from, few))
-
   pub room-later : {p : ℕ} → at ≤ p → Room s a p
   room-later h = record { sorted = r.sorted; few = omega (arith, r.few); long = r.long; short = r.short; from = r.from; to = r.to }
 
@@ -159,14 +154,6 @@ filling_start W {levels} {s} {a} {at} ok r kq cq =
       room = room-later r (omega arith);
     })
 
-or_none : (b : Bool) → (b || false) ≡ b
-or_none true = refl
-or_none false = refl
-
-or_left : (x y z : Bool) → (x || (y || z)) ≡ ((x || y) || z)
-or_left true y z = refl
-or_left false y z = refl
-
 module _ {W : Question → List ℕ → Recs → Bool} {whole : Recs} {levels : ℕ} {s : List ℕ} {a : Names} {end : ℕ} {b : Names} {k c : ℕ} (i : Filling W whole levels s a end b k c) where
   -- where W says f of each record
   pub filling_turn : (f : Question → List ℕ → Rec → Bool) → ((q : Question) (t : List ℕ) (r : Rec) (rs : Recs) → W q t (cons r rs) ≡ (f q t r || W q t rs)) → 0 < k →
@@ -178,7 +165,7 @@ module _ {W : Question → List ℕ → Recs → Bool} {whole : Recs} {levels : 
       rw dq (record {
         so_far = λ q t. i.so_far q t || f q t t0;
         filled = record { enters = enters_then z.enters g.enters; few = g.few; same = g.same ∙ z.same; from = omega (arith, z.from, g.from); to = omega (arith, z.to, g.to) };
-        left = left-turn i.left h _ (λ rs j q t. (ap (λ (x : Bool). i.so_far q t || x) (step q t t0 rs) ∙ or_left (i.so_far q t) (f q t t0) (W q t rs)) j) refl;
+        left = left-turn i.left h _ (λ rs j q t. (ap (λ (x : Bool). i.so_far q t || x) (step q t t0 rs) ∙ sym (or_assoc (i.so_far q t) (f q t t0) (W q t rs))) j) refl;
         ends = sym (end_of_all-more (end_at levels s) k c h) ∙ i.ends;
         room = record { sorted = g.enters.sorted; few = g.few; long = omega (arith, r.long, g.same); short = r.short; from = omega (arith, r.from, g.from, g.same); to = omega (arith, r.to, g.to, g.same) };
       })
@@ -186,7 +173,7 @@ module _ {W : Question → List ℕ → Recs → Bool} {whole : Recs} {levels : 
   pub filling_done : ((q : Question) (t : List ℕ) → W q t nil ≡ false) → k ≤ 0 → Filled s a b end (λ q t. W q t whole)
   filling_done none h =
       filled_eq (omega (arith, i.ends, end_of_all-none (end_at levels s) k c h))
-      (λ q t. ap (λ (G : Question → List ℕ → Bool). G q t) (left-done i.left h) ∙ (ap (λ (x : Bool). i.so_far q t || x) (none q t) ∙ or_none (i.so_far q t)))
+      (λ q t. ap (λ (G : Question → List ℕ → Bool). G q t) (left-done i.left h) ∙ (ap (λ (x : Bool). i.so_far q t || x) (none q t) ∙ or-false (i.so_far q t)))
       i.filled
 
 -- the questions about all declarators, and about all items

@@ -1,4 +1,5 @@
 -- `prescan::is_array_lit_init` meets its contract: in each arm the mark picks the definition's case. The measure is the depth left.
+use borrow.Author.Rules.{rules}
 use mathlib.Core.Path.{sym, ◌∙◌}
 use native.Mathlib.Omega.{arith}
 use Rattle.records.proofs.Accepted.{room, lies, level}
@@ -42,4 +43,4 @@ pub returns-in-29505 : goal.returns-in-29505
 returns-in-29505 t c = c.is_array_type.ensures ∙ sym (init-as c.requires c.mark_at.ensures.0 c.body_at-in-29505.ensures c.record_end-ty.ensures c.in-29505.is)
 
 pub returns-in_default : goal.returns-in_default
-returns-in_default t c = sym (init-other c.requires c.mark_at.ensures.0 c.in_default.in_default-own.rest.0.0.1 c.in_default.in_default-own.rest.0.1 c.in_default.in_default-own.rest.1)
+returns-in_default t c = sym (init-other c.requires c.mark_at.ensures.0 (search rules) (search rules) (search rules))

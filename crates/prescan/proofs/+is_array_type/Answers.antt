@@ -1,4 +1,5 @@
 -- `prescan::is_array_type` meets its contract: in each arm the mark picks the definition's case. The measure is the depth left.
+use borrow.Author.Rules.{rules}
 use mathlib.Core.Path.{sym, ◌∙◌}
 use native.Mathlib.Omega.{arith}
 use Rattle.records.proofs.Accepted.{room, level}
@@ -36,4 +37,4 @@ pub returns-in-26194 : goal.returns-in-26194
 returns-in-26194 t c = c.refers_to_array.ensures ∙ sym (type_ref_lem c.requires c.mark_at.ensures.0 c.body_at-in-26194.ensures c.in-26194.is)
 
 pub returns-in_default : goal.returns-in_default
-returns-in_default t c = sym (type-other c.requires c.mark_at.ensures.0 c.in_default.in_default-own.rest.0.0.1 c.in_default.in_default-own.rest.0.1 c.in_default.in_default-own.rest.1)
+returns-in_default t c = sym (type-other c.requires c.mark_at.ensures.0 (search rules) (search rules) (search rules))

@@ -1,4 +1,5 @@
 -- `prescan::add_const` meets its contract: the type's mark and the init's pick the definition's cases.
+use borrow.Author.Rules.{rules}
 use mathlib.Core.Path.{sym, ap, ◌∙◌}
 use mathlib.Core.Bool.{not}
 use borrow.Author.Tests.{ne_eqb}
@@ -33,6 +34,6 @@ returns-else-typed-2 c =
     (elim c.if-typed.branch [
       | then-typed w ↦ absurd (w.if-typed.true c.if-typed-2.false)
       | else-typed+in-30790 w ↦ w.typeof_safe-is ∙ sym (const-function c.requires.accepted_at_2 c.requires.accepted_at c.mark_at-typed.ensures.0 c.if-typed-2.false w.mark_at.ensures.0 w.in-30790.is)
-      | else-typed+in_default w ↦ w.typeof_safe-is ∙ sym (const-plain c.requires.accepted_at_2 c.requires.accepted_at c.mark_at-typed.ensures.0 c.if-typed-2.false w.mark_at.ensures.0 w.in_default.in_default-own.rest.1)
+      | else-typed+in_default w ↦ w.typeof_safe-is ∙ sym (const-plain c.requires.accepted_at_2 c.requires.accepted_at c.mark_at-typed.ensures.0 c.if-typed-2.false w.mark_at.ensures.0 (search rules))
     ])
     (c.is_array_lit_init-array_typed.ensures ∙ sym (const_by_init c.requires.accepted_at_2 c.requires.accepted_at c.mark_at-typed.ensures.0 c.if-typed-2.false))

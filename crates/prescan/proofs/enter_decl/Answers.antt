@@ -1,6 +1,5 @@
 -- `prescan::enter_decl` meets its contract: in each arm the mark picks the definition's case.
-use mathlib.Core.Path.{sym}
-use mathlib.Core.Logic.{inl, inr}
+use borrow.Author.Rules.{rules}
 use native.Mathlib.Omega.{arith}
 use Rattle.definition.proofs.Children.{end_after}
 use Rattle.records.proofs.Accepted.{room, lies, level}
@@ -10,9 +9,6 @@ use Rattle.prescan.proofs.enter_decl.Goals as goal
 
 pub mark_at-requires : goal.mark_at-requires
 mark_at-requires c = room c.requires.accepted_at
-
-pub enter_named-requires-clause-at_value : goal.enter_named-requires-clause-at_value
-enter_named-requires-clause-at_value c = rw (sym c.mark_at.ensures.0) (inl c.in-25670.is)
 
 pub body_at-requires : goal.body_at-requires
 body_at-requires c = room c.requires.accepted_at
@@ -32,9 +28,6 @@ add_class-requires c = record {
   at_value = class-mark c.requires.accepted_at c.mark_at.ensures.0 c.body_at.ensures c.in-25667.is c.record_end-class.ensures;
 }
 
-pub enter_named-requires-in-25667-clause-at_value : goal.enter_named-requires-in-25667-clause-at_value
-enter_named-requires-in-25667-clause-at_value c = rw (sym c.mark_at.ensures.0) (inr c.in-25667.is)
-
 pub returns-in-25670 : goal.returns-in-25670
 returns-in-25670 c = filled_eq (omega arith) (λ q t. decl_fn c.requires.accepted_at c.mark_at.ensures.0 q t c.in-25670.is) c.enter_named.ensures
 
@@ -48,4 +41,4 @@ pub returns-in-25686 : goal.returns-in-25686
 returns-in-25686 c = filled_eq (omega arith) (λ q t. decl-var c.requires.accepted_at c.mark_at.ensures.0 q t c.in-25686.is) c.enter_var.ensures
 
 pub returns-in_default : goal.returns-in_default
-returns-in_default c = filled_none c.requires.room (omega (arith, end_after _ _ _ c.requires.accepted_at)) (λ q t. decl-other c.requires.accepted_at c.mark_at.ensures.0 q t c.in_default.in_default-own.rest.0.0.1 c.in_default.in_default-own.rest.0.1 c.in_default.in_default-own.rest.1)
+returns-in_default c = filled_none c.requires.room (omega (arith, end_after _ _ _ c.requires.accepted_at)) (λ q t. decl-other c.requires.accepted_at c.mark_at.ensures.0 q t (search rules) (search rules) (search rules))

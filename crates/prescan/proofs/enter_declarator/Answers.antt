@@ -1,9 +1,9 @@
 -- `prescan::enter_declarator` meets its contract: the children that it reads are where the definition has them.
 use native.Mathlib.Omega.{arith}
-use Rattle.definition.proofs.Children.{end_after, end-inside}
+use Rattle.definition.proofs.Children.{end_after}
 use Rattle.records.proofs.Accepted.{room, fits, lies, level}
 use Rattle.prescan.proofs.Laws.{declarator-other, pattern-child, declarator-pattern, init-child, ident-child, type-child}
-use Rattle.prescan.proofs.Tables.{room-one, filled_none, filled-one, declarator-one, declarator-long}
+use Rattle.prescan.proofs.Tables.{filled_none, filled-one, declarator-one, declarator-long}
 use Rattle.prescan.proofs.enter_declarator.Goals as goal
 
 pub mark_at-requires : goal.mark_at-requires
@@ -39,8 +39,8 @@ record_end-init-requires c = lies (pattern-child c.requires.accepted_at c.mark_a
 pub add_const-sets-requires : goal.add_const-sets-requires
 add_const-sets-requires c = record { accepted_at = (init-child c.requires.accepted_at c.mark_at.ensures.0 c.if-mark_at-ne-VR.false c.body_at-pattern.ensures c.record_end-init.ensures).accepted; accepted_at_2 = (type-child c.requires.accepted_at c.mark_at.ensures.0 c.if-mark_at-ne-VR.false c.body_at-pattern.ensures c.mark_at-2.ensures.0 c.if-mark_at-ne-BD.false c.body_at-ident.ensures c.record_end-ty.ensures).accepted }
 
-pub insert-requires : goal.insert-requires
-insert-requires c = record { sorted = c.requires.room.sorted; from_nonzero = room-one c.requires.room (omega (arith, declarator-long c.requires.accepted_at c.mark_at.ensures.0 c.if-mark_at-ne-VR.false c.body_at-pattern.ensures c.mark_at-2.ensures.0 c.if-mark_at-ne-BD.false c.body_at-ident.ensures c.record_end-ty.ensures c.record_end-init.ensures, end-inside _ _ _ c.requires.accepted_at)); id_in_bounds = fits (ident-child c.requires.accepted_at c.mark_at.ensures.0 c.if-mark_at-ne-VR.false c.body_at-pattern.ensures c.mark_at-2.ensures.0 c.if-mark_at-ne-BD.false c.body_at-ident.ensures).accepted; tree_len_bound = c.requires.room.short }
+pub insert-requires-clause-id_in_bounds : goal.insert-requires-clause-id_in_bounds
+insert-requires-clause-id_in_bounds c = fits (ident-child c.requires.accepted_at c.mark_at.ensures.0 c.if-mark_at-ne-VR.false c.body_at-pattern.ensures c.mark_at-2.ensures.0 c.if-mark_at-ne-BD.false c.body_at-ident.ensures).accepted
 
 pub returns : goal.returns
 returns c = filled-one c.requires.room c.insert.ensures.enters c.insert.ensures.grown (declarator-long c.requires.accepted_at c.mark_at.ensures.0 c.if-mark_at-ne-VR.false c.body_at-pattern.ensures c.mark_at-2.ensures.0 c.if-mark_at-ne-BD.false c.body_at-ident.ensures c.record_end-ty.ensures c.record_end-init.ensures) (λ q t. declarator-one c.requires.accepted_at c.mark_at.ensures.0 c.if-mark_at-ne-VR.false c.body_at-pattern.ensures c.mark_at-2.ensures.0 c.if-mark_at-ne-BD.false c.body_at-ident.ensures c.record_end-ty.ensures c.record_end-init.ensures c.add_const-sets.ensures q t)

@@ -2,11 +2,11 @@
 use mathlib.Core.Path.{refl, sym, ap, ◌∙◌}
 use mathlib.Core.Bool.{◌&&◌}
 use native.Mathlib.Omega.{arith}
-use Rattle.definition.proofs.Children.{end_after, end-inside}
+use Rattle.definition.proofs.Children.{end_after}
 use Rattle.records.proofs.Accepted.{room, fits}
 use Rattle.index.specs.Index.{has}
 use Rattle.prescan.proofs.Laws.{named_ident, named-is, named_other}
-use Rattle.prescan.proofs.Tables.{room-one, filled_none, filled-one, named_long}
+use Rattle.prescan.proofs.Tables.{filled_none, filled-one, named_long}
 use Rattle.prescan.proofs.enter_named.Goals as goal
 
 pub body_at-ident-requires : goal.body_at-ident-requires
@@ -15,15 +15,8 @@ body_at-ident-requires c = room c.requires.accepted_at
 pub mark_at-requires : goal.mark_at-requires
 mark_at-requires c = room (named_ident c.requires.accepted_at refl c.body_at-ident.ensures c.requires.at_value).accepted
 
-pub insert-requires : goal.insert-requires
-insert-requires c =
-    let long = named_long c.requires.accepted_at refl c.body_at-ident.ensures c.requires.at_value (sym c.mark_at.ensures.0 ∙ c.if-mark_at-eq-ID.true) in
-    record {
-      sorted = c.requires.room.sorted;
-      from_nonzero = room-one c.requires.room (omega (arith, long, end-inside _ _ _ c.requires.accepted_at));
-      id_in_bounds = fits (named_ident c.requires.accepted_at refl c.body_at-ident.ensures c.requires.at_value).accepted;
-      tree_len_bound = c.requires.room.short;
-    }
+pub insert-requires-clause-id_in_bounds : goal.insert-requires-clause-id_in_bounds
+insert-requires-clause-id_in_bounds c = fits (named_ident c.requires.accepted_at refl c.body_at-ident.ensures c.requires.at_value).accepted
 
 pub returns-then-mark_at-eq-ID : goal.returns-then-mark_at-eq-ID
 returns-then-mark_at-eq-ID c =

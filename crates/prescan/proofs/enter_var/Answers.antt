@@ -24,20 +24,14 @@ loop-rest-init c = filling_start Vars c.requires.accepted_at c.requires.room (ap
 pub overflow_sub-levels : goal.overflow_sub-levels
 overflow_sub-levels c = omega (arith, level c.requires.accepted_at)
 
-pub enter_declarator-requires : goal.enter_declarator-requires
-enter_declarator-requires c = record { accepted_at = left-first c.loop-rest.invariant.left c.loop-rest-test.true; room = c.loop-rest.invariant.room }
+pub enter_declarator-requires-clause-accepted_at : goal.enter_declarator-requires-clause-accepted_at
+enter_declarator-requires-clause-accepted_at c = left-first c.loop-rest.invariant.left c.loop-rest-test.true
 
 pub overflow_sub-levels-in-loop-rest : goal.overflow_sub-levels-in-loop-rest
 overflow_sub-levels-in-loop-rest c = omega (arith, level c.requires.accepted_at)
 
 pub record_end-declarator-requires : goal.record_end-declarator-requires
 record_end-declarator-requires c = lies (left-first c.loop-rest.invariant.left c.loop-rest-test.true)
-
-pub overflow_sub-rest : goal.overflow_sub-rest
-overflow_sub-rest c = omega arith
-
-pub loop-rest-smaller : goal.loop-rest-smaller
-loop-rest-smaller c = omega arith
 
 pub loop-rest-preserved : goal.loop-rest-preserved
 loop-rest-preserved c = filling_turn c.loop-rest.invariant add_declarator declares-step c.loop-rest-test.true c.enter_declarator.ensures c.record_end-declarator.ensures
