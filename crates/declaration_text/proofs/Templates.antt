@@ -1,7 +1,9 @@
 -- The quasis and the expressions of a template, counted by a loop over children: what is counted of the children behind a place, and of all.
 use mathlib.Core.Path.{◌≡◌, ap}
+use mathlib.Core.Bool.{Bool, true, false}
 use mathlib.Core.List.{List, ◌∷◌}
-use Prim.Native.Nat.{ℕ, suc, ◌+◌, ◌-◌, ◌<◌, ◌≤◌}
+use Prim.Native.Nat.{ℕ, zero, suc, ◌+◌, ◌-◌, ◌<◌, ◌≤◌}
+use native.Mathlib.Decide.{dec_lt}
 use native.Mathlib.Omega.{arith}
 use lib.ListN.{get_or}
 use mir.Syntax.{w8}
@@ -13,7 +15,7 @@ use Rattle.definition.specs.Record.{text_of}
 use Rattle.definition.specs.Text.{Token, tokens, quasis, behind_quasis, expressions}
 use Rattle.definition.proofs.Children.{first_one, others}
 use Rattle.definition.proofs.Kids.{is-mark, not-mark}
-use Rattle.declaration_text.specs.Templates.{Quasis, Expressions}
+use Rattle.declaration_text.specs.Templates.{Before, Quasis, Expressions}
 use Rattle.declaration_text.proofs.Children.{children-none, children-first}
 
 -- k of n children are left from c on, and what Q counts of these is counted of all
@@ -96,3 +98,27 @@ module _ (levels : ℕ) (s : List ℕ) (known : (i : ℕ) → mir.Val.Fits w8 (g
         rw (children-first levels s known under k c a h, not-mark levels s c (mark "Op") n, children-first levels s known under (suc r) c a (omega arith), z)
         (ap (λ (ts : List (List Token)). tokens (tree_at levels s c) under c ∷ ts) (q.tokens under));
   }
+
+  -- what was counted by the mark
+  module _ (P : ℕ → Bool → Type 0) where
+    pub before-quasis : (r k c : ℕ) → AllAccepted levels s k c → Before P levels s k c r → ((m : ℕ) → P m true → m ≡ mark "Qu") → ((m : ℕ) → P m false → m ≡ mark "Qu" → ⊥) → Quasis levels s k c r
+    unfolding Before
+    before-quasis zero k c a b is isnt = go (dec_lt 0 k)
+      where
+        go : Dec (0 < k) → Quasis levels s k c 0
+        go (yes h) = quasis-stop k c (first_one levels s k c a h) h (isnt (mark_at s c) (b h))
+        go (no h) = quasis-none k c (omega arith)
+    before-quasis (suc r) k c a b is isnt =
+        quasis-more k c (first_one levels s k c a b.0) b.0 (is (mark_at s c) b.1.0) r
+        (before-quasis r (k - 1) (end_at levels s c) (others levels s k c a b.0) b.1.1 is isnt)
+
+    pub before-expressions : (r k c : ℕ) → AllAccepted levels s k c → Before P levels s k c r → ((m : ℕ) → P m true → m ≡ mark "Op" → ⊥) → ((m : ℕ) → P m false → m ≡ mark "Op") → Expressions levels s k c r
+    unfolding Before
+    before-expressions zero k c a b is isnt = go (dec_lt 0 k)
+      where
+        go : Dec (0 < k) → Expressions levels s k c 0
+        go (yes h) = expressions-stop k c (first_one levels s k c a h) h (isnt (mark_at s c) (b h))
+        go (no h) = expressions-none k c (omega arith)
+    before-expressions (suc r) k c a b is isnt =
+        expressions-more k c (first_one levels s k c a b.0) b.0 (is (mark_at s c) b.1.0) r
+        (before-expressions r (k - 1) (end_at levels s c) (others levels s k c a b.0) b.1.1 is isnt)

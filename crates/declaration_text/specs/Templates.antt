@@ -1,6 +1,6 @@
 -- The parts of a template, as the code meets them: quasis and expressions, each by an offset and how many are left.
-use Rattle.std.specs.Prelude.{ℕ, zero, suc, ◌-◌, ◌≤◌, ◌≡◌, List, [], ◌∷◌, map, Bool}
-use Rattle.definition.specs.Tree.{end_of_all, end_at}
+use Rattle.std.specs.Prelude.{ℕ, zero, suc, ◌-◌, ◌≤◌, ◌<◌, ◌≡◌, List, [], ◌∷◌, map, Bool, true, false}
+use Rattle.definition.specs.Tree.{mark_at, end_of_all, end_at}
 use Rattle.definition.specs.Record.{text_of}
 use Rattle.definition.specs.Text.{Token, own, escaped, Child, quasis, behind_quasis, expressions, in_braces}
 use Rattle.declaration_text.specs.Steps.{children_at}
@@ -11,6 +11,11 @@ texts_of cs = map (λ (c : Child). text_of c.itself) cs
 
 abbrev pub tokens_of : List Child → List (List Token)
 tokens_of cs = map (λ (c : Child). c.tokens) cs
+
+-- of the first r of n children P says that they are counted, and of the next, if there is one, that it isn't
+unfoldable pub Before : (ℕ → Bool → Type 0) → ℕ → List ℕ → ℕ → ℕ → ℕ → Type 0
+Before P levels s n at zero = 0 < n → P (mark_at s at) false
+Before P levels s n at (suc r) = (0 < n) × (P (mark_at s at) true × Before P levels s (n - 1) (end_at levels s at) r)
 
 -- the first r of n children are the quasis
 pub record Quasis (levels : ℕ) (s : List ℕ) (n at r : ℕ) : Type 0 where

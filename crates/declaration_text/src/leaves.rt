@@ -6,7 +6,7 @@ ghost use Rattle.definition.specs.Record.{is_no};
 ghost use Rattle.definition.specs.Text.{token, more};
 ghost use Rattle.text_tokens.specs.Writes.{Writes, last_of};
 ghost use Rattle.declaration_text.specs.Steps.{children_at};
-ghost use Rattle.declaration_text.specs.Templates.{Quasis, Expressions, quasi_if, passed};
+ghost use Rattle.declaration_text.specs.Templates.{Before, Quasis, Expressions, quasi_if, passed};
 
 use records::marks::{NO, OP, QU};
 use records::{mark_at, record_end, text_at};
@@ -44,15 +44,22 @@ pub fn ends_in_semicolon(s: State) -> bool
     s.some && s.last == Some(b';')
 }
 
-// How many of n children are `Qu`s before the first that isn't.
-pub fn count_quasis(tree: &[u8], at: usize, n: usize, levels: usize) -> usize
-    requires { AllAccepted levels tree.now n at }
-    ensures { Quasis levels tree.now n at result }
+// How many of n children stand before the first whose mark isn't counted.
+fn count_while<F: Fn(u16) -> bool>(
+    tree: &[u8],
+    at: usize,
+    n: usize,
+    levels: usize,
+    counted: F,
+) -> usize
+    requires accepted { AllAccepted levels tree.now n at }
+    requires callable { F.IsAlwaysCallable counted }
+    ensures { Before (F.post counted) levels tree.now n at result }
 {
     let mut k = n;
     let mut child = at;
     while 0 < k {
-        if mark_at(tree, child) != QU {
+        if !counted(mark_at(tree, child)) {
             return n - k;
         }
         child = record_end(tree, child, levels);
@@ -61,21 +68,20 @@ pub fn count_quasis(tree: &[u8], at: usize, n: usize, levels: usize) -> usize
     n
 }
 
+// How many of n children are `Qu`s before the first that isn't.
+pub fn count_quasis(tree: &[u8], at: usize, n: usize, levels: usize) -> usize
+    requires { AllAccepted levels tree.now n at }
+    ensures { Quasis levels tree.now n at result }
+{
+    count_while(tree, at, n, levels, |mark| mark == QU)
+}
+
 // How many of n children stand before the first `Op`.
 pub fn count_expressions(tree: &[u8], at: usize, n: usize, levels: usize) -> usize
     requires { AllAccepted levels tree.now n at }
     ensures { Expressions levels tree.now n at result }
 {
-    let mut k = n;
-    let mut child = at;
-    while 0 < k {
-        if mark_at(tree, child) == OP {
-            return n - k;
-        }
-        child = record_end(tree, child, levels);
-        k -= 1;
-    }
-    n
+    count_while(tree, at, n, levels, |mark| mark != OP)
 }
 
 // The text of the first of n `Qu`s, if there is one.
