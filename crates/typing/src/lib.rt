@@ -21,16 +21,10 @@ use records::marks::{
 };
 use records::{DUMMY_SP, HEAD_SIZE, Range};
 
-mod bindings;
-pub mod exprs;
-mod keys;
-mod leaf;
 mod leaves;
 mod made;
-pub mod output;
 mod params;
 mod readonly;
-mod readonly_types;
 
 // Where a typing stands: the positions in the output and in the diagnostics, the name counter, and whether every text that was written fits
 // the two bytes of its length.
