@@ -10,10 +10,7 @@ use Rattle.definition.specs.Tree.{Head, Rec, Recs, rec, mark_at, count_at, body_
 use Rattle.definition.specs.Grammar.{mark}
 use Rattle.definition.specs.Numerals.{bits_of, whole_of}
 use Rattle.definition.specs.TextNumbers.{is_some, number_fits, numbers_fit, all_numbers_fit}
-use Rattle.definition.proofs.Tests.{and-true, never}
-use Rattle.std.specs.Prelude.{Option, Some, None}
-use Rattle.std.specs.Prelude as Prelude
-use Rattle.text_tokens.specs.Writes.{whole_is}
+use Rattle.definition.proofs.Tests.{and-true}
 use Rattle.records.specs.Whole.{Each, Whole}
 use Rattle.records.proofs.Whole.{Pending, pending_start, pending_turn}
 
@@ -61,12 +58,6 @@ row-parts t f (suc m) n at h =
 -- what `number_fits` says of the record at c
 abbrev pub ItselfFits : List ℕ → ℕ → Type 0
 ItselfFits s c = mark_at s c ≡ mark "Nu" → count_at s c ≡ 0 → is_some (whole_of (bits_of (text_at s c))) ≡ true
-
--- a text whose number the code found
-pub found-fits : (s : List ℕ) (c : ℕ) {t : List ℕ} {b : ℕ} (w : Option ℕ) → t ≡ text_at s c → b ≡ bits_of t → whole_is w ≡ whole_of b → Prelude.is_some w ≡ true
-    → is_some (whole_of (bits_of (text_at s c))) ≡ true
-found-fits s c None read bits whole given = absurd (never given)
-found-fits s c (Some n) read bits whole given = rw (← read, ← bits, ← whole)
 
 by-mark : (m n : ℕ) (b : Bool) → (m ≡ n → b ≡ true) → (not (eqb m n) || b) ≡ true
 by-mark m n b h = go (eqb m n) refl

@@ -6,7 +6,7 @@ use Prim.Native.Nat.{ℕ, zero, suc, ◌+◌, ◌-◌, ◌<◌, ◌≤◌}
 use lib.Dec.{eqb}
 use borrow.Author.Tests.{eqb-true, ne_eqb}
 use native.Mathlib.Omega.{arith}
-use lib.ListN.{length, get_or, get_or-map, get_or-eq_default}
+use lib.ListN.{length, get_or, get_or-map}
 use Rattle.definition.specs.Grammar.{known, place, marks, member, grammar}
 use Rattle.definition.specs.Text.{Piece, text_rows, row_in}
 use Rattle.declaration_text.specs.Printed.{rows_table, words_table}
@@ -74,11 +74,3 @@ pieces_more row (suc n) i h e =
     let z : n ≡ suc n - 1 = omega arith in
     rw (ne_eqb (get_or row (i + 2) 0) 0 e)
     (ap (λ (k : ℕ). piece_in row i ∷ pieces_in k row (i + 5)) z)
-
-rows_long : length rows_table ≡ 85
-unfolding rows_table
-rows_long = refl
-
--- there is no row behind the last
-pub no_row : (row i : ℕ) → 85 ≤ row → 0 ≡ get_or (row_at row) i 0
-no_row row i h = rw (get_or-eq_default rows_table [] {n = row} (omega (arith, rows_long)))

@@ -112,7 +112,8 @@ const ROWS: [[u8; ROW_SIZE]; KNOWN] = [
 
 // end of what is printed
 
-// Both tables. One that a function names is made anew at each call of it, so the call makes them once and lends them.
+// Both tables. One that a function names is made anew at each call of it, so the call makes them once and lends them. A row stays flat, as the
+// definitions of specs/Table.antt read it: `piece` alone counts in it, so nested arrays would be no plainer.
 #[derive(Drop)]
 pub struct Tables {
     rows: [[u8; ROW_SIZE]; KNOWN],

@@ -149,7 +149,7 @@ fn first_place(seen: Option<usize>, at: usize) -> usize
     seen.map_or(at, |first| first.min(at))
 }
 
-// A small hex digit.
+// A small hex digit. (`char::from_digit` makes an Option of a char of it: no plainer.)
 fn hex_digit(d: u8) -> u8
     requires { d < 16 }
     ensures { result ≡ hex_digit d }

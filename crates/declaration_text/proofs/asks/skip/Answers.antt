@@ -1,5 +1,4 @@
 -- `skip` meets its contract: each turn passes one record.
-use native.Mathlib.Omega.{arith}
 use Rattle.records.proofs.Accepted.{lies}
 use Rattle.declaration_text.proofs.Children.{passing_start, passing_first, passing_turn, passing_done}
 use Rattle.declaration_text.proofs.asks.skip.Goals as goal
@@ -9,12 +8,6 @@ loop-k-init c = passing_start _ _ _ _ _ c.requires.0 c.requires.1
 
 pub record_end-child-requires : goal.record_end-child-requires
 record_end-child-requires c = lies (passing_first c.loop-k.invariant c.loop-k-test.true)
-
-pub overflow_sub-k : goal.overflow_sub-k
-overflow_sub-k c = omega arith
-
-pub loop-k-smaller : goal.loop-k-smaller
-loop-k-smaller c = omega arith
 
 pub loop-k-preserved : goal.loop-k-preserved
 loop-k-preserved c = passing_turn c.loop-k.invariant c.loop-k-test.true c.record_end-child.ensures

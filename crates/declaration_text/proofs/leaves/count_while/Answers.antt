@@ -11,9 +11,6 @@ loop-k-init g c = counting_start _ _ _ _ _ c.requires.accepted
 pub mark_at-requires : goal.mark_at-requires
 mark_at-requires g c = room (counting_first c.loop-k.invariant c.loop-k-test.true)
 
-pub overflow_sub-result : goal.overflow_sub-result
-overflow_sub-result g c = omega (arith, c.loop-k.invariant.few)
-
 pub returns-then-not-counted : goal.returns-then-not-counted
 unfolding Before
 returns-then-not-counted g c = counting_stop c.loop-k.invariant (λ _. rw (← c.mark_at.ensures.0, ← c.if-not-counted.true) c.counted.ensures)

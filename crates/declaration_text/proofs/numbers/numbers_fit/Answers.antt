@@ -19,9 +19,6 @@ number_fits-requires c =
 pub returns-then-not-number_fits : goal.returns-then-not-number_fits
 returns-then-not-number_fits c = λ e. absurd (never e)
 
-pub overflow_sub-pending : goal.overflow_sub-pending
-overflow_sub-pending c = omega arith
-
 pub count_at-requires : goal.count_at-requires
 count_at-requires c =
     let a = c.args in

@@ -3,7 +3,7 @@ use mathlib.Core.Path.{refl}
 use native.Mathlib.Omega.{arith}
 use Rattle.records.proofs.Accepted.{room, lies, level}
 use Rattle.declaration_text.proofs.LinesWritten.{lines_none, lines-as}
-use Rattle.declaration_text.proofs.Blocks.{item_star, item-op, item_line_lem, item-block, block-items, listing_start, listing-first, listing-turn, listing-done, listing-same}
+use Rattle.declaration_text.proofs.Blocks.{item_star, item-op, item_line_lem, item-block, block-items, listing_start, listing-first, listing-turn, listing-done}
 use Rattle.declaration_text.proofs.table.Tables.+item_lines.Goals as goal
 use Rattle.declaration_text.proofs.table.Tables.+item_lines.Goals.{put_item-then-mark-eq-ST-via-then-mark-eq-ST, put_item-then-mark-eq-ST-via-else-mark-eq-ST+then-mark-eq-OP}
 
@@ -34,9 +34,6 @@ put_item-count_at-requires t c = room c.in-Some.ensures.accepted
 pub put_item-overflow_sub-block : goal.put_item-overflow_sub-block
 put_item-overflow_sub-block t c = omega (arith, level c.in-Some.ensures.accepted)
 
-pub put_item-overflow_add-depth : goal.put_item-overflow_add-depth
-put_item-overflow_add-depth t c = omega (arith, c.requires.1)
-
 pub put_item-put_items-inner-requires : goal.put_item-put_items-inner-requires
 put_item-put_items-inner-requires t c = (omega (arith, c.decreases, c.in-Some.ensures.lower, level c.in-Some.ensures.accepted, level c.requires.0), (block-items c.in-Some.ensures c.body_at.ensures c.count_at.ensures.0, omega (arith, c.requires.1, c.in-Some.ensures.lower, level c.in-Some.ensures.accepted)))
 
@@ -57,17 +54,8 @@ put_items-put_item-next-requires t c = (omega (arith, c.decreases), (listing-fir
 pub put_items-record_end-item-requires : goal.put_items-record_end-item-requires
 put_items-record_end-item-requires t c = lies (listing-first c.loop-k.invariant c.loop-k-test.true)
 
-pub put_items-overflow_sub-k : goal.put_items-overflow_sub-k
-put_items-overflow_sub-k t c = omega arith
-
-pub put_items-loop-k-smaller : goal.put_items-loop-k-smaller
-put_items-loop-k-smaller t c = omega arith
-
 pub put_items-loop-k-preserved : goal.put_items-loop-k-preserved
 put_items-loop-k-preserved t c = listing-turn c.loop-k.invariant c.type_inv.tree (omega (arith, c.well_formed)) c.loop-k-test.true c.put_item-next.ensures c.record_end-item.ensures
-
-pub put_items-shape_of-out : goal.put_items-shape_of-out
-put_items-shape_of-out t c = listing-same c.loop-k.invariant
 
 pub put_items-returns : goal.put_items-returns
 put_items-returns t c = listing-done c.loop-k.invariant (omega arith)

@@ -29,9 +29,6 @@ behind-mark_at-under-requires t c = room c.requires
 pub behind-overflow_sub-levels : goal.behind-overflow_sub-levels
 behind-overflow_sub-levels t c = omega (arith, level c.requires)
 
-pub behind-overflow_sub-n : goal.behind-overflow_sub-n
-behind-overflow_sub-n t c = omega (arith, c.if-n-slots.false)
-
 pub behind-returns : goal.behind-returns
 behind-returns t c = writes_as c.siblings.ensures (some-behind _ _ _ c.requires c.type_inv.tree _ _ (omega (arith, c.count_at-n.ensures.0, c.if-n-slots.false)) c.child_place-first.ensures (ap (λ (m : ℕ). eqb m (mark "Oc")) c.mark_at-under.ensures.0) (omega (arith, c.count_at-n.ensures.0)))
 
@@ -49,9 +46,6 @@ braces-returns-then-n-eq0 t c = writes_nothing _ _ (omega (arith, c.well_formed)
 
 pub braces-returns-then-next : goal.braces-returns-then-next
 braces-returns-then-next t c = writes_as (braced-some (omega (arith, c.well_formed)) c.put_own.ensures c.cleared-opened.ensures c.write-next.ensures c.if-next.true c.put_token.ensures) (braces_some _ _ c.if-n-eq0.false)
-
-pub braces-write-next-requires : goal.braces-write-next-requires
-braces-write-next-requires t c = (omega (arith, c.decreases), (c.requires (omega (arith, c.if-n-eq0.false))))
 
 pub child-child_place-place-requires : goal.child-child_place-place-requires
 child-child_place-place-requires t c = (c.requires, (omega (arith, c.count_at.ensures.0, c.if-count_at-i.false)))
@@ -73,9 +67,6 @@ child-returns-then-count_at-i t c = writes_nothing _ _ (omega (arith, c.well_for
 
 pub child-write-requires : goal.child-write-requires
 child-write-requires t c = (omega (arith, c.decreases, level c.requires), (rw c.child_place-place.ensures (kid-accepted _ _ _ c.requires c.type_inv.tree _ (omega (arith, c.count_at.ensures.0, c.if-count_at-i.false)))))
-
-pub number-child-requires : goal.number-child-requires
-number-child-requires t c = (omega (arith, c.decreases), c.requires)
 
 pub number-count_at-requires : goal.number-count_at-requires
 number-count_at-requires t c = room c.requires
@@ -194,20 +185,11 @@ siblings-loop-k-init t c = telling_start _ _ _ _ _ _ c.requires _ _ (omega (arit
 pub siblings-loop-k-preserved : goal.siblings-loop-k-preserved
 siblings-loop-k-preserved t c = telling_turn c.loop-k.invariant (omega (arith, c.well_formed)) c.type_inv.tree c.loop-k-test.true c.sibling-next.ensures c.record_end-child.ensures
 
-pub siblings-loop-k-smaller : goal.siblings-loop-k-smaller
-siblings-loop-k-smaller t c = omega arith
-
-pub siblings-overflow_sub-k : goal.siblings-overflow_sub-k
-siblings-overflow_sub-k t c = omega arith
-
 pub siblings-record_end-child-requires : goal.siblings-record_end-child-requires
 siblings-record_end-child-requires t c = lies (telling_first c.loop-k.invariant c.loop-k-test.true)
 
 pub siblings-returns : goal.siblings-returns
 siblings-returns t c = telling_done c.loop-k.invariant c.type_inv.tree c.loop-k-test.false
-
-pub siblings-sibling-next-requires : goal.siblings-sibling-next-requires
-siblings-sibling-next-requires t c = (omega (arith, c.decreases), (c.loop-k.invariant.kids, c.loop-k-test.true))
 
 pub template-braces-next-requires : goal.template-braces-next-requires
 template-braces-next-requires t c = (omega (arith, c.decreases), (λ h. turning_expression c.loop.invariant h))
@@ -223,9 +205,6 @@ template-loop-init t c = turning_start _ _ _ _ _ c.requires c.count_quasis-quasi
 
 pub template-loop-preserved : goal.template-loop-preserved
 template-loop-preserved t c = turning_turn c.loop.invariant c.type_inv.tree (omega (arith, writes-same c.put_token-next.ensures, c.well_formed)) (omega arith) c.put_quasi-next.ensures c.braces-next.ensures c.pass-quasi.ensures c.saturating_sub-quasis.ensures c.pass-expression.ensures c.saturating_sub-expressions.ensures
-
-pub template-overflow_sub-n : goal.template-overflow_sub-n
-template-overflow_sub-n t c = omega (arith, c.count_quasis-quasis.ensures.few)
 
 pub template-pass-expression-requires : goal.template-pass-expression-requires
 template-pass-expression-requires t c = λ h. turning_expression c.loop.invariant h
