@@ -1,4 +1,8 @@
 // What the test programs share that replay answers: numbers of four bytes, buffers filled with noise, and the loop over the cases.
+ghost use Rattle.std.specs.Prelude.{true, ◌≡◌, ◌+◌, ◌≤◌, length, take};
+ghost use Rattle.definition.specs.Tree.{u32_at};
+ghost use Rattle.grammar.specs.Answers.{number};
+
 use crate::front;
 use grammar::Refused;
 use std::io;
@@ -7,7 +11,9 @@ use std::io;
 const MOST: usize = 1000000;
 
 // The number of four bytes at a place; 0 where there is none.
-pub fn number_at(bytes: &[u8], at: usize) -> u32 {
+pub fn number_at(bytes: &[u8], at: usize) -> u32
+    ensures { at + 4 ≤ length bytes.now → result ≡ u32_at bytes.now at }
+{
     if bytes.len() < 4 {
         return 0;
     }
@@ -29,7 +35,9 @@ pub fn fill(buffer: &mut [u8]) {
 }
 
 // Whether a buffer begins with the first n bytes of what was expected, and holds the noise behind them.
-pub fn holds(buffer: &[u8], expected: &[u8], n: usize) -> bool {
+pub fn holds(buffer: &[u8], expected: &[u8], n: usize) -> bool
+    ensures { result ≡ true → take n buffer.now ≡ take n expected.now }
+{
     n <= expected.len()
         && n <= buffer.len()
         && front(buffer, n) == front(expected, n)
@@ -40,9 +48,11 @@ pub fn holds(buffer: &[u8], expected: &[u8], n: usize) -> bool {
             .all(|(i, b)| *b == noise(i))
 }
 
-// Whether a refusal is the one that a case expects.
-pub fn is_refusal(refused: Refused, number: usize, place: usize) -> bool {
-    u32::from(refused.refusal) as usize == number && refused.place == place
+// Whether a refusal is the one that a case expects, which has its number as `code`.
+pub fn is_refusal(refused: Refused, code: usize, place: usize) -> bool
+    ensures { result ≡ true → (number refused.refusal ≡ code) × (refused.place ≡ place) }
+{
+    u32::from(refused.refusal) as usize == code && refused.place == place
 }
 
 // Replays the cases of standard input and counts those that differ. `next` reads the next one: whether it gave what it expects; `None` where there is
