@@ -1,2 +1,4 @@
 pub mod Decimals
 mod Keys
+pub mod KeyLaws
+mod Idents

@@ -12,6 +12,8 @@ use records::marks::{AS, BI, ID, KC, KI, MB, NN, NU, OP, PR, QU, SS, TA, TC, TE,
 use records::text::is_global;
 use records::{body_at, count_at, mark_at, record_end, text_at};
 
+pub mod generated;
+pub mod prop_name;
 pub mod symbols;
 pub mod unique;
 
