@@ -11,7 +11,7 @@ use borrow.Author.Tests.{eqb-true, eq-eqb}
 use Rattle.definition.specs.Tree.{head_size, mark_at, flags_at, start_at, last_at, length_at, count_at, text_at, body_at, end_at}
 use Rattle.definition.specs.Grammar.{mark, Part, one, many, property, marks, member, known, place, slots, grammar, allowed, after, is_property, undestructured, pattern, expression, least}
 use Rattle.definition.specs.Check.{has_form, form_of, slots_of, inside, Opening, Opening.opened, Opening.stopped, open_body, open_at, Checked, Checked.fine, Checked.refused, onward, check_all, within, check_at}
-use Rattle.definition.specs.Children.{AcceptedAt, AllAccepted, anywhere, is_fine, IsAccepted, AreAccepted}
+use Rattle.definition.specs.Children.{AcceptedAt, AllAccepted, anywhere, is_fine, IsAcceptedAt, AreAcceptedAt}
 use Rattle.definition.proofs.Tests.{never}
 use Rattle.definition.proofs.Accepted.{passed, met, never-opened, never-fine, onward-fine, within-fine, Open, Accepted, accepted, record_open}
 use Rattle.definition.proofs.Kids.{contained, member-wider}
@@ -157,16 +157,16 @@ unfolding is_fine
 fine_is (fine e) h = (e, refl)
 fine_is (refused n p) h = absurd (never h)
 
-pub is_accepted : {levels : ℕ} {s : List ℕ} {at : ℕ} → AcceptedAt levels s at → IsAccepted levels s at
+pub is_accepted : {levels : ℕ} {s : List ℕ} {at : ℕ} → AcceptedAt levels s at → IsAcceptedAt levels s at
 unfolding is_fine
 is_accepted {levels} {s} {at} a = ap is_fine (check_anywhere levels s at a.slots a.past a.checked)
 
-pub accepted_at : {levels : ℕ} {s : List ℕ} {at : ℕ} → IsAccepted levels s at → AcceptedAt levels s at
+pub accepted_at : {levels : ℕ} {s : List ℕ} {at : ℕ} → IsAcceptedAt levels s at → AcceptedAt levels s at
 accepted_at {levels} {s} {at} h = let z = fine_is (check_at levels s at anywhere) h in record { slots = anywhere; past = z.0; checked = z.1 }
 
-pub are_accepted : {levels : ℕ} {s : List ℕ} {n at : ℕ} → AllAccepted levels s n at → AreAccepted levels s n at
+pub are_accepted : {levels : ℕ} {s : List ℕ} {n at : ℕ} → AllAccepted levels s n at → AreAcceptedAt levels s n at
 unfolding is_fine
 are_accepted {levels} {s} {n} {at} a = ap is_fine (all_anywhere levels s n at a.slots a.past a.checked)
 
-pub all_accepted : {levels : ℕ} {s : List ℕ} {n at : ℕ} → AreAccepted levels s n at → AllAccepted levels s n at
+pub all_accepted : {levels : ℕ} {s : List ℕ} {n at : ℕ} → AreAcceptedAt levels s n at → AllAccepted levels s n at
 all_accepted {levels} {s} {n} {at} h = let z = fine_is (check_all (check_at levels s) s n at anywhere) h in record { slots = anywhere; past = z.0; checked = z.1 }

@@ -32,9 +32,9 @@ is_fine (fine e) = true
 is_fine (refused n p) = false
 
 -- the record at `at` is accepted, with `levels` levels left
-abbrev pub IsAccepted : ℕ → List ℕ → ℕ → Type 0
-IsAccepted levels s at = is_fine (check_at levels s at anywhere) ≡ true
+abbrev pub IsAcceptedAt : ℕ → List ℕ → ℕ → Type 0
+IsAcceptedAt levels s at = is_fine (check_at levels s at anywhere) ≡ true
 
 -- so are the n records that stand one after the other from `at` on
-abbrev pub AreAccepted : ℕ → List ℕ → ℕ → ℕ → Type 0
-AreAccepted levels s n at = is_fine (check_all (check_at levels s) s n at anywhere) ≡ true
+abbrev pub AreAcceptedAt : ℕ → List ℕ → ℕ → ℕ → Type 0
+AreAcceptedAt levels s n at = is_fine (check_all (check_at levels s) s n at anywhere) ≡ true

@@ -2,7 +2,7 @@
 // said of the tree that is read there, `rec_of` and `recs_of` of specs/Views.antt.
 ghost use Rattle.std.specs.Prelude.{◌≡◌, ◌+◌, ◌-◌, ◌<◌, ◌≤◌, length};
 ghost use Rattle.definition.specs.Tree.{encode, tree_at};
-ghost use Rattle.definition.specs.Children.{AcceptedAt, IsAccepted, AreAccepted};
+ghost use Rattle.definition.specs.Children.{AcceptedAt, IsAcceptedAt, AreAcceptedAt};
 
 use crate::flags::Flags;
 use crate::marks::Mark;
@@ -18,7 +18,7 @@ pub struct Record<'t> {
     pub tree: &'t [u8],
     pub at: usize,
     pub levels: usize,
-    pub ghost accepted: { IsAccepted levels tree.now at },
+    pub ghost accepted: { IsAcceptedAt levels tree.now at },
 }
 
 // So many records, from an offset on.
@@ -28,7 +28,7 @@ pub struct Records<'t> {
     pub at: usize,
     pub levels: usize,
     pub count: usize,
-    pub ghost accepted: { AreAccepted levels tree.now count at },
+    pub ghost accepted: { AreAcceptedAt levels tree.now count at },
 }
 
 // The part of the tree that the record at `at` fills is its encoding.
