@@ -3,7 +3,7 @@ ghost use Rattle.std.specs.Prelude.{◌≡◌, ◌<◌};
 ghost use Rattle.definition.specs.Record.{has_flag, with_flag, without_flag};
 ghost use Rattle.records.specs.Fields.{IsFlag};
 
-// "flags (1 byte)".
+// "flags (1 byte)". A number and no enum: the bits that have no name are carried along, and a struct round the byte would put a field into each clause.
 pub type Flags = u8;
 
 // "Flag 1 is declare on Fd, Cd, Vd, En, Ns"; "`Cp` (1 declare, 2 definite)".
