@@ -15,13 +15,14 @@ ghost use Rattle.classes.specs.Typings.{typing_of, return_part, Named};
 
 use crate::overloads::is_impl_with_overloads;
 use crate::params::{handle_func_params, handle_ts_param_props};
-use names::Key;
+use names::{Key, valid_prop_name};
 use parts::frame::{begin, drop_next, keep_next, passed};
 use parts::{front_size, keep, keep_all, put_any, put_front, put_gone};
 use prescan::Scope;
 use records::flags::{DECLARE, DEFINITE, SETTER, has_flag, without_flag};
 use records::made::put_made_front;
 use records::marks::{CO, CP, DM, KC, ME, NO};
+use records::tree::Record;
 use records::{DUMMY_SP, body_at, mark_at, read_head, record_end};
 use typing::{Counted, State, Typed};
 
@@ -40,16 +41,16 @@ fn put_prop_name(
     requires { AcceptedAt levels tree.now at }
     ensures { Named out.old out.new s result (valid_prop_name unresolved (tree_at levels tree.now at)) }
 {
-    let Some(name) = names::valid_prop_name(tree, at, levels, unresolved) else {
+    let key = Record { tree, at, levels };
+    let Some(name) = valid_prop_name(key, unresolved) else {
         return Typed::None(s);
     };
     match name {
-        Key::Stands(key, levels) => Typed::Some(keep(tree, key, levels, out, s)),
-        Key::Computed(expr, levels) => {
-            let range = records::range_at(tree, expr);
+        Key::Stands(key) => Typed::Some(keep(key.tree, key.at, key.levels, out, s)),
+        Key::Computed(expr) => {
             let mut front = s;
-            front.written = put_made_front(KC, 0, range, 1, out, s.written);
-            Typed::Some(keep(tree, expr, levels, out, front))
+            front.written = put_made_front(KC, 0, expr.range(), 1, out, s.written);
+            Typed::Some(keep(expr.tree, expr.at, expr.levels, out, front))
         }
     }
 }

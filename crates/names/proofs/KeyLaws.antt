@@ -18,9 +18,8 @@ use Rattle.records.specs.Views.{rec_of, recs_of, ChildrenOf, FirstOf, RestOf, Ch
 use Rattle.records.proofs.Records.{recs_none, recs_step, enough}
 use Rattle.records.proofs.Views.{accepted, mark_here, count_here}
 use Rattle.records.proofs.SameMarks.{marked}
-use Rattle.names.specs.Keys.{is_well_known_member, only_expression}
+use Rattle.names.specs.Keys.{is_well_known_member, only_expression, key_of, record_of, KeyFound, KeyIs}
 use Rattle.names.specs.declared.prop_name.Key.{Key}
-use Rattle.names.specs.KeyRecords.{key_of, record_of, KeyFound, KeyIs}
 
 -- the marks of the expressions that are looked through
 abbrev pub Through : Mark → Type 0

@@ -1,4 +1,3 @@
 pub mod Decimals
-mod Keys
 pub mod KeyLaws
 mod Idents

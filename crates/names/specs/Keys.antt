@@ -1,29 +1,33 @@
 -- The key that the code answers with, as the definition's.
-use Rattle.std.specs.Prelude.{ℕ, ◌≡◌, List, Bool, false, not, ◌&&◌, Option as Answer, Some, None}
+use Rattle.std.specs.Prelude.{◌≡◌, ◌≤◌, ℕ, Bool, false, not, ◌&&◌, Option as Answer, MatchOption}
 use Rattle.std.proofs.Math.Option.{Option, none, some}
-use Rattle.definition.specs.Tree.{Rec, Recs, nil, cons, tree_at}
-use Rattle.definition.specs.Children.{AcceptedAt}
+use Rattle.definition.specs.Tree.{Rec, Recs, nil, cons}
 use Rattle.definition.specs.Record.{kids_of, is, ends}
 use Rattle.definition.specs.Names.{computed, is_well_known_symbol_expr}
-use Rattle.names.specs.declared.Key.{Key}
-use Rattle.names.specs.declared.Key.TheVariants.{Stands, Computed}
+use Rattle.records.specs.declared.tree.Record.{Record}
+use Rattle.records.specs.Views.{rec_of}
+use Rattle.names.specs.declared.prop_name.Key.{Key}
+use Rattle.names.specs.declared.prop_name.Key.TheVariants.{Stands, Computed}
 
--- the key that an answer stands for, in the tree s
-abbrev pub key_of : List ℕ → Answer Key → Option Rec
-key_of s (Some (Stands at levels)) = some (tree_at levels s at)
-key_of s (Some (Computed at levels)) = some (computed (tree_at levels s at))
-key_of s None = none
+-- the key, and the record of the tree that it is made of
+abbrev pub key_of : Key → Rec
+key_of (Stands r) = rec_of r
+key_of (Computed r) = computed (rec_of r)
 
--- the record that an answer names was accepted
-abbrev pub KeyAccepted : List ℕ → Answer Key → Type 0
-KeyAccepted s (Some (Stands at levels)) = AcceptedAt levels s at
-KeyAccepted s (Some (Computed at levels)) = AcceptedAt levels s at
-KeyAccepted s None = Unit {0}
+abbrev pub record_of : Key → Record
+record_of (Stands r) = r
+record_of (Computed r) = r
 
--- an answer that stands for the key k
-pub record KeyIs (s : List ℕ) (r : Answer Key) (k : Option Rec) : Type 0 where
-  pub key : key_of s r ≡ k
-  pub accepted : KeyAccepted s r
+-- the key k was found in r: its record stands in the same tree, at r's place or behind it, with at most r's levels
+pub record KeyFound (r : Record) (k : Option Rec) (key : Key) : Type 0 where
+  pub is : k ≡ some (key_of key)
+  pub tree : (record_of key).tree ≡ r.tree
+  pub place : r.at ≤ (record_of key).at
+  pub levels : (record_of key).levels ≤ r.levels
+
+-- an answer that stands for the key k, of a record r
+abbrev pub KeyIs : Record → Answer Key → Option Rec → Type 0
+KeyIs r answer k = MatchOption answer (k ≡ none) (KeyFound r k)
 
 -- `is_well_known_symbol_expr` of any expression: an Mb with such children
 abbrev pub is_well_known_member : ℕ → Rec → Bool

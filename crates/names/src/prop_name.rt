@@ -3,8 +3,7 @@ ghost use Rattle.std.specs.Prelude.{◌≡◌};
 ghost use Rattle.definition.specs.Record.{kids_of};
 ghost use Rattle.definition.specs.Names.{prop_name_from_expr, valid_prop_name};
 ghost use Rattle.records.specs.Views.{rec_of};
-ghost use Rattle.names.specs.Keys.{is_well_known_member, only_expression};
-ghost use Rattle.names.specs.KeyRecords.{KeyIs};
+ghost use Rattle.names.specs.Keys.{is_well_known_member, only_expression, KeyIs};
 
 use crate::symbols::is_well_known;
 use records::marks::Mark;

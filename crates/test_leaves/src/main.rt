@@ -11,6 +11,7 @@ ghost use Rattle.std.specs.Prelude.{◌≡◌};
 
 use console::{MOST, ROOM, UNRESOLVED, front, print, print_hex, print_number};
 use names::Key;
+use names::generated::gen_unique_name;
 use names::unique::Names;
 use prescan::LARGE_TABLE;
 use records::DUMMY_SP;
@@ -18,6 +19,8 @@ use records::marks::{
     AR, AS, AW, AY, BI, BL, BN, CA, CT, CX, FT, FX, ID, JT, KC, KI, KW, LI, MB, MI, NE, NL, NN, NU,
     OB, OC, OE, OT, PR, RE, RF, RO, RT, SS, TA, TC, TE, TF, TL, TS, TU,
 };
+use records::tree::Record;
+use records::writer::Writer;
 use std::io;
 use swc_helpers::{DeclMutabilityKind, TsKeywordTypeKind};
 
@@ -90,7 +93,8 @@ fn show_expression(rt: &impl Print, tree: &[u8], at: usize, levels: usize) -> io
         b"is_array_lit_init",
         prescan::is_array_lit_init(tree, at, levels),
     )?;
-    let symbol = names::is_well_known_symbol_expr(tree, at, levels, UNRESOLVED);
+    let expr = Record { tree, at, levels };
+    let symbol = names::is_well_known_symbol_expr(expr, UNRESOLVED);
     print_bool(rt, at, b"is_well_known_symbol_expr", symbol)
 }
 
@@ -125,17 +129,18 @@ fn show_key(rt: &impl Print, tree: &[u8], at: usize, levels: usize) -> io::Resul
     requires { AcceptedAt levels tree.now at }
 {
     print_label(rt, at, b"valid_prop_name")?;
-    let Some(key) = names::valid_prop_name(tree, at, levels, UNRESOLVED) else {
+    let key = Record { tree, at, levels };
+    let Some(key) = names::valid_prop_name(key, UNRESOLVED) else {
         return print(rt, b"none\n");
     };
     match key {
-        Key::Stands(record, below) => {
+        Key::Stands(key) => {
             print(rt, b"stands ")?;
-            print_record(rt, tree, record, below)
+            print_bytes(rt, key.part())
         }
-        Key::Computed(record, below) => {
+        Key::Computed(expr) => {
             print(rt, b"computed ")?;
-            print_record(rt, tree, record, below)
+            print_bytes(rt, expr.part())
         }
     }
 }
@@ -384,7 +389,12 @@ fn show_name(rt: &impl Print, raised: usize) -> io::Result<()> {
     let mut names = Names {
         id_counter: raised - 1,
     };
-    let end = names.gen_unique_name(&mut out, 0);
+    let mut w = Writer {
+        out: &mut out,
+        at: 0,
+    };
+    gen_unique_name(&mut names, &mut w);
+    let end = w.at;
     print(rt, front(&out, end))
 }
 

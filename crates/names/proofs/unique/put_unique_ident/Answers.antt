@@ -1,7 +1,0 @@
--- `unique::put_unique_ident` meets its contract.
-use native.Mathlib.Omega.{arith}
-use Rattle.records.proofs.Puts.{ident-put}
-use Rattle.names.proofs.unique.put_unique_ident.Goals as goal
-
-pub returns : goal.returns
-returns c = ident-put c.args.range _ c.unique_name_length.ensures.0 (omega arith) c.put_ident_front-q.ensures c.put_unique_name.ensures
