@@ -6,15 +6,14 @@ use Prim.Native.Nat.{ℕ, suc, ◌+◌, ◌*◌, ◌-◌, ◌/◌, ◌<◌, ◌�
 use native.Mathlib.Omega.{arith}
 use lib.Dec.{eqb}
 use lib.ListN.{length, get_or, length-append}
-use Rattle.definition.specs.Tree.{Rec, Recs, nil, count_at, body_at, end_at, tree_at}
-use Rattle.definition.specs.Children.{AcceptedAt}
+use Rattle.definition.specs.Tree.{Rec, Recs, nil, end_at, tree_at}
+use Rattle.definition.specs.Children.{AcceptedAt, AllAccepted}
 use Rattle.definition.specs.Record.{kids_of, Diag, diagnostic_marks, diags_bytes, Out}
 use Rattle.definition.specs.Marked.{Kinds}
 use Rattle.definition.specs.Items.{transform_module_items}
 use Rattle.definition.specs.Depths.{Placed, columns, all_at, what_of, items_placed, item_placed, count_of}
 use Rattle.definition.proofs.Calls.{length-diags_bytes}
-use Rattle.definition.proofs.Children.{children, read_all_more}
-use Rattle.definition.proofs.Kids.{kids_are}
+use Rattle.definition.proofs.Children.{read_all_more}
 use Rattle.definition.proofs.Places.{At, at_left, at_right}
 use Rattle.definition.proofs.Walk.{Left, left-first, left-turn, left-done}
 use Rattle.definition.proofs.Depths.{what-all, what_append, length-what}
@@ -27,12 +26,15 @@ use Rattle.typing.specs.Did.{ids_of}
 use Rattle.typing.specs.Below.{MakesCounted}
 use Rattle.typing.proofs.Counter.{records-within}
 use Rattle.typing.proofs.Steps.{diags_append}
-use Rattle.records.proofs.Accepted.{level}
+use Rattle.records.specs.declared.tree.Record.{Record}
+use Rattle.records.specs.declared.tree.Records.{Records}
+use Rattle.records.specs.Views.{rec_of, recs_of, ChildrenOf}
+use Rattle.records.proofs.Views.{all_here}
 use Rattle.prescan.specs.Table.{Indexed}
 use Rattle.classes.specs.Typings.{typing_of, ReadyAll}
 use Rattle.items.specs.Steps.{records_at, item_of, items_of}
 use Rattle.depth_counts.specs.Tables.{Shape, Small, Adds, diags_at, Holds}
-use Rattle.depth_counts.specs.Walks.{Spaced, Flat, IsBlock, items_of_block, Counts}
+use Rattle.depth_counts.specs.Walks.{Spaced, Flat, IsBlock, Counts}
 use Rattle.depth_counts.proofs.Cells.{one_most, held-kinds, held-adds, held-room}
 
 length-all : (d : ℕ) (xs : List Diag) → length (all_at d xs) ≡ length xs
@@ -112,6 +114,19 @@ holds-rest {g} {p} {q} xs ys h e =
     let a = at_right g p (diags_bytes (what_of xs)) (diags_bytes (what_of ys)) (split xs ys h) in
     subst (λ (k : ℕ). Holds g k (what_of ys)) (omega (arith, e, bytes_of xs)) (record { fits = a.fits; same = a.same })
 
+-- ---- the children of an Nb that was found from an Ns on
+
+items_tree : {most : ℕ} {space block : Record} {items : Records} → IsBlock most space block → ChildrenOf block items → {tree : List ℕ} → space.tree.now ≡ tree → items.tree.now ≡ tree
+items_tree i k e = rw (k.tree, i.tree) e
+
+pub block_ready : {most : ℕ} {space block : Record} {items : Records} → IsBlock most space block → ChildrenOf block items → {tree : List ℕ} → space.tree.now ≡ tree
+    → {n : ℕ} → n ≤ space.at → {index : List ℕ} → Indexed tree index → ReadyAll items.levels tree items.count items.at n index
+block_ready {items = items} i k e h x = record {
+  accepted = subst (λ (s : List ℕ). AllAccepted items.levels s items.count items.at) (items_tree i k e) (all_here items);
+  low = omega (arith, h, i.place, k.behind);
+  indexed = x;
+}
+
 -- ---- one item
 
 module _ (list tree : List ℕ) (scope : Scope) where
@@ -136,31 +151,22 @@ module _ (list tree : List ℕ) (scope : Scope) where
         counts-as (counts-none s z) (sym (f.placed list scope.unresolved (typing_of tree scope) top d n)) (e ∙ sym (f.counter list scope.unresolved (typing_of tree scope) top n))
 
     -- an Ns with items
-    module _ (levels : ℕ) {at b l : ℕ} (i : IsBlock (levels - 1) tree at b l) (f : Spaced r (items_of_block l tree b)) {first count d' : ℕ} (e : first ≡ body_at tree b) (q : count ≡ count_at tree b) (z : d' ≡ d + 1) where
-      its_items : kids_of (tree_at l tree b) ≡ records_at (l - 1) tree count first
-      its_items = rw (e, q) (kids_are l tree b i.accepted)
+    module _ {most : ℕ} {space block : Record} {items : Records} (f : Spaced r (kids_of (rec_of block))) (i : IsBlock most space block) (k : ChildrenOf block items) (same : space.tree.now ≡ tree) {d' : ℕ} (z : d' ≡ d + 1) where
+      its_items : kids_of (rec_of block) ≡ records_at items.levels tree items.count items.at
+      unfolding recs_of
+      its_items = sym k.are ∙ ap (λ (s : List ℕ). records_at items.levels s items.count items.at) (items_tree i k same)
 
-      its_placed : placed_of top r d n ≡ placed_of_all false (records_at (l - 1) tree count first) d' n
+      its_placed : placed_of top r d n ≡ placed_of_all false (records_at items.levels tree items.count items.at) d' n
       its_placed =
           f.placed list scope.unresolved (typing_of tree scope) top d n
-          ∙ (ap (λ (ks : Recs). placed_of_all false ks (suc d) n) its_items ∙ ap (λ (k : ℕ). placed_of_all false (records_at (l - 1) tree count first) k n) (omega arith))
+          ∙ (ap (λ (ks : Recs). placed_of_all false ks (suc d) n) its_items ∙ ap (λ (e : ℕ). placed_of_all false (records_at items.levels tree items.count items.at) e n) (omega arith))
 
-      pub block_ready : n ≤ at → {index : List ℕ} → Indexed tree index → ReadyAll (l - 1) tree count first n index
-      block_ready h x = record {
-        accepted = rw (e, q) (children l tree b i.accepted);
-        low = omega (arith, i.behind, e);
-        indexed = x;
-      }
-
-      pub block-deep : levels + 2 * d ≤ 63 → l - 1 + 2 * d' ≤ 63
-      block-deep h = omega (arith, i.lower, level i.accepted, z)
-
-      pub block-holds : {g : List ℕ} {p : ℕ} → Holds g p (what_of (placed_of top r d n)) → Holds g p (what_of (placed_of_all false (records_at (l - 1) tree count first) d' n))
+      pub block-holds : {g : List ℕ} {p : ℕ} → Holds g p (what_of (placed_of top r d n)) → Holds g p (what_of (placed_of_all false (records_at items.levels tree items.count items.at) d' n))
       block-holds {g} {p} h = subst (λ (xs : List Placed). Holds g p (what_of xs)) its_placed h
 
-      pub block-counts : {t u : List (List ℕ)} {s k : State}
-          → Counts t u s k (placed_of_all false (records_at (l - 1) tree count first) d' n) (items_of list tree scope false (records_at (l - 1) tree count first) n).2
-          → Counts t u s k (placed_of top r d n) (item_of list tree scope top r n).2
+      pub block-counts : {t u : List (List ℕ)} {s q : State}
+          → Counts t u s q (placed_of_all false (records_at items.levels tree items.count items.at) d' n) (items_of list tree scope false (records_at items.levels tree items.count items.at) n).2
+          → Counts t u s q (placed_of top r d n) (item_of list tree scope top r n).2
       block-counts c =
           counts-as c (sym its_placed)
           (ap (λ (ks : Recs). (items_of list tree scope false ks n).2) (sym its_items) ∙ sym (f.counter list scope.unresolved (typing_of tree scope) top n))

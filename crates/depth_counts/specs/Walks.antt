@@ -1,15 +1,14 @@
 -- What the walk over the items of a module meets.
-use Rattle.std.specs.Prelude.{ℕ, suc, ◌+◌, ◌*◌, ◌≤◌, length, ◌≡◌, List, Bool, false}
-use Rattle.definition.specs.Tree.{Rec, Recs, nil, mark_at, tree_at}
+use Rattle.std.specs.Prelude.{ℕ, suc, ◌+◌, ◌*◌, ◌≤◌, length, ◌≡◌, List, Bool, false, Option, MatchOption}
+use Rattle.definition.specs.Tree.{Rec, Recs, nil}
 use Rattle.definition.specs.Grammar.{mark}
-use Rattle.definition.specs.Children.{AcceptedAt}
-use Rattle.definition.specs.Record.{kids_of, Typing}
+use Rattle.definition.specs.Record.{mark_of, kids_of, kid, Typing}
 use Rattle.definition.specs.Items.{transform_module_items, transform_module_item, transform_ts_ns_body}
 use Rattle.definition.specs.Depths.{Placed, all_at, items_placed, item_placed, body_placed}
+use Rattle.records.specs.declared.tree.Record.{Record}
+use Rattle.records.specs.Views.{rec_of}
 use Rattle.typing.specs.declared.State.{State}
 use Rattle.depth_counts.specs.Tables.{Adds}
-use Rattle.depth_counts.specs.declared.walk.Space.{Space}
-use Rattle.depth_counts.specs.declared.walk.Space.TheVariants.{Block, Empty, Other}
 
 -- the diagnostics of a body are those of the items ks
 pub record Holding (b : Rec) (ks : Recs) : Type 0 where
@@ -25,27 +24,29 @@ pub record Spaced (r : Rec) (ks : Recs) : Type 0 where
 pub record Flat (r : Rec) : Type 0 where
   pub placed : (list : List ℕ) (ctx : ℕ) (ty : Typing) (top : Bool) (d n : ℕ) → item_placed list ctx ty r top d n ≡ all_at d (transform_module_item list ctx ty r top n).1
 
--- the items of the Nb at b, behind `at`, with l levels left for it
-pub record IsBlock (levels : ℕ) (tree : List ℕ) (at b l : ℕ) : Type 0 where
-  pub behind : at ≤ b
-  pub accepted : AcceptedAt l tree b
-  pub lower : l ≤ levels
-  pub block : mark_at tree b ≡ mark "Nb"
+-- b is an Nb of the tree of r, at its place or behind it, with at most so many levels left
+pub record IsBlock (most : ℕ) (r b : Record) : Type 0 where
+  pub block : mark_of (rec_of b) ≡ mark "Nb"
+  pub tree : b.tree ≡ r.tree
+  pub place : r.at ≤ b.at
+  pub levels : b.levels ≤ most
 
-abbrev pub items_of_block : ℕ → List ℕ → ℕ → Recs
-items_of_block l tree b = kids_of (tree_at l tree b)
+-- what was found in a body, from r on
+abbrev pub FoundBody : ℕ → Record → Rec → Option Record → Type 0
+FoundBody most r body found = MatchOption found (Holding body nil) (λ b. IsBlock most r b × Holding body (kids_of (rec_of b)))
 
--- what was found in a body, behind `at`
-abbrev pub FoundBody : ℕ → List ℕ → ℕ → Rec → Space → Type 0
-FoundBody levels tree at body (Block b l) = IsBlock levels tree at b l × Holding body (items_of_block l tree b)
-FoundBody levels tree at body Empty = Holding body nil
-FoundBody levels tree at body Other = ⊥
+-- the Ns `space` is the item, or what it exports: the diagnostics of its body are those of the item, one deeper
+pub record SpaceOf (item space : Record) : Type 0 where
+  pub is : mark_of (rec_of space) ≡ mark "Ns"
+  pub tree : space.tree ≡ item.tree
+  pub place : item.at ≤ space.at
+  pub levels : space.levels ≤ item.levels
+  pub placed : (list : List ℕ) (ctx : ℕ) (ty : Typing) (top : Bool) (d n : ℕ) → item_placed list ctx ty (rec_of item) top d n ≡ body_placed list ctx ty (kid 1 (kids_of (rec_of space))) (suc d) n
+  pub counter : (list : List ℕ) (ctx : ℕ) (ty : Typing) (top : Bool) (n : ℕ) → (transform_module_item list ctx ty (rec_of item) top n).2 ≡ (transform_ts_ns_body list ctx ty (kid 1 (kids_of (rec_of space))) n).2
 
--- what the item r at `at` was found to be
-abbrev pub FoundItem : ℕ → List ℕ → ℕ → Rec → Space → Type 0
-FoundItem levels tree at r (Block b l) = IsBlock levels tree at b l × Spaced r (items_of_block l tree b)
-FoundItem levels tree at r Empty = Spaced r nil
-FoundItem levels tree at r Other = Flat r
+-- the Ns of an item, or that it is another item
+abbrev pub FoundSpace : Record → Option Record → Type 0
+FoundSpace item found = MatchOption found (Flat (rec_of item)) (λ space. SpaceOf item space)
 
 -- the diagnostics xs were counted, from where s stood to where r stands, and the name counter became n
 pub record Counts (t u : List (List ℕ)) (s r : State) (xs : List Placed) (n : ℕ) : Type 0 where

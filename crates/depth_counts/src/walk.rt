@@ -1,74 +1,58 @@
 // The walk over the items of a module: an Ns is gone into, every other item is transformed once more, without buffers, to know how many diagnostics
 // are its own.
 ghost use Rattle.std.specs.Prelude.{◌≡◌, ◌+◌, ◌*◌, ◌-◌, ◌<◌, ◌≤◌};
-ghost use Rattle.definition.specs.Tree.{mark_at, tree_at};
+ghost use Rattle.definition.specs.Tree.{tree_at};
 ghost use Rattle.definition.specs.Grammar.{mark};
-ghost use Rattle.definition.specs.Children.{AcceptedAt};
-ghost use Rattle.definition.specs.Record.{kids_of, kid};
+ghost use Rattle.definition.specs.Record.{mark_of, kids_of, kid};
 ghost use Rattle.definition.specs.Depths.{columns, all_at, what_of, items_placed, item_placed};
+ghost use Rattle.records.specs.Views.{rec_of};
 ghost use Rattle.typing.specs.Did.{Ready};
 ghost use Rattle.classes.specs.Typings.{typing_of, ReadyAll};
 ghost use Rattle.items.specs.Steps.{records_at, item_of, items_of};
 ghost use Rattle.depth_counts.specs.Tables.{Small, Holds};
-ghost use Rattle.depth_counts.specs.Walks.{FoundBody, FoundItem, Counts};
+ghost use Rattle.depth_counts.specs.Walks.{FoundBody, FoundSpace, Counts};
 
 use crate::table::{Table, count_marks};
 use items::transform_module_item;
 use prescan::Scope;
-use reader::next_at;
-use records::marks::{ED, NB, ND, NS};
-use records::{DIAGNOSTIC_SIZE, body_at, count_at, mark_at};
+use records::marks::Mark;
+use records::tree::Record;
+use records::{DIAGNOSTIC_SIZE, record_end};
 use typing::State;
 
-// What an item is to the walk: an Ns with the Nb of its innermost body and the levels that are left for that, an Ns without one, or another item.
-#[derive(Clone, Copy)]
-pub enum Space {
-    Block(usize, usize),
-    Empty,
-    Other,
-}
-
 // The Nb in a namespace's body: of an Nd the innermost.
-fn block_of(tree: &[u8], at: usize, levels: usize) -> Space
-    requires { AcceptedAt levels tree.now at }
-    ensures { FoundBody levels tree.now at (tree_at levels tree.now at) result }
+fn block_of<'t>(body: Record<'t>) -> Option<Record<'t>>
+    ensures { FoundBody body.entry.levels body.entry (rec_of body.entry) result }
 {
-    match mark_at(tree, at) {
-        NB => Space::Block(at, levels),
-        ND => {
-            let name = body_at(tree, at);
-            let body = next_at(tree, name, levels - 1);
-            block_of(tree, body, levels - 1)
-        }
-        _ => Space::Empty,
+    match body.mark() {
+        Mark::Nb => Some(body),
+        Mark::Nd => block_of(body.children().rest().first()),
+        _ => None,
     }
 }
 
-// The Ns at `at`.
-fn space_at(tree: &[u8], at: usize, levels: usize) -> Space
-    requires { AcceptedAt levels tree.now at × (mark_at tree.now at ≡ mark "Ns") }
-    ensures { FoundBody (levels - 1) tree.now at (kid 1 (kids_of (tree_at levels tree.now at))) result }
+// The same of an Ns: its body is its second child.
+fn block_in<'t>(space: Record<'t>) -> Option<Record<'t>>
+    requires { mark_of (rec_of space) ≡ mark "Ns" }
+    ensures { FoundBody (space.entry.levels - 1) space.entry (kid 1 (kids_of (rec_of space.entry))) result }
 {
-    let name = body_at(tree, at);
-    let body = next_at(tree, name, levels - 1);
-    block_of(tree, body, levels - 1)
+    block_of(space.children().rest().first())
 }
 
-// What the item at `at` is.
-fn space_of(tree: &[u8], at: usize, levels: usize) -> Space
-    requires { AcceptedAt levels tree.now at }
-    ensures { FoundItem (levels - 1) tree.now at (tree_at levels tree.now at) result }
+// The Ns that an item is, or that an Ed holds; another item has none.
+fn space_of<'t>(item: Record<'t>) -> Option<Record<'t>>
+    ensures { FoundSpace item.entry result }
 {
-    match mark_at(tree, at) {
-        NS => space_at(tree, at, levels),
-        ED => {
-            let decl = body_at(tree, at);
-            if mark_at(tree, decl) != NS {
-                return Space::Other;
+    match item.mark() {
+        Mark::Ns => Some(item),
+        Mark::Ed => {
+            let decl = item.children().first();
+            if decl.mark() != Mark::Ns {
+                return None;
             }
-            space_at(tree, decl, levels - 1)
+            Some(decl)
         }
-        _ => Space::Other,
+        _ => None,
     }
 }
 
@@ -154,7 +138,7 @@ pub fn count_items(
             table,
             next,
         );
-        item = next_at(tree, item, levels);
+        item = record_end(tree, item, levels);
         k -= 1;
     }
     next
@@ -183,23 +167,9 @@ fn count_item(
         (item_placed list.now scope.unresolved (typing_of tree.now scope) (tree_at levels tree.now at) top depth s.counter)
         (item_of list.now tree.now scope top (tree_at levels tree.now at) s.counter).2 }
 {
-    match space_of(tree, at, levels) {
-        Space::Block(block, left) => count_items(
-            tree,
-            body_at(tree, block),
-            count_at(tree, block),
-            left - 1,
-            depth + 1,
-            index,
-            scope,
-            list,
-            false,
-            diagnostics,
-            table,
-            s,
-        ),
-        Space::Empty => s,
-        Space::Other => count_plain(
+    let item = Record { tree, at, levels };
+    let Some(space) = space_of(item) else {
+        return count_plain(
             tree,
             at,
             levels,
@@ -211,6 +181,24 @@ fn count_item(
             diagnostics,
             table,
             s,
-        ),
-    }
+        );
+    };
+    let Some(block) = block_in(space) else {
+        return s;
+    };
+    let items = block.children();
+    count_items(
+        tree,
+        items.at,
+        items.count,
+        items.levels,
+        depth + 1,
+        index,
+        scope,
+        list,
+        false,
+        diagnostics,
+        table,
+        s,
+    )
 }

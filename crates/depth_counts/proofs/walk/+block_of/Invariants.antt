@@ -2,4 +2,4 @@
 use Rattle.depth_counts.proofs.walk.+block_of.Given as goal
 
 abbrev pub decreases-block_of : goal.decreases-block_of
-decreases-block_of l = l.levels
+decreases-block_of l = l.body.levels
