@@ -1,94 +1,69 @@
 // Enum members: `valid_enum_init_expr` and `valid_enum_ts_type`.
 ghost use Rattle.std.specs.Prelude.{◌≡◌, ◌||◌};
-ghost use Rattle.definition.specs.Tree.{mark_at, tree_at};
+ghost use Rattle.definition.specs.Tree.{tree_at};
 ghost use Rattle.definition.specs.Children.{AcceptedAt, AllAccepted};
 ghost use Rattle.definition.specs.Record.{kids_of, is, each};
 ghost use Rattle.definition.specs.Enums.{valid_enum_ts_type, valid_enum_init_expr, valid_all, enum_init, enum_member};
 ghost use Rattle.parts.specs.Makes.{Keeps, KeepsAll};
+ghost use Rattle.records.specs.Views.{rec_of};
 ghost use Rattle.items.specs.Steps.{records_at};
 
 use parts::frame::{begin, finish, keep_next, passed};
 use parts::keep;
-use reader::child_at;
 use records::made::put_absent;
-use records::marks::{AS, BN, EM, ID, MB, NO, NU, OC, OP, PR, QU, SS, TA, TE, TL};
-use records::{body_at, count_at, mark_at, record_end};
+use records::marks::{EM, Mark};
+use records::tree::Record;
+use records::{mark_at, record_end};
 use typing::State;
 
-// `valid_enum_ts_type`: `TsLit::Number`. The literal is "handed back as the part of the tree it fills".
-fn valid_enum_ts_type(tree: &[u8], at: usize, levels: usize) -> bool
-    requires { AcceptedAt levels tree.now at }
-    ensures { result ≡ valid_enum_ts_type (tree_at levels tree.now at) }
+// `valid_enum_ts_type`: `TsLit::Number`.
+fn valid_enum_ts_type(ty: Record) -> bool
+    ensures { result ≡ valid_enum_ts_type (rec_of ty.entry) }
 {
-    if mark_at(tree, at) != TL {
-        return false;
-    }
-    let literal = child_at(tree, at, levels - 1);
-    mark_at(literal, 0) == NU
+    ty.mark() == Mark::Tl && ty.children().first().mark() == Mark::Nu
 }
 
 // `valid_enum_init_expr`, arm by arm.
 #[cycle(enum_values)]
-pub fn valid_enum_init_expr(tree: &[u8], at: usize, levels: usize) -> bool
-    requires { AcceptedAt levels tree.now at }
-    ensures { result ≡ valid_enum_init_expr (tree_at levels tree.now at) }
+pub fn valid_enum_init_expr(expr: Record) -> bool
+    ensures { result ≡ valid_enum_init_expr (rec_of expr.entry) }
 {
-    match mark_at(tree, at) {
-        BN => {
-            let first = body_at(tree, at);
-            if !valid_enum_init_expr(tree, first, levels - 1) {
-                return false;
-            }
-            let second = record_end(tree, first, levels - 1);
-            valid_enum_init_expr(tree, second, levels - 1)
+    match expr.mark() {
+        Mark::Bn => {
+            let operands = expr.children();
+            valid_enum_init_expr(operands.first()) && valid_enum_init_expr(operands.rest().first())
         }
-        MB | PR => valid_enum_init_expr(tree, body_at(tree, at), levels - 1),
-        OC => {
-            let member = body_at(tree, at);
-            if mark_at(tree, member) != MB {
-                return false;
-            }
-            valid_enum_init_expr(tree, member, levels - 1)
+        Mark::Mb | Mark::Pr => valid_enum_init_expr(expr.children().first()),
+        Mark::Oc => {
+            let member = expr.children().first();
+            member.mark() == Mark::Mb && valid_enum_init_expr(member)
         }
-        ID | NU | SS => true,
-        TE => valid_exprs(tree, at, levels),
-        AS | TA => {
-            let ty = record_end(tree, body_at(tree, at), levels - 1);
-            valid_enum_ts_type(tree, ty, levels - 1)
-        }
+        Mark::Id | Mark::Nu | Mark::Ss => true,
+        Mark::Te => valid_exprs(expr),
+        Mark::As | Mark::Ta => valid_enum_ts_type(expr.children().rest().first()),
         _ => false,
     }
 }
 
 // `Expr::Tpl`: whether all its expressions are valid.
 #[cycle(enum_values)]
-fn valid_exprs(tree: &[u8], at: usize, levels: usize) -> bool
-    requires { AcceptedAt levels tree.now at }
-    ensures { result ≡ valid_all (kids_of (tree_at levels tree.now at)) }
+fn valid_exprs(te: Record) -> bool
+    ensures { result ≡ valid_all (kids_of (rec_of te.entry)) }
 {
-    let mut n = count_at(tree, at);
-    let mut child = body_at(tree, at);
-    while 0 < n {
-        if !valid_part(tree, child, levels - 1) {
+    for kid in te.children() {
+        if !valid_part(kid) {
             return false;
         }
-        child = record_end(tree, child, levels - 1);
-        n -= 1;
     }
     true
 }
 
 // A child of a template: a Qu, an Op or an expression.
 #[cycle(enum_values)]
-fn valid_part(tree: &[u8], at: usize, levels: usize) -> bool
-    requires { AcceptedAt levels tree.now at }
-    ensures { result ≡ ((is "Qu" (tree_at levels tree.now at) || is "Op" (tree_at levels tree.now at))
-        || valid_enum_init_expr (tree_at levels tree.now at)) }
+fn valid_part(kid: Record) -> bool
+    ensures { result ≡ ((is "Qu" (rec_of kid.entry) || is "Op" (rec_of kid.entry)) || valid_enum_init_expr (rec_of kid.entry)) }
 {
-    match mark_at(tree, at) {
-        QU | OP => true,
-        _ => valid_enum_init_expr(tree, at, levels),
-    }
+    matches!(kid.mark(), Mark::Qu | Mark::Op) || valid_enum_init_expr(kid)
 }
 
 // The init of an Em.
@@ -96,10 +71,8 @@ fn enum_init(tree: &[u8], at: usize, levels: usize, out: &mut [u8], s: State) ->
     requires { AcceptedAt levels tree.now at }
     ensures { Keeps out.old out.new s result (enum_init (tree_at levels tree.now at) s.counter).0 }
 {
-    if mark_at(tree, at) == NO {
-        return keep(tree, at, levels, out, s);
-    }
-    if valid_enum_init_expr(tree, at, levels) {
+    let init = Record { tree, at, levels };
+    if init.mark() == Mark::No || valid_enum_init_expr(init) {
         return keep(tree, at, levels, out, s);
     }
     let mut next = s;

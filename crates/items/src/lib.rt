@@ -18,7 +18,6 @@ use classes::overloads::is_impl_with_overloads;
 use parts::frame::{begin_with, finish, keep_next, passed};
 use parts::{front_size, keep, keep_all, put_front};
 use prescan::Scope;
-use reader::next_at;
 use records::flags::Flags;
 use records::marks::{CD, D1, D5, ED, EN, FD, IM, NB, ND, NS, OP, ST, US, VD, XD, XE};
 use records::{body_at, mark_at, read_head, record_end};
@@ -87,7 +86,7 @@ pub fn transform_module_items(
         );
         next = made.s;
         count += made.count;
-        item = next_at(tree, item, levels);
+        item = record_end(tree, item, levels);
         k -= 1;
     }
     Counted { s: next, count }

@@ -261,8 +261,8 @@ transform_module_items-transform_module_item-made-requires t c = (omega (arith, 
 pub transform_module_items-overflow_add-count : goal.transform_module_items-overflow_add-count
 transform_module_items-overflow_add-count t c = omega (arith, c.loop-k.invariant.few, itemizing_few c.args.list.now c.args.tree.now c.args.scope c.args.top c.args.levels c.args.n c.args.at c.loop-k.invariant, c.transform_module_item-made.ensures.many)
 
-pub transform_module_items-next_at-item-requires : goal.transform_module_items-next_at-item-requires
-transform_module_items-next_at-item-requires t c = is_whole _ _ _ (left-first c.loop-k.invariant.making.left c.loop-k-test.true)
+pub transform_module_items-record_end-item-requires : goal.transform_module_items-record_end-item-requires
+transform_module_items-record_end-item-requires t c = is_whole _ _ _ (left-first c.loop-k.invariant.making.left c.loop-k-test.true)
 
 pub transform_module_items-overflow_sub-k : goal.transform_module_items-overflow_sub-k
 transform_module_items-overflow_sub-k t c = omega arith
@@ -271,7 +271,7 @@ pub transform_module_items-loop-k-smaller : goal.transform_module_items-loop-k-s
 transform_module_items-loop-k-smaller t c = omega arith
 
 pub transform_module_items-loop-k-preserved : goal.transform_module_items-loop-k-preserved
-transform_module_items-loop-k-preserved t c = itemizing_turn c.args.list.now c.args.tree.now c.args.scope c.args.top c.args.levels c.args.n c.args.at c.loop-k.invariant c.transform_module_item-made.ensures c.loop-k-test.true c.next_at-item.ensures
+transform_module_items-loop-k-preserved t c = itemizing_turn c.args.list.now c.args.tree.now c.args.scope c.args.top c.args.levels c.args.n c.args.at c.loop-k.invariant c.transform_module_item-made.ensures c.loop-k-test.true c.record_end-item.ensures
 
 pub transform_module_items-shape_of-out : goal.transform_module_items-shape_of-out
 transform_module_items-shape_of-out t c = c.loop-k.invariant.making.makes.step.ran.out.same

@@ -1,150 +1,97 @@
--- The cycle of `valid_enum_init_expr`: each member meets its contract, and the remaining depth falls.
-use mathlib.Core.Path.{refl, sym}
-use native.Mathlib.Omega.{arith}
-use Rattle.definition.specs.Enums.{valid_all}
-use Rattle.definition.proofs.Children.{itself, some_left}
-use Rattle.definition.proofs.Walk.{left-kids, left-first, left-done, all-turn, all-stop}
-use Rattle.swc_helpers.proofs.Made.{is_whole}
-use Rattle.items.proofs.Inits.{told, told-either, told-any, told-not, bn_first, bn_second, bn_false, bn_true, over_first, over-is, oc_first, oc_false, oc_is, typed-first, typed-second, typed-is, always, template-is, never, valid_part, part_other, part_expr}
+-- The cycle of `valid_enum_init_expr`: in each arm the mark picks the definition's case; those of a template's children that are left decide.
+use Rattle.std.proofs.Common.{sym, ◌∙◌, arith}
+use Rattle.definition.specs.Enums.{init_kind}
+use Rattle.records.specs.declared.marks.Mark.TheVariants.{Bn, Mb, Pr, Oc, Id, Nu, Ss, Te, As, Ta}
+use Rattle.records.proofs.Records.{from_children, from_rest, child_is}
+use Rattle.records.proofs.SameMarks.{tested, marked, not_marked}
+use Rattle.items.proofs.Inits.{operands, operands_are, one_false, member, member_by, template_is, never, over_some, over_is, always, typed_two, typed_is, all_none, all_step}
 use Rattle.items.proofs.enums.+enum_values.Goals as goal
 
-pub valid_enum_init_expr-mark_at-requires : goal.valid_enum_init_expr-mark_at-requires
-valid_enum_init_expr-mark_at-requires t c = (itself _ _ _ c.requires).room
+pub valid_enum_init_expr-first-requires : goal.valid_enum_init_expr-first-requires
+valid_enum_init_expr-first-requires t c = omega (arith, c.children-operands.ensures.many, operands c.args.expr (marked _ c.mark.ensures c.in-Bn.is))
 
-pub valid_enum_init_expr-body_at-first-requires : goal.valid_enum_init_expr-body_at-first-requires
-valid_enum_init_expr-body_at-first-requires t c = (itself _ _ _ c.requires).room
+pub valid_enum_init_expr-rest-requires : goal.valid_enum_init_expr-rest-requires
+valid_enum_init_expr-rest-requires t c = omega (arith, c.children-operands.ensures.many, operands c.args.expr (marked _ c.mark.ensures c.in-Bn.is))
 
-pub valid_enum_init_expr-overflow_sub-levels : goal.valid_enum_init_expr-overflow_sub-levels
-valid_enum_init_expr-overflow_sub-levels t c = omega (arith, some_left _ _ _ c.requires)
+pub valid_enum_init_expr-first-requires-then-valid_enum_init_expr : goal.valid_enum_init_expr-first-requires-then-valid_enum_init_expr
+valid_enum_init_expr-first-requires-then-valid_enum_init_expr t c =
+    omega (arith, c.children-operands.ensures.many, c.rest.ensures.many, operands c.args.expr (marked _ c.mark.ensures c.in-Bn.is))
 
-pub valid_enum_init_expr-valid_enum_init_expr-requires : goal.valid_enum_init_expr-valid_enum_init_expr-requires
-valid_enum_init_expr-valid_enum_init_expr-requires t c = (omega (arith, some_left _ _ _ c.requires, c.decreases), bn_first _ _ _ c.requires (told c.mark_at.ensures.0 c.in-28226.is) c.body_at-first.ensures)
+pub valid_enum_init_expr-first-requires-in-Mb : goal.valid_enum_init_expr-first-requires-in-Mb
+valid_enum_init_expr-first-requires-in-Mb t c = omega (arith, c.children.ensures.many, over_some c.args.expr c.mark.ensures c.in-Mb.is)
 
-pub valid_enum_init_expr-returns-then-not-valid_enum_init_expr : goal.valid_enum_init_expr-returns-then-not-valid_enum_init_expr
-valid_enum_init_expr-returns-then-not-valid_enum_init_expr t c = bn_false _ _ _ c.requires (told c.mark_at.ensures.0 c.in-28226.is) c.body_at-first.ensures c.valid_enum_init_expr.ensures c.if-not-valid_enum_init_expr.true-raw
+pub valid_enum_init_expr-first-member-requires : goal.valid_enum_init_expr-first-member-requires
+valid_enum_init_expr-first-member-requires t c = omega (arith, c.children-in-Oc.ensures.many, member c.args.expr (marked _ c.mark.ensures c.in-Oc.is))
 
-pub valid_enum_init_expr-overflow_sub-levels-in-28226 : goal.valid_enum_init_expr-overflow_sub-levels-in-28226
-valid_enum_init_expr-overflow_sub-levels-in-28226 t c = omega (arith, some_left _ _ _ c.requires)
+pub valid_enum_init_expr-rest-requires-in-As : goal.valid_enum_init_expr-rest-requires-in-As
+valid_enum_init_expr-rest-requires-in-As t c = omega (arith, c.children-in-As.ensures.many, typed_two c.args.expr c.mark.ensures c.in-As.is)
 
-pub valid_enum_init_expr-record_end-second-requires : goal.valid_enum_init_expr-record_end-second-requires
-valid_enum_init_expr-record_end-second-requires t c = is_whole _ _ _ (bn_first _ _ _ c.requires (told c.mark_at.ensures.0 c.in-28226.is) c.body_at-first.ensures)
+pub valid_enum_init_expr-first-requires-in-As : goal.valid_enum_init_expr-first-requires-in-As
+valid_enum_init_expr-first-requires-in-As t c =
+    omega (arith, c.children-in-As.ensures.many, c.rest-in-As.ensures.many, typed_two c.args.expr c.mark.ensures c.in-As.is)
 
-pub valid_enum_init_expr-overflow_sub-levels-in-28226-2 : goal.valid_enum_init_expr-overflow_sub-levels-in-28226-2
-valid_enum_init_expr-overflow_sub-levels-in-28226-2 t c = omega (arith, some_left _ _ _ c.requires)
+pub valid_enum_init_expr-returns-then-valid_enum_init_expr : goal.valid_enum_init_expr-returns-then-valid_enum_init_expr
+valid_enum_init_expr-returns-then-valid_enum_init_expr t c =
+    let e = marked _ c.mark.ensures c.in-Bn.is in
+    let n = operands c.args.expr e in
+    let f = from_children c.children-operands.ensures in
+    let x = child_is f (omega (arith, c.children-operands.ensures.many, n)) c.first.ensures in
+    let g = from_rest f (omega (arith, c.children-operands.ensures.many, n)) c.rest.ensures in
+    let y = child_is g (omega (arith, c.children-operands.ensures.many, c.rest.ensures.many, n)) c.first-then-valid_enum_init_expr.ensures in
+    c.valid_enum_init_expr-then-valid_enum_init_expr.ensures ∙ sym (operands_are c.args.expr e x y ∙ rw (sym c.valid_enum_init_expr.ensures ∙ c.if-valid_enum_init_expr.true))
 
-pub valid_enum_init_expr-valid_enum_init_expr-requires-in-28226 : goal.valid_enum_init_expr-valid_enum_init_expr-requires-in-28226
-valid_enum_init_expr-valid_enum_init_expr-requires-in-28226 t c = (omega (arith, some_left _ _ _ c.requires, c.decreases), bn_second _ _ _ c.requires (told c.mark_at.ensures.0 c.in-28226.is) c.body_at-first.ensures c.record_end-second.ensures)
+pub valid_enum_init_expr-returns-else-valid_enum_init_expr : goal.valid_enum_init_expr-returns-else-valid_enum_init_expr
+valid_enum_init_expr-returns-else-valid_enum_init_expr t c =
+    let e = marked _ c.mark.ensures c.in-Bn.is in
+    let x = child_is (from_children c.children-operands.ensures) (omega (arith, c.children-operands.ensures.many, operands c.args.expr e)) c.first.ensures in
+    c.if-valid_enum_init_expr.false ∙ sym (one_false c.args.expr e x (sym c.valid_enum_init_expr.ensures ∙ c.if-valid_enum_init_expr.false))
 
-pub valid_enum_init_expr-body_at-requires : goal.valid_enum_init_expr-body_at-requires
-valid_enum_init_expr-body_at-requires t c = (itself _ _ _ c.requires).room
+pub valid_enum_init_expr-returns-in-Mb : goal.valid_enum_init_expr-returns-in-Mb
+valid_enum_init_expr-returns-in-Mb t c =
+    let x = child_is (from_children c.children.ensures) (omega (arith, c.children.ensures.many, over_some c.args.expr c.mark.ensures c.in-Mb.is)) c.first-in-Mb.ensures in
+    c.valid_enum_init_expr-in-Mb.ensures ∙ sym (over_is c.args.expr c.mark.ensures c.in-Mb.is x)
 
-pub valid_enum_init_expr-overflow_sub-levels-in-25165 : goal.valid_enum_init_expr-overflow_sub-levels-in-25165
-valid_enum_init_expr-overflow_sub-levels-in-25165 t c = omega (arith, some_left _ _ _ c.requires)
+pub valid_enum_init_expr-returns-then-eq : goal.valid_enum_init_expr-returns-then-eq
+valid_enum_init_expr-returns-then-eq t c =
+    let e = marked _ c.mark.ensures c.in-Oc.is in
+    let x = child_is (from_children c.children-in-Oc.ensures) (omega (arith, c.children-in-Oc.ensures.many, member c.args.expr e)) c.first-member.ensures in
+    c.valid_enum_init_expr-then-eq.ensures ∙ sym (member_by c.args.expr e x ∙ rw (sym (tested _ c.mark-in-Oc.ensures Mb) ∙ (sym c.eq.ensures ∙ c.if-eq.true)))
 
-pub valid_enum_init_expr-valid_enum_init_expr-requires-in-25165 : goal.valid_enum_init_expr-valid_enum_init_expr-requires-in-25165
-valid_enum_init_expr-valid_enum_init_expr-requires-in-25165 t c = (omega (arith, some_left _ _ _ c.requires, c.decreases), over_first _ _ _ c.requires (told-either c.mark_at.ensures.0 c.in-25165.is) c.body_at.ensures)
+pub valid_enum_init_expr-returns-else-eq : goal.valid_enum_init_expr-returns-else-eq
+valid_enum_init_expr-returns-else-eq t c =
+    let e = marked _ c.mark.ensures c.in-Oc.is in
+    let x = child_is (from_children c.children-in-Oc.ensures) (omega (arith, c.children-in-Oc.ensures.many, member c.args.expr e)) c.first-member.ensures in
+    c.if-eq.false ∙ sym (member_by c.args.expr e x ∙ rw (sym (tested _ c.mark-in-Oc.ensures Mb) ∙ (sym c.eq.ensures ∙ c.if-eq.false)))
 
-pub valid_enum_init_expr-body_at-member-requires : goal.valid_enum_init_expr-body_at-member-requires
-valid_enum_init_expr-body_at-member-requires t c = (itself _ _ _ c.requires).room
+pub valid_enum_init_expr-returns-in-Id : goal.valid_enum_init_expr-returns-in-Id
+valid_enum_init_expr-returns-in-Id t c = sym (always c.args.expr c.mark.ensures c.in-Id.is)
 
-pub valid_enum_init_expr-mark_at-requires-in-25423 : goal.valid_enum_init_expr-mark_at-requires-in-25423
-valid_enum_init_expr-mark_at-requires-in-25423 t c = (itself _ _ _ (oc_first _ _ _ c.requires (told c.mark_at.ensures.0 c.in-25423.is) c.body_at-member.ensures)).room
+pub valid_enum_init_expr-returns-in-Te : goal.valid_enum_init_expr-returns-in-Te
+valid_enum_init_expr-returns-in-Te t c = c.valid_exprs.ensures ∙ sym (template_is c.args.expr (marked _ c.mark.ensures c.in-Te.is))
 
-pub valid_enum_init_expr-returns-then-mark_at-ne-MB : goal.valid_enum_init_expr-returns-then-mark_at-ne-MB
-valid_enum_init_expr-returns-then-mark_at-ne-MB t c = oc_false _ _ _ c.requires (told c.mark_at.ensures.0 c.in-25423.is) c.body_at-member.ensures (told-not c.mark_at-in-25423.ensures.0 c.if-mark_at-ne-MB.true)
-
-pub valid_enum_init_expr-overflow_sub-levels-in-25423 : goal.valid_enum_init_expr-overflow_sub-levels-in-25423
-valid_enum_init_expr-overflow_sub-levels-in-25423 t c = omega (arith, some_left _ _ _ c.requires)
-
-pub valid_enum_init_expr-valid_enum_init_expr-requires-in-25423 : goal.valid_enum_init_expr-valid_enum_init_expr-requires-in-25423
-valid_enum_init_expr-valid_enum_init_expr-requires-in-25423 t c = (omega (arith, some_left _ _ _ c.requires, c.decreases), oc_first _ _ _ c.requires (told c.mark_at.ensures.0 c.in-25423.is) c.body_at-member.ensures)
-
-pub valid_enum_init_expr-valid_exprs-requires : goal.valid_enum_init_expr-valid_exprs-requires
-valid_enum_init_expr-valid_exprs-requires t c = (omega (arith, c.decreases), c.requires)
-
-pub valid_enum_init_expr-body_at-requires-in-29505 : goal.valid_enum_init_expr-body_at-requires-in-29505
-valid_enum_init_expr-body_at-requires-in-29505 t c = (itself _ _ _ c.requires).room
-
-pub valid_enum_init_expr-overflow_sub-levels-in-29505 : goal.valid_enum_init_expr-overflow_sub-levels-in-29505
-valid_enum_init_expr-overflow_sub-levels-in-29505 t c = omega (arith, some_left _ _ _ c.requires)
-
-pub valid_enum_init_expr-record_end-ty-requires : goal.valid_enum_init_expr-record_end-ty-requires
-valid_enum_init_expr-record_end-ty-requires t c = is_whole _ _ _ (typed-first _ _ _ c.requires (told-either c.mark_at.ensures.0 c.in-29505.is) c.body_at-in-29505.ensures)
-
-pub valid_enum_init_expr-overflow_sub-levels-in-29505-2 : goal.valid_enum_init_expr-overflow_sub-levels-in-29505-2
-valid_enum_init_expr-overflow_sub-levels-in-29505-2 t c = omega (arith, some_left _ _ _ c.requires)
-
-pub valid_enum_init_expr-valid_enum_ts_type-requires : goal.valid_enum_init_expr-valid_enum_ts_type-requires
-valid_enum_init_expr-valid_enum_ts_type-requires t c = typed-second _ _ _ c.requires (told-either c.mark_at.ensures.0 c.in-29505.is) c.body_at-in-29505.ensures c.record_end-ty.ensures
-
-pub valid_enum_init_expr-returns-else-not-valid_enum_init_expr : goal.valid_enum_init_expr-returns-else-not-valid_enum_init_expr
-valid_enum_init_expr-returns-else-not-valid_enum_init_expr t c = bn_true _ _ _ c.requires (told c.mark_at.ensures.0 c.in-28226.is) c.body_at-first.ensures c.valid_enum_init_expr.ensures c.if-not-valid_enum_init_expr.false-raw c.record_end-second.ensures c.valid_enum_init_expr-in-28226.ensures
-
-pub valid_enum_init_expr-returns-in-25165 : goal.valid_enum_init_expr-returns-in-25165
-valid_enum_init_expr-returns-in-25165 t c = over-is _ _ _ c.requires (told-either c.mark_at.ensures.0 c.in-25165.is) c.body_at.ensures c.valid_enum_init_expr-in-25165.ensures
-
-pub valid_enum_init_expr-returns-else-mark_at-ne-MB : goal.valid_enum_init_expr-returns-else-mark_at-ne-MB
-valid_enum_init_expr-returns-else-mark_at-ne-MB t c = oc_is _ _ _ c.requires (told c.mark_at.ensures.0 c.in-25423.is) c.body_at-member.ensures (told c.mark_at-in-25423.ensures.0 c.if-mark_at-ne-MB.false) c.valid_enum_init_expr-in-25423.ensures
-
-pub valid_enum_init_expr-returns-in-25673 : goal.valid_enum_init_expr-returns-in-25673
-valid_enum_init_expr-returns-in-25673 t c = always _ _ _ c.requires (told-any c.mark_at.ensures.0 c.in-25673.is)
-
-pub valid_enum_init_expr-returns-in-25940 : goal.valid_enum_init_expr-returns-in-25940
-valid_enum_init_expr-returns-in-25940 t c = template-is _ _ _ c.requires (told c.mark_at.ensures.0 c.in-25940.is) c.valid_exprs.ensures
-
-pub valid_enum_init_expr-returns-in-29505 : goal.valid_enum_init_expr-returns-in-29505
-valid_enum_init_expr-returns-in-29505 t c = typed-is _ _ _ c.requires (told-either c.mark_at.ensures.0 c.in-29505.is) c.body_at-in-29505.ensures c.record_end-ty.ensures c.valid_enum_ts_type.ensures
+pub valid_enum_init_expr-returns-in-As : goal.valid_enum_init_expr-returns-in-As
+valid_enum_init_expr-returns-in-As t c =
+    let n = typed_two c.args.expr c.mark.ensures c.in-As.is in
+    let g = from_rest (from_children c.children-in-As.ensures) (omega (arith, c.children-in-As.ensures.many, n)) c.rest-in-As.ensures in
+    let y = child_is g (omega (arith, c.children-in-As.ensures.many, c.rest-in-As.ensures.many, n)) c.first-in-As.ensures in
+    c.valid_enum_ts_type.ensures ∙ sym (typed_is c.args.expr c.mark.ensures c.in-As.is y)
 
 pub valid_enum_init_expr-returns-in_default : goal.valid_enum_init_expr-returns-in_default
-valid_enum_init_expr-returns-in_default t c = never _ _ _ c.requires (told-not c.mark_at.ensures.0 c.in_default.in_default-own.rest.0.0.0.0.0.1) (λ q. c.in_default.in_default-own.rest.0.0.0.0.1 (told-either (sym c.mark_at.ensures.0) q)) (told-not c.mark_at.ensures.0 c.in_default.in_default-own.rest.0.0.0.1) (λ q. c.in_default.in_default-own.rest.0.0.1 (told-any (sym c.mark_at.ensures.0) q)) (told-not c.mark_at.ensures.0 c.in_default.in_default-own.rest.0.1) (λ q. c.in_default.in_default-own.rest.1 (told-either (sym c.mark_at.ensures.0) q))
-
-pub valid_exprs-count_at-n-requires : goal.valid_exprs-count_at-n-requires
-valid_exprs-count_at-n-requires t c = (itself _ _ _ c.requires).room
-
-pub valid_exprs-body_at-child-requires : goal.valid_exprs-body_at-child-requires
-valid_exprs-body_at-child-requires t c = (itself _ _ _ c.requires).room
-
-pub valid_exprs-loop-n-init : goal.valid_exprs-loop-n-init
-valid_exprs-loop-n-init t c = left-kids valid_all c.requires c.count_at-n.ensures.0 c.body_at-child.ensures
-
-pub valid_exprs-overflow_sub-levels : goal.valid_exprs-overflow_sub-levels
-valid_exprs-overflow_sub-levels t c = omega (arith, some_left _ _ _ c.requires)
-
-pub valid_exprs-valid_part-requires : goal.valid_exprs-valid_part-requires
-valid_exprs-valid_part-requires t c = (omega (arith, some_left _ _ _ c.requires, c.decreases), left-first c.loop-n.invariant c.loop-n-test.true)
+unfolding init_kind
+valid_enum_init_expr-returns-in_default t c =
+    let m = c.mark.ensures in
+    sym (never c.args.expr
+    (rw (not_marked _ m Bn c.in_default.not-Bn, not_marked _ m Mb c.in_default.not-Mb, not_marked _ m Pr c.in_default.not-Pr, not_marked _ m Oc c.in_default.not-Oc, not_marked _ m Id c.in_default.not-Id, not_marked _ m Nu c.in_default.not-Nu, not_marked _ m Ss c.in_default.not-Ss, not_marked _ m Te c.in_default.not-Te, not_marked _ m As c.in_default.not-As, not_marked _ m Ta c.in_default.not-Ta)))
 
 pub valid_exprs-returns-then-not-valid_part : goal.valid_exprs-returns-then-not-valid_part
-unfolding valid_all
-valid_exprs-returns-then-not-valid_part t c = all-stop valid_part (λ r rs. refl) c.loop-n.invariant c.loop-n-test.true c.valid_part.ensures c.if-not-valid_part.true-raw
+valid_exprs-returns-then-not-valid_part t c =
+    let s = c.in-Some.ensures.steps in
+    sym (sym c.loop-kid.invariant.0 ∙ (all_step s.0 s.1 s.2 ∙ rw (sym c.valid_part.ensures ∙ c.if-not-valid_part.true)))
 
-pub valid_exprs-overflow_sub-levels-in-loop-n : goal.valid_exprs-overflow_sub-levels-in-loop-n
-valid_exprs-overflow_sub-levels-in-loop-n t c = omega (arith, some_left _ _ _ c.requires)
-
-pub valid_exprs-record_end-child-requires : goal.valid_exprs-record_end-child-requires
-valid_exprs-record_end-child-requires t c = is_whole _ _ _ (left-first c.loop-n.invariant c.loop-n-test.true)
-
-pub valid_exprs-overflow_sub-n : goal.valid_exprs-overflow_sub-n
-valid_exprs-overflow_sub-n t c = omega arith
-
-pub valid_exprs-loop-n-smaller : goal.valid_exprs-loop-n-smaller
-valid_exprs-loop-n-smaller t c = omega arith
-
-pub valid_exprs-loop-n-preserved : goal.valid_exprs-loop-n-preserved
-unfolding valid_all
-valid_exprs-loop-n-preserved t c = all-turn valid_part (λ r rs. refl) c.loop-n.invariant c.loop-n-test.true c.valid_part.ensures c.if-not-valid_part.false-raw c.record_end-child.ensures
+pub valid_exprs-loop-kid-preserved : goal.valid_exprs-loop-kid-preserved
+valid_exprs-loop-kid-preserved t c =
+    let s = c.in-Some.ensures.steps in
+    (sym (all_step s.0 s.1 s.2 ∙ rw (sym c.valid_part.ensures ∙ c.if-not-valid_part.false)) ∙ c.loop-kid.invariant.0, omega (arith, s.2.levels, c.loop-kid.invariant.1))
 
 pub valid_exprs-returns : goal.valid_exprs-returns
-unfolding valid_all
-valid_exprs-returns t c = sym (left-done c.loop-n.invariant (omega arith))
-
-pub valid_part-mark_at-requires : goal.valid_part-mark_at-requires
-valid_part-mark_at-requires t c = (itself _ _ _ c.requires).room
-
-pub valid_part-valid_enum_init_expr-requires : goal.valid_part-valid_enum_init_expr-requires
-valid_part-valid_enum_init_expr-requires t c = (omega (arith, c.decreases), c.requires)
-
-pub valid_part-returns-in-30033 : goal.valid_part-returns-in-30033
-valid_part-returns-in-30033 t c = part_other _ _ _ (told-either c.mark_at.ensures.0 c.in-30033.is)
-
-pub valid_part-returns-in_default : goal.valid_part-returns-in_default
-valid_part-returns-in_default t c = part_expr _ _ _ (λ q. c.in_default.in_default-own.rest.1 (told-either (sym c.mark_at.ensures.0) q)) c.valid_enum_init_expr.ensures
+valid_exprs-returns t c = sym (sym c.loop-kid.invariant.0 ∙ all_none _ c.in-None.ensures.steps.0)
