@@ -1,23 +1,48 @@
--- What the definition of the prescan says of the record at an offset, by its mark.
+-- What the definition of the prescan says of a record, by the mark that the code read.
 use mathlib.Core.Path.{◌≡◌, refl, sym, ap, ◌∙◌}
 use mathlib.Core.List.{List}
-use mathlib.Core.Bool.{Bool, true, false, cond, ◌&&◌, ◌||◌}
+use mathlib.Core.Bool.{Bool, true, false, ◌&&◌}
 use mathlib.Core.Logic.{◌⊎◌, inl, inr, ⊎_elim}
-use Prim.Native.Nat.{ℕ, ◌-◌}
+use Rattle.std.proofs.Math.Option.{some}
+use Prim.Native.Nat.{ℕ, ◌<◌}
+use Prim.Native.String.{String}
+use native.Mathlib.Omega.{arith}
 use lib.Dec.{eqb}
-use lib.ListN.{drop}
-use borrow.Author.Tests.{eq-eqb, ne_eqb}
-use Rattle.definition.specs.Tree.{Head, Rec, Recs, rec, nil, cons, mark_at, flags_at, text_at, body_at, head_at, end_at, tree_at}
-use Rattle.definition.specs.Grammar.{mark, marks, member, ◌or◌, declaration, type, expression, pattern, optional, grammar, known, slots, place}
-use Rattle.definition.specs.Children.{AcceptedAt}
-use Rattle.definition.specs.Record.{text, same_text, kids_of, mark_of, is, is_no, has_flag, kid}
-use Rattle.definition.specs.Prescan.{ArrayType, ArrayType.a_array, ArrayType.a_readonly, ArrayType.a_ref, ArrayType.a_other, array_type_kind, refers_to_array, is_array_type_by, is_array_type, first_is_array_type, ArrayInit, ArrayInit.i_array, ArrayInit.i_through, ArrayInit.i_as, ArrayInit.i_other, array_init_kind, is_array_lit_init_by, is_array_lit_init, first_is_array_lit_init, Question, Question.typeof_safe, Question.non_generic_class, Question.array_typed, add_class, add_const, named, add_declarator, add_declarators, Declared, Declared.d_fn, Declared.d_class, Declared.d_var, Declared.d_other, declared_kind, add_decl_by, add_fn, add_decl, add_item}
-use Rattle.definition.proofs.Kids.{fixed, Child, placed, wider, member-one, head_is, mark-is, flags-is, first_in, second_in}
+use borrow.Author.Tests.{eqb-true}
+use Rattle.definition.specs.Tree.{Rec, Recs, rec, nil, cons, count}
+use Rattle.definition.specs.Grammar.{mark, marks, member, type, expression, grammar, known, slots, place}
+use Rattle.definition.specs.Check.{slots_of}
+use Rattle.definition.specs.Record.{same_text, kids_of, mark_of, text_of, kid}
+use Rattle.definition.specs.Prescan.{ArrayType, ArrayType.a_array, ArrayType.a_readonly, ArrayType.a_ref, ArrayType.a_other, array_type_kind, refers_to_array, is_array_type_by, is_array_type, first_is_array_type, ArrayInit, ArrayInit.i_array, ArrayInit.i_through, ArrayInit.i_as, ArrayInit.i_other, array_init_kind, is_array_lit_init_by, is_array_lit_init, first_is_array_lit_init, Question, Question.typeof_safe, Question.non_generic_class, Question.array_typed, add_class, add_const, named, add_declarator, Declared, Declared.d_fn, Declared.d_class, Declared.d_var, Declared.d_other, declared_kind, add_decl_by, add_fn, add_decl, add_item}
+use Rattle.definition.proofs.Kids.{fixed, child_in, member-one}
+use Rattle.records.specs.declared.marks.Mark.{Mark}
+use Rattle.records.specs.declared.marks.Mark.TheVariants.{Ed, Xd, Fd, Cd, Vd, Fx, Cx, Ar, Pr, Tc, Ts, As, Ro, Rf, Ay, Tu}
+use Rattle.records.specs.declared.tree.Record.{Record}
+use Rattle.records.specs.declared.tree.Records.{Records}
+use Rattle.records.specs.Marks.{number_of}
+use Rattle.records.specs.Views.{rec_of, ChildrenOf, FirstOf, RestOf, ChildIs}
+use Rattle.records.proofs.Records.{from_children, from_rest, child_is, enough, kid_marks}
+use Rattle.records.proofs.SameMarks.{marked, not_marked}
+use Rattle.records.proofs.Views.{accepted, mark_here, count_here}
 use Rattle.index.specs.declared.Sets.{Sets}
 use Rattle.index.specs.Index.{has}
-use Rattle.prescan.specs.Decls.{Fn, Class, Named, add_var}
+use Rattle.prescan.specs.Decls.{Named, add_var}
 
--- In each module m is the mark of the record at `at`, as the code read it, and p the place where its children begin.
+-- In each module q says that m is the mark of the record r, as the code read it.
+
+-- ---- children
+
+-- a record with the mark m has the child that its row fixes by the number i: `has_kid r e refl i S refl`, with the line
+-- `unfolding grammar known slots place fixed`
+pub has_kid : (r : Record) {m : ℕ} → mark_of (rec_of r) ≡ m → eqb m (mark "Ag") ≡ false → (i : ℕ) (S : String) → fixed (slots_of m) i ≡ some S → i < count (kids_of (rec_of r))
+has_kid r {m} e n i S f = omega (arith, (child_in r.levels r.tree.now r.at (accepted r) m (mark_here r ∙ e) n i S f).there, count_here r)
+
+module _ {r : Record} {k : Records} (c : ChildrenOf r k) where
+  pub first_child : 0 < count (kids_of (rec_of r)) → {x : Record} → FirstOf k x → ChildIs r 0 x
+  first_child h f = child_is (from_children c) (omega (arith, c.many)) f
+
+  pub second_child : 1 < count (kids_of (rec_of r)) → {l : Records} {x : Record} → RestOf k l → FirstOf l x → ChildIs r 1 x
+  second_child h l f = child_is (from_rest (from_children c) (omega (arith, c.many)) l) (omega (arith, c.many, l.many)) f
 
 -- ---- `is_array_type`
 
@@ -30,60 +55,38 @@ unfolding is_array_type first_is_array_type array_type_kind is_array_type_by
 first-type nil = refl
 first-type (cons r rs) = refl
 
-module _ {levels : ℕ} {s : List ℕ} {at : ℕ} (a : AcceptedAt levels s at) {m : ℕ} (mq : m ≡ mark_at s at) where
-  type_of_lem : (k : ArrayType) → array_type_kind m ≡ k →
-      is_array_type (tree_at levels s at) ≡ is_array_type_by k (kids_of (tree_at levels s at)) (is_array_type (kid 0 (kids_of (tree_at levels s at))))
-  type_of_lem k e =
-      type-by (tree_at levels s at) ∙
-      (ap (λ (b : Bool). is_array_type_by (array_type_kind (mark_of (tree_at levels s at))) (kids_of (tree_at levels s at)) b) (first-type (kids_of (tree_at levels s at))) ∙
-      ap (λ (j : ArrayType). is_array_type_by j (kids_of (tree_at levels s at)) (is_array_type (kid 0 (kids_of (tree_at levels s at))))) (ap array_type_kind (mark-is levels s at ∙ sym mq) ∙ e))
+type_of_kind : (r : Rec) (k : ArrayType) → array_type_kind (mark_of r) ≡ k → is_array_type r ≡ is_array_type_by k (kids_of r) (is_array_type (kid 0 (kids_of r)))
+type_of_kind r k e =
+    type-by r
+    ∙ (ap (λ (b : Bool). is_array_type_by (array_type_kind (mark_of r)) (kids_of r) b) (first-type (kids_of r))
+    ∙ ap (λ (j : ArrayType). is_array_type_by j (kids_of r) (is_array_type (kid 0 (kids_of r)))) e)
 
-  pub type-array : (m ≡ mark "Tu") ⊎ (m ≡ mark "Ay") → is_array_type (tree_at levels s at) ≡ true
+module _ (r : Record) {m : Mark} (q : number_of m ≡ mark_of (rec_of r)) where
+  pub type_array : (m ≡ Ay) ⊎ (m ≡ Tu) → is_array_type (rec_of r) ≡ true
   unfolding array_type_kind is_array_type_by
-  type-array h = type_of_lem a_array (⊎_elim (λ (e : m ≡ mark "Tu"). rw e) (λ (e : m ≡ mark "Ay"). rw e) h)
+  type_array h = type_of_kind (rec_of r) a_array (⊎_elim (λ (e : m ≡ Ay). rw (sym q, e)) (λ (e : m ≡ Tu). rw (sym q, e)) h)
 
-  pub type-other : ((m ≡ mark "Tu") ⊎ (m ≡ mark "Ay") → ⊥) → (m ≡ mark "Ro" → ⊥) → (m ≡ mark "Rf" → ⊥) → is_array_type (tree_at levels s at) ≡ false
+  pub type_other : (m ≡ Ay → ⊥) → (m ≡ Tu → ⊥) → (m ≡ Ro → ⊥) → (m ≡ Rf → ⊥) → is_array_type (rec_of r) ≡ false
   unfolding array_type_kind is_array_type_by
-  type-other n o f =
-      type_of_lem a_other (rw (ne_eqb m (mark "Ay") (λ e. n (inr e)), ne_eqb m (mark "Tu") (λ e. n (inl e)), ne_eqb m (mark "Ro") o, ne_eqb m (mark "Rf") f))
+  type_other a t o f = type_of_kind (rec_of r) a_other (rw (not_marked m q Ay a, not_marked m q Tu t, not_marked m q Ro o, not_marked m q Rf f))
 
-  module _ {p : ℕ} (pq : p ≡ body_at s at) where
-    -- what a `readonly` stands before
-    pub readonly_child : m ≡ mark "Ro" → Child levels s at 0 p type
-    unfolding grammar known slots place fixed
-    readonly_child e = placed (first_in levels s at a (mark "Ro") (sym mq ∙ e) refl type refl) pq
+  -- the type behind a `readonly`
+  pub readonly_kid : m ≡ Ro → 0 < count (kids_of (rec_of r))
+  unfolding grammar known slots place fixed
+  readonly_kid e = has_kid r (marked m q e) refl 0 type refl
 
-    pub type_readonly : m ≡ mark "Ro" → is_array_type (tree_at levels s at) ≡ is_array_type (tree_at (levels - 1) s p)
-    unfolding array_type_kind is_array_type_by
-    type_readonly e = type_of_lem a_readonly (rw e) ∙ ap is_array_type (readonly_child e).tree
+  pub type_readonly : m ≡ Ro → {x : Record} → ChildIs r 0 x → is_array_type (rec_of x) ≡ is_array_type (rec_of r)
+  unfolding array_type_kind is_array_type_by
+  type_readonly e x = ap is_array_type x.is ∙ sym (type_of_kind (rec_of r) a_readonly (rw (sym q, e)))
 
-    -- the name of a reference
-    pub ref_child : m ≡ mark "Rf" → Child levels s at 0 p "Id Op"
-    unfolding grammar known slots place fixed
-    ref_child e = placed (first_in levels s at a (mark "Rf") (sym mq ∙ e) refl "Id Op" refl) pq
+  -- the name of a reference
+  pub ref_kid : m ≡ Rf → 0 < count (kids_of (rec_of r))
+  unfolding grammar known slots place fixed
+  ref_kid e = has_kid r (marked m q e) refl 0 "Id Op" refl
 
-    pub type_ref_lem : m ≡ mark "Rf" → is_array_type (tree_at levels s at) ≡ refers_to_array (tree_at (levels - 1) s p)
-    unfolding array_type_kind is_array_type_by
-    type_ref_lem e = type_of_lem a_ref (rw e) ∙ ap refers_to_array (ref_child e).tree
-
-  -- ---- the name of a reference
-
-  refers_by : refers_to_array (tree_at levels s at) ≡
-      (eqb m (mark "Id") && (same_text (drop 4 (text_at s at)) (text "Array") || same_text (drop 4 (text_at s at)) (text "ReadonlyArray")))
-  unfolding head_at
-  refers_by =
-      rw mq (ap (λ (h : Head). eqb h.mark (mark "Id") && (same_text (drop 4 h.text) (text "Array") || same_text (drop 4 h.text) (text "ReadonlyArray"))) (head_is levels s at))
-
-  pub refers_other : (m ≡ mark "Id" → ⊥) → refers_to_array (tree_at levels s at) ≡ false
-  refers_other n = refers_by ∙ rw (ne_eqb m (mark "Id") n)
-
-  -- y is its symbol
-  module _ (e : m ≡ mark "Id") {y : List ℕ} (yq : y ≡ drop 4 (text_at s at)) where
-    pub refers_array : same_text y (text "Array") ≡ true → refers_to_array (tree_at levels s at) ≡ true
-    refers_array q = refers_by ∙ rw (sym yq, eq-eqb m (mark "Id") e, q)
-
-    pub refers_readonly : same_text y (text "Array") ≡ false → refers_to_array (tree_at levels s at) ≡ same_text y (text "ReadonlyArray")
-    refers_readonly q = refers_by ∙ rw (sym yq, eq-eqb m (mark "Id") e, q)
+  pub type_ref : m ≡ Rf → {x : Record} → ChildIs r 0 x → refers_to_array (rec_of x) ≡ is_array_type (rec_of r)
+  unfolding array_type_kind is_array_type_by
+  type_ref e x = ap refers_to_array x.is ∙ sym (type_of_kind (rec_of r) a_ref (rw (sym q, e)))
 
 -- ---- `is_array_lit_init`
 
@@ -96,81 +99,50 @@ unfolding is_array_lit_init first_is_array_lit_init array_init_kind is_array_lit
 first-init nil = refl
 first-init (cons r rs) = refl
 
+init_of_kind : (r : Rec) (k : ArrayInit) → array_init_kind (mark_of r) ≡ k → is_array_lit_init r ≡ is_array_lit_init_by k (kids_of r) (is_array_lit_init (kid 0 (kids_of r)))
+init_of_kind r k e =
+    init-by r
+    ∙ (ap (λ (b : Bool). is_array_lit_init_by (array_init_kind (mark_of r)) (kids_of r) b) (first-init (kids_of r))
+    ∙ ap (λ (j : ArrayInit). is_array_lit_init_by j (kids_of r) (is_array_lit_init (kid 0 (kids_of r)))) e)
+
 -- the marks of the expressions that are looked through
-abbrev pub Through : ℕ → Type 0
-Through m = (m ≡ mark "Tc") ⊎ ((m ≡ mark "Pr") ⊎ (m ≡ mark "Ts"))
+abbrev pub Through : Mark → Type 0
+Through m = (m ≡ Pr) ⊎ ((m ≡ Tc) ⊎ (m ≡ Ts))
 
-module _ {levels : ℕ} {s : List ℕ} {at : ℕ} (a : AcceptedAt levels s at) {m : ℕ} (mq : m ≡ mark_at s at) where
-  init_of : (k : ArrayInit) → array_init_kind m ≡ k →
-      is_array_lit_init (tree_at levels s at) ≡ is_array_lit_init_by k (kids_of (tree_at levels s at)) (is_array_lit_init (kid 0 (kids_of (tree_at levels s at))))
-  init_of k e =
-      init-by (tree_at levels s at) ∙
-      (ap (λ (b : Bool). is_array_lit_init_by (array_init_kind (mark_of (tree_at levels s at))) (kids_of (tree_at levels s at)) b) (first-init (kids_of (tree_at levels s at))) ∙
-      ap (λ (j : ArrayInit). is_array_lit_init_by j (kids_of (tree_at levels s at)) (is_array_lit_init (kid 0 (kids_of (tree_at levels s at))))) (ap array_init_kind (mark-is levels s at ∙ sym mq) ∙ e))
-
-  pub init-array : m ≡ mark "Ar" → is_array_lit_init (tree_at levels s at) ≡ true
+module _ (r : Record) {m : Mark} (q : number_of m ≡ mark_of (rec_of r)) where
+  pub init_array : m ≡ Ar → is_array_lit_init (rec_of r) ≡ true
   unfolding array_init_kind is_array_lit_init_by
-  init-array e = init_of i_array (rw e)
+  init_array e = init_of_kind (rec_of r) i_array (rw (sym q, e))
 
-  pub init-other : (m ≡ mark "Ar" → ⊥) → (Through m → ⊥) → (m ≡ mark "As" → ⊥) → is_array_lit_init (tree_at levels s at) ≡ false
+  pub init_other : (m ≡ Ar → ⊥) → (m ≡ Pr → ⊥) → (m ≡ Tc → ⊥) → (m ≡ Ts → ⊥) → (m ≡ As → ⊥) → is_array_lit_init (rec_of r) ≡ false
   unfolding array_init_kind is_array_lit_init_by
-  init-other r n o =
-      init_of i_other
-      (rw (ne_eqb m (mark "Ar") r, ne_eqb m (mark "Pr") (λ e. n (inr (inl e))), ne_eqb m (mark "Tc") (λ e. n (inl e)), ne_eqb m (mark "Ts") (λ e. n (inr (inr e))), ne_eqb m (mark "As") o))
+  init_other a p c t s =
+      init_of_kind (rec_of r) i_other (rw (not_marked m q Ar a, not_marked m q Pr p, not_marked m q Tc c, not_marked m q Ts t, not_marked m q As s))
 
-  module _ {p : ℕ} (pq : p ≡ body_at s at) where
-    pub through_child : Through m → Child levels s at 0 p expression
-    unfolding grammar known slots place fixed
-    through_child h = placed (⊎_elim
-        (λ (e : m ≡ mark "Tc"). first_in levels s at a (mark "Tc") (sym mq ∙ e) refl expression refl)
-        (⊎_elim
-        (λ (e : m ≡ mark "Pr"). first_in levels s at a (mark "Pr") (sym mq ∙ e) refl expression refl)
-        (λ (e : m ≡ mark "Ts"). first_in levels s at a (mark "Ts") (sym mq ∙ e) refl expression refl))
-        h) pq
-
-    pub init_through : Through m → is_array_lit_init (tree_at levels s at) ≡ is_array_lit_init (tree_at (levels - 1) s p)
-    unfolding array_init_kind is_array_lit_init_by
-    init_through h =
-        init_of i_through (⊎_elim (λ (e : m ≡ mark "Tc"). rw e) (⊎_elim (λ (e : m ≡ mark "Pr"). rw e) (λ (e : m ≡ mark "Ts"). rw e)) h) ∙
-        ap is_array_lit_init (through_child h).tree
-
-    -- the expression of an As, and its type, which stands behind it, at t
-    pub as_expr : m ≡ mark "As" → Child levels s at 0 p expression
-    unfolding grammar known slots place fixed
-    as_expr e = placed (first_in levels s at a (mark "As") (sym mq ∙ e) refl expression refl) pq
-
-    module _ {t : ℕ} (tq : t ≡ end_at (levels - 1) s p) where
-      pub as-type : m ≡ mark "As" → Child levels s at 1 t type
-      unfolding grammar known slots place fixed
-      as-type e = placed (second_in levels s at a (mark "As") (sym mq ∙ e) refl type refl) (tq ∙ ap (end_at (levels - 1) s) pq)
-
-      pub init-as : m ≡ mark "As" → is_array_lit_init (tree_at levels s at) ≡ is_array_type (tree_at (levels - 1) s t)
-      unfolding array_init_kind is_array_lit_init_by
-      init-as e = init_of i_as (rw e) ∙ ap is_array_type (as-type e).tree
-
--- ---- what is declared under a name
-
-module _ {levels : ℕ} {s : List ℕ} {at : ℕ} (a : AcceptedAt levels s at) {m : ℕ} (mq : m ≡ mark_at s at) (name : List ℕ) where
-  named_by : named name (tree_at levels s at) ≡ (eqb m (mark "Id") && same_text (text_at s at) name)
-  unfolding head_at
-  named_by = rw mq (ap (λ (h : Head). eqb h.mark (mark "Id") && same_text h.text name) (head_is levels s at))
-
-  pub named_other : (m ≡ mark "Id" → ⊥) → named name (tree_at levels s at) ≡ false
-  named_other n = named_by ∙ rw (ne_eqb m (mark "Id") n)
-
-  pub named-is : m ≡ mark "Id" → {t : List ℕ} → t ≡ text_at s at → named name (tree_at levels s at) ≡ same_text t name
-  named-is e {t} tq = named_by ∙ rw (eq-eqb m (mark "Id") e, tq)
-
--- `add_class`: the type parameters of a Cl
-module _ {levels : ℕ} {s : List ℕ} {at : ℕ} (a : AcceptedAt levels s at) (e : mark_at s at ≡ mark "Cl") {p : ℕ} (pq : p ≡ body_at s at) where
-  pub params-child : Child levels s at 0 p (optional "Op")
+  pub through_kid : Through m → 0 < count (kids_of (rec_of r))
   unfolding grammar known slots place fixed
-  params-child = placed (first_in levels s at a (mark "Cl") e refl (optional "Op") refl) pq
+  through_kid h = ⊎_elim
+      (λ (e : m ≡ Pr). has_kid r (marked m q e) refl 0 expression refl)
+      (⊎_elim (λ (e : m ≡ Tc). has_kid r (marked m q e) refl 0 expression refl) (λ (e : m ≡ Ts). has_kid r (marked m q e) refl 0 expression refl))
+      h
 
-  pub class-plain : {w : ℕ} → w ≡ mark_at s p → add_class non_generic_class (tree_at levels s at) ≡ eqb w (mark "No")
-  class-plain {w} wq = ap is_no params-child.tree ∙ ap (λ (k : ℕ). eqb k (mark "No")) (mark-is (levels - 1) s p ∙ sym wq)
+  pub init_through : Through m → {x : Record} → ChildIs r 0 x → is_array_lit_init (rec_of x) ≡ is_array_lit_init (rec_of r)
+  unfolding array_init_kind is_array_lit_init_by
+  init_through h x =
+      ap is_array_lit_init x.is
+      ∙ sym (init_of_kind (rec_of r) i_through (⊎_elim (λ (e : m ≡ Pr). rw (sym q, e)) (⊎_elim (λ (e : m ≡ Tc). rw (sym q, e)) (λ (e : m ≡ Ts). rw (sym q, e))) h))
 
--- the sets to which a Cl adds its name, and a function
+  -- the type of an As stands behind its expression
+  pub as_kids : m ≡ As → 1 < count (kids_of (rec_of r))
+  unfolding grammar known slots place fixed
+  as_kids e = has_kid r (marked m q e) refl 1 type refl
+
+  pub init_as : m ≡ As → {x : Record} → ChildIs r 1 x → is_array_type (rec_of x) ≡ is_array_lit_init (rec_of r)
+  unfolding array_init_kind is_array_lit_init_by
+  init_as e x = ap is_array_type x.is ∙ sym (init_of_kind (rec_of r) i_as (rw (sym q, e)))
+
+-- ---- the sets to which a name is added
+
 pub class_sets : (r : Rec) {plain : Bool} → plain ≡ add_class non_generic_class r → (q : Question) →
     has q (record { typeof_safe = true; non_generic_class = plain; array_typed = false }) ≡ add_class q r
 class_sets r e typeof_safe = refl
@@ -182,201 +154,104 @@ function_sets typeof_safe = refl
 function_sets non_generic_class = refl
 function_sets array_typed = refl
 
--- and a const
 pub const_sets : (t v : Rec) {safe array : Bool} → safe ≡ add_const typeof_safe t v → array ≡ add_const array_typed t v → (q : Question) →
     has q (record { typeof_safe = safe; non_generic_class = false; array_typed = array }) ≡ add_const q t v
 const_sets t v x y typeof_safe = x
 const_sets t v x y non_generic_class = refl
 const_sets t v x y array_typed = y
 
--- a const with the type at t, whose mark is m, and the init at v, whose mark is w
-module _ {l k : ℕ} {s : List ℕ} {t v : ℕ} (at : AcceptedAt l s t) (av : AcceptedAt k s v) {m : ℕ} (mq : m ≡ mark_at s t) where
-  no_by : is_no (tree_at l s t) ≡ eqb m (mark "No")
-  no_by = ap (λ (j : ℕ). eqb j (mark "No")) (mark-is l s t ∙ sym mq)
-
-  pub const-typed : (m ≡ mark "No" → ⊥) → add_const typeof_safe (tree_at l s t) (tree_at k s v) ≡ true
-  const-typed n = rw (no_by ∙ ne_eqb m (mark "No") n)
-
-  pub const_by_init : m ≡ mark "No" → add_const array_typed (tree_at l s t) (tree_at k s v) ≡ is_array_lit_init (tree_at k s v)
-  const_by_init e = rw (no_by ∙ eq-eqb m (mark "No") e)
-
-  pub const_by_type : (m ≡ mark "No" → ⊥) → add_const array_typed (tree_at l s t) (tree_at k s v) ≡ is_array_type (tree_at l s t)
-  const_by_type n = rw (no_by ∙ ne_eqb m (mark "No") n)
-
-  module _ (e : m ≡ mark "No") {w : ℕ} (wq : w ≡ mark_at s v) where
-    untyped : add_const typeof_safe (tree_at l s t) (tree_at k s v) ≡ (eqb w (mark "Fx") || eqb w (mark "Aw"))
-    untyped = rw (no_by ∙ eq-eqb m (mark "No") e) (ap (λ (j : ℕ). eqb j (mark "Fx") || eqb j (mark "Aw")) (mark-is k s v ∙ sym wq))
-
-    pub const-function : (w ≡ mark "Aw") ⊎ (w ≡ mark "Fx") → add_const typeof_safe (tree_at l s t) (tree_at k s v) ≡ true
-    const-function h = untyped ∙ ⊎_elim (λ (f : w ≡ mark "Aw"). rw f) (λ (f : w ≡ mark "Fx"). rw f) h
-
-    pub const-plain : ((w ≡ mark "Aw") ⊎ (w ≡ mark "Fx") → ⊥) → add_const typeof_safe (tree_at l s t) (tree_at k s v) ≡ false
-    const-plain n = untyped ∙ rw (ne_eqb w (mark "Fx") (λ f. n (inr f)), ne_eqb w (mark "Aw") (λ f. n (inl f)))
-
 -- ---- a declarator
 
-module _ {levels : ℕ} {s : List ℕ} {at : ℕ} (a : AcceptedAt levels s at) {m : ℕ} (mq : m ≡ mark_at s at) where
-  declarator-by : (q : Question) (name : List ℕ) → add_declarator q name (tree_at levels s at) ≡
-      ((eqb m (mark "Vr") && is "Bd" (kid 0 (kids_of (tree_at levels s at)))) &&
-      (named name (kid 0 (kids_of (kid 0 (kids_of (tree_at levels s at))))) &&
-      add_const q (kid 1 (kids_of (kid 0 (kids_of (tree_at levels s at))))) (kid 1 (kids_of (tree_at levels s at)))))
+module _ (r : Record) where
+  pub declarator_other : eqb (mark_of (rec_of r)) (mark "Vr") ≡ false → (p : Question) (name : List ℕ) → add_declarator p name (rec_of r) ≡ false
   unfolding add_declarator
-  declarator-by q name = rw (mark-is levels s at, mq)
+  declarator_other e p name = rw e
 
-  pub declarator-other : (q : Question) (name : List ℕ) → (m ≡ mark "Vr" → ⊥) → add_declarator q name (tree_at levels s at) ≡ false
-  declarator-other q name n = declarator-by q name ∙ rw (ne_eqb m (mark "Vr") n)
+  -- its pattern is x
+  module _ (e : eqb (mark_of (rec_of r)) (mark "Vr") ≡ true) {x : Record} (c : ChildIs r 0 x) where
+    pub pattern_other : eqb (mark_of (rec_of x)) (mark "Bd") ≡ false → (p : Question) (name : List ℕ) → add_declarator p name (rec_of r) ≡ false
+    unfolding add_declarator
+    pattern_other f p name = rw (e, sym c.is, f)
 
-  module _ (e : m ≡ mark "Vr") {p : ℕ} (pq : p ≡ body_at s at) where
-    -- its pattern
-    pub pattern-child : Child levels s at 0 p pattern
-    unfolding grammar known slots place fixed
-    pattern-child = placed (first_in levels s at a (mark "Vr") (sym mq ∙ e) refl pattern refl) pq
+    -- a name i with the type t, and the init v
+    pub declarator_by : eqb (mark_of (rec_of x)) (mark "Bd") ≡ true → {i t v : Record} → ChildIs x 0 i → ChildIs x 1 t → ChildIs r 1 v →
+        {sets : Sets} → ((p : Question) → has p sets ≡ add_const p (rec_of t) (rec_of v)) →
+        (p : Question) (name : List ℕ) → add_declarator p name (rec_of r) ≡ (named name (rec_of i) && has p sets)
+    unfolding add_declarator
+    declarator_by f i t v s p name = rw (e, sym c.is, f, sym i.is, sym t.is, sym v.is, sym (s p))
 
-    -- its init, at v, behind the pattern
-    pub init-child : {v : ℕ} → v ≡ end_at (levels - 1) s p → Child levels s at 1 v (optional expression)
-    unfolding grammar known slots place fixed
-    init-child vq = placed (second_in levels s at a (mark "Vr") (sym mq ∙ e) refl (optional expression) refl) (vq ∙ ap (end_at (levels - 1) s) pq)
+-- the name of a Bd
+pub ident_mark : (x : Record) → eqb (mark_of (rec_of x)) (mark "Bd") ≡ true → {i : Record} → ChildIs x 0 i → mark_of (rec_of i) ≡ mark "Id"
+unfolding grammar known slots place fixed marks
+ident_mark x f i = member-one _ _ (rw i.is (kid_marks x (eqb-true _ _ f) refl 0 "Id" refl))
 
-    -- the pattern's mark is w
-    module _ {w : ℕ} (wq : w ≡ mark_at s p) where
-      pub declarator-pattern : (q : Question) (name : List ℕ) → (w ≡ mark "Bd" → ⊥) → add_declarator q name (tree_at levels s at) ≡ false
-      declarator-pattern q name n =
-          declarator-by q name ∙ rw (eq-eqb m (mark "Vr") e, pattern-child.tree, mark-is (levels - 1) s p, sym wq, ne_eqb w (mark "Bd") n)
-
-      module _ (f : w ≡ mark "Bd") {i : ℕ} (iq : i ≡ body_at s p) where
-        -- the pattern's name, at i
-        pub ident-child : Child (levels - 1) s p 0 i "Id"
-        unfolding grammar known slots place fixed
-        ident-child = placed (first_in (levels - 1) s p pattern-child.accepted (mark "Bd") (sym wq ∙ f) refl "Id" refl) iq
-
-        pub named_by_ident : (q : Question) (name : List ℕ) → add_declarator q name (tree_at levels s at) ≡
-            (named name (tree_at (levels - 1 - 1) s i) && add_const q (kid 1 (kids_of (tree_at (levels - 1) s p))) (kid 1 (kids_of (tree_at levels s at))))
-        named_by_ident q name =
-            declarator-by q name ∙ rw (eq-eqb m (mark "Vr") e, pattern-child.tree, mark-is (levels - 1) s p, sym wq, eq-eqb w (mark "Bd") f, ident-child.tree)
-
-        module _ {t : ℕ} (tq : t ≡ end_at (levels - 1 - 1) s i) where
-          -- its type, at t, behind the name
-          pub type-child : Child (levels - 1) s p 1 t (optional type)
-          unfolding grammar known slots place fixed
-          type-child =
-              placed (second_in (levels - 1) s p pattern-child.accepted (mark "Bd") (sym wq ∙ f) refl (optional type) refl) (tq ∙ ap (end_at (levels - 1 - 1) s) iq)
-
--- ---- the declarators of a const
-
-module _ (q : Question) (name : List ℕ) where
-  abbrev pub Declares : Recs → Bool
-  Declares ks = add_declarators q name ks
-
-  pub declares-step : (r : Rec) (rs : Recs) → Declares (cons r rs) ≡ (add_declarator q name r || Declares rs)
-  unfolding add_declarators
-  declares-step r rs = refl
-
-  pub declares-none : Declares nil ≡ false
-  unfolding add_declarators
-  declares-none = refl
-
--- f is the record's flags
-module _ {levels : ℕ} {s : List ℕ} {at : ℕ} (a : AcceptedAt levels s at) {f : ℕ} (fq : f ≡ flags_at s at) (q : Question) (name : List ℕ) where
-  var-by : add_var q name (tree_at levels s at) ≡ (has_flag 2 f && add_declarators q name (kids_of (tree_at levels s at)))
-  var-by = ap (λ (k : ℕ). has_flag 2 k && add_declarators q name (kids_of (tree_at levels s at))) (flags-is levels s at ∙ sym fq)
-
-  pub var-other : has_flag 2 f ≡ false → add_var q name (tree_at levels s at) ≡ false
-  var-other n = var-by ∙ rw n
-
-  pub var-const : has_flag 2 f ≡ true → add_var q name (tree_at levels s at) ≡ add_declarators q name (kids_of (tree_at levels s at))
-  var-const e = var-by ∙ rw e
+pub named_is : (i : Rec) → mark_of i ≡ mark "Id" → (name : List ℕ) → named name i ≡ same_text (text_of i) name
+named_is i e name = rw e
 
 -- ---- a declaration
 
-module _ {levels : ℕ} {s : List ℕ} {at : ℕ} (a : AcceptedAt levels s at) {m : ℕ} (mq : m ≡ mark_at s at) where
-  decl-by : (q : Question) (name : List ℕ) (k : Declared) → declared_kind m ≡ k → add_decl q name (tree_at levels s at) ≡ add_decl_by k q name (tree_at levels s at)
-  decl-by q name k e = ap (λ (j : Declared). add_decl_by j q name (tree_at levels s at)) (ap declared_kind (mark-is levels s at ∙ sym mq) ∙ e)
+-- a function or a class has a name and what is named
+pub named_kids : (r : Record) → Named (mark_of (rec_of r)) → 1 < count (kids_of (rec_of r))
+named_kids r h = ⊎_elim
+    (⊎_elim (λ e. enough r e) (λ e. enough r e))
+    (⊎_elim (λ e. enough r e) (λ e. enough r e))
+    h
 
-  pub decl-var : (q : Question) (name : List ℕ) → m ≡ mark "Vd" → add_decl q name (tree_at levels s at) ≡ add_var q name (tree_at levels s at)
+-- which is an Fu or a Cl, and has a child
+pub inner_kid : (r : Record) → Named (mark_of (rec_of r)) → {x : Record} → ChildIs r 1 x → 0 < count (kids_of (rec_of x))
+unfolding grammar known slots place fixed marks
+inner_kid r h {x} c = ⊎_elim
+    (⊎_elim (λ e. fu (kid_marks r e refl 1 "Fu" refl)) (λ e. fu (kid_marks r e refl 1 "Fu" refl)))
+    (⊎_elim (λ e. cl (kid_marks r e refl 1 "Cl" refl)) (λ e. cl (kid_marks r e refl 1 "Cl" refl)))
+    h
+  where
+    fu : member (mark_of (kid 1 (kids_of (rec_of r)))) (marks "Fu") ≡ true → 0 < count (kids_of (rec_of x))
+    fu e = let k = enough x (ap mark_of c.is ∙ member-one _ _ e) in omega arith
+
+    cl : member (mark_of (kid 1 (kids_of (rec_of r)))) (marks "Cl") ≡ true → 0 < count (kids_of (rec_of x))
+    cl e = enough x (ap mark_of c.is ∙ member-one _ _ e)
+
+decl_of_kind : (r : Rec) (k : Declared) → declared_kind (mark_of r) ≡ k → (p : Question) (name : List ℕ) → add_decl p name r ≡ add_decl_by k p name r
+decl_of_kind r k e p name = ap (λ (j : Declared). add_decl_by j p name r) e
+
+module _ (r : Record) {m : Mark} (q : number_of m ≡ mark_of (rec_of r)) where
+  pub fn_mark : (m ≡ Fd) ⊎ (m ≡ Fx) → Named (mark_of (rec_of r))
+  fn_mark h = inl (⊎_elim (λ (e : m ≡ Fd). inl (marked m q e)) (λ (e : m ≡ Fx). inr (marked m q e)) h)
+
+  pub class_mark : (m ≡ Cd) ⊎ (m ≡ Cx) → Named (mark_of (rec_of r))
+  class_mark h = inr (⊎_elim (λ (e : m ≡ Cd). inl (marked m q e)) (λ (e : m ≡ Cx). inr (marked m q e)) h)
+
+  pub decl_fn : (m ≡ Fd) ⊎ (m ≡ Fx) → (p : Question) (name : List ℕ) →
+      add_decl p name (rec_of r) ≡ (named name (kid 0 (kids_of (rec_of r))) && has p (record { typeof_safe = true; non_generic_class = false; array_typed = false }))
   unfolding declared_kind add_decl_by
-  decl-var q name e = decl-by q name d_var (rw e)
+  decl_fn h p name = decl_of_kind (rec_of r) d_fn (⊎_elim (λ (e : m ≡ Fd). rw (sym q, e)) (λ (e : m ≡ Fx). rw (sym q, e)) h) p name ∙ rw (function_sets p)
 
-  pub decl-other : (q : Question) (name : List ℕ) → (Fn m → ⊥) → (Class m → ⊥) → (m ≡ mark "Vd" → ⊥) → add_decl q name (tree_at levels s at) ≡ false
+  -- the class is x
+  pub decl_class : (m ≡ Cd) ⊎ (m ≡ Cx) → {x : Record} → ChildIs r 1 x → {sets : Sets} → ((p : Question) → has p sets ≡ add_class p (rec_of x)) →
+      (p : Question) (name : List ℕ) → add_decl p name (rec_of r) ≡ (named name (kid 0 (kids_of (rec_of r))) && has p sets)
   unfolding declared_kind add_decl_by
-  decl-other q name f c v =
-      decl-by q name d_other
-      (rw (ne_eqb m (mark "Fd") (λ e. f (inl e)), ne_eqb m (mark "Fx") (λ e. f (inr e)), ne_eqb m (mark "Cd") (λ e. c (inl e)), ne_eqb m (mark "Cx") (λ e. c (inr e)), ne_eqb m (mark "Vd") v))
+  decl_class h x s p name = decl_of_kind (rec_of r) d_class (⊎_elim (λ (e : m ≡ Cd). rw (sym q, e)) (λ (e : m ≡ Cx). rw (sym q, e)) h) p name ∙ rw (sym x.is, s p)
 
-  -- the name stands at p
-  module _ {p : ℕ} (pq : p ≡ body_at s at) where
-    pub fn-ident : Fn m → Child levels s at 0 p (optional "Id")
-    unfolding grammar known slots place fixed marks member
-    fn-ident h = placed (⊎_elim
-        (λ (e : m ≡ mark "Fd"). wider (first_in levels s at a (mark "Fd") (sym mq ∙ e) refl "Id" refl) (optional "Id") refl)
-        (λ (e : m ≡ mark "Fx"). first_in levels s at a (mark "Fx") (sym mq ∙ e) refl (optional "Id") refl)
-        h) pq
+  pub cl_mark : (m ≡ Cd) ⊎ (m ≡ Cx) → {x : Record} → ChildIs r 1 x → mark_of (rec_of x) ≡ mark "Cl"
+  unfolding grammar known slots place fixed marks
+  cl_mark h x = ap mark_of x.is ∙ member-one _ _ (⊎_elim
+      (λ (e : m ≡ Cd). kid_marks r (marked m q e) refl 1 "Cl" refl)
+      (λ (e : m ≡ Cx). kid_marks r (marked m q e) refl 1 "Cl" refl)
+      h)
 
-    pub fn-by : (q : Question) (name : List ℕ) → Fn m → add_decl q name (tree_at levels s at) ≡ (named name (tree_at (levels - 1) s p) && add_fn q)
-    unfolding declared_kind add_decl_by
-    fn-by q name h = decl-by q name d_fn (⊎_elim (λ (e : m ≡ mark "Fd"). rw e) (λ (e : m ≡ mark "Fx"). rw e) h) ∙ rw (fn-ident h).tree
+  pub decl_var : m ≡ Vd → (p : Question) (name : List ℕ) → add_decl p name (rec_of r) ≡ add_var p name (rec_of r)
+  unfolding declared_kind add_decl_by
+  decl_var e = decl_of_kind (rec_of r) d_var (rw (sym q, e))
 
-    pub class-ident : Class m → Child levels s at 0 p (optional "Id")
-    unfolding grammar known slots place fixed marks member
-    class-ident h = placed (⊎_elim
-        (λ (e : m ≡ mark "Cd"). wider (first_in levels s at a (mark "Cd") (sym mq ∙ e) refl "Id" refl) (optional "Id") refl)
-        (λ (e : m ≡ mark "Cx"). first_in levels s at a (mark "Cx") (sym mq ∙ e) refl (optional "Id") refl)
-        h) pq
+  pub decl_other : (m ≡ Fd → ⊥) → (m ≡ Fx → ⊥) → (m ≡ Cd → ⊥) → (m ≡ Cx → ⊥) → (m ≡ Vd → ⊥) → (p : Question) (name : List ℕ) → add_decl p name (rec_of r) ≡ false
+  unfolding declared_kind add_decl_by
+  decl_other fd fx cd cx vd =
+      decl_of_kind (rec_of r) d_other (rw (not_marked m q Fd fd, not_marked m q Fx fx, not_marked m q Cd cd, not_marked m q Cx cx, not_marked m q Vd vd))
 
-    pub class-by : (q : Question) (name : List ℕ) → Class m →
-        add_decl q name (tree_at levels s at) ≡ (named name (tree_at (levels - 1) s p) && add_class q (kid 1 (kids_of (tree_at levels s at))))
-    unfolding declared_kind add_decl_by
-    class-by q name h = decl-by q name d_class (⊎_elim (λ (e : m ≡ mark "Cd"). rw e) (λ (e : m ≡ mark "Cx"). rw e) h) ∙ rw (class-ident h).tree
+  -- ---- an item
 
-    pub named_ident : Named m → Child levels s at 0 p (optional "Id")
-    named_ident h = ⊎_elim fn-ident class-ident h
+  pub export_kid : (m ≡ Ed) ⊎ (m ≡ Xd) → 0 < count (kids_of (rec_of r))
+  export_kid h = ⊎_elim (λ (e : m ≡ Ed). enough r (marked m q e)) (λ (e : m ≡ Xd). enough r (marked m q e)) h
 
-    -- the class stands at d, behind the name
-    module _ (h : Class m) {d : ℕ} (dq : d ≡ end_at (levels - 1) s p) where
-      pub class-child : Child levels s at 1 d "Cl"
-      unfolding grammar known slots place fixed
-      class-child = placed (⊎_elim
-          (λ (e : m ≡ mark "Cd"). second_in levels s at a (mark "Cd") (sym mq ∙ e) refl "Cl" refl)
-          (λ (e : m ≡ mark "Cx"). second_in levels s at a (mark "Cx") (sym mq ∙ e) refl "Cl" refl)
-          h) (dq ∙ ap (end_at (levels - 1) s) pq)
-
-      pub class-mark : mark_at s d ≡ mark "Cl"
-      unfolding marks
-      class-mark = member-one (mark_at s d) (mark "Cl") class-child.marks
-
--- by its name, and its sets
-module _ {levels : ℕ} {s : List ℕ} {at : ℕ} (a : AcceptedAt levels s at) {m : ℕ} (mq : m ≡ mark_at s at) where
-  pub decl_fn : (q : Question) (name : List ℕ) → Fn m → add_decl q name (tree_at levels s at) ≡
-      (named name (tree_at (levels - 1) s (body_at s at)) && has q (record { typeof_safe = true; non_generic_class = false; array_typed = false }))
-  decl_fn q name h = fn-by a mq refl q name h ∙ rw (function_sets q)
-
-  pub decl_class : {p : ℕ} → p ≡ body_at s at → Class m → {d : ℕ} → d ≡ end_at (levels - 1) s p → {sets : Sets} → ((q : Question) → has q sets ≡ add_class q (tree_at (levels - 1) s d)) →
-      (q : Question) (name : List ℕ) → add_decl q name (tree_at levels s at) ≡ (named name (tree_at (levels - 1) s (body_at s at)) && has q sets)
-  decl_class pq h dq x q name = class-by a mq refl q name h ∙ rw ((class-child a mq pq h dq).tree, x q)
-
--- ---- an item
-
--- the marks of exports
-abbrev pub Export : ℕ → Type 0
-Export m = (m ≡ mark "Ed") ⊎ (m ≡ mark "Xd")
-
-module _ {levels : ℕ} {s : List ℕ} {at : ℕ} (a : AcceptedAt levels s at) {m : ℕ} (mq : m ≡ mark_at s at) where
-  item_by_lem : (q : Question) (name : List ℕ) → add_item q name (tree_at levels s at) ≡
-      add_decl q name (cond (eqb m (mark "Ed") || eqb m (mark "Xd")) (kid 0 (kids_of (tree_at levels s at))) (tree_at levels s at))
-  item_by_lem q name =
-      ap (λ (j : ℕ). add_decl q name (cond (eqb j (mark "Ed") || eqb j (mark "Xd")) (kid 0 (kids_of (tree_at levels s at))) (tree_at levels s at))) (mark-is levels s at ∙ sym mq)
-
-  pub item-plain : (q : Question) (name : List ℕ) → (Export m → ⊥) → add_item q name (tree_at levels s at) ≡ add_decl q name (tree_at levels s at)
-  item-plain q name n = item_by_lem q name ∙ rw (ne_eqb m (mark "Ed") (λ e. n (inl e)), ne_eqb m (mark "Xd") (λ e. n (inr e)))
-
-  module _ {p : ℕ} (pq : p ≡ body_at s at) (h : Export m) where
-    pub export_child : Child levels s at 0 p (declaration or "Cx Fx In")
-    unfolding grammar known slots place fixed marks member
-    export_child = placed (⊎_elim
-        (λ (e : m ≡ mark "Ed"). wider (first_in levels s at a (mark "Ed") (sym mq ∙ e) refl declaration refl) (declaration or "Cx Fx In") refl)
-        (λ (e : m ≡ mark "Xd"). wider (first_in levels s at a (mark "Xd") (sym mq ∙ e) refl "Cx Fx In" refl) (declaration or "Cx Fx In") refl)
-        h) pq
-
-    pub item_export : (q : Question) (name : List ℕ) → add_item q name (tree_at levels s at) ≡ add_decl q name (tree_at (levels - 1) s p)
-    item_export q name =
-        let b : (eqb m (mark "Ed") || eqb m (mark "Xd")) ≡ true = ⊎_elim (λ (e : m ≡ mark "Ed"). rw e) (λ (e : m ≡ mark "Xd"). rw e) h in
-        item_by_lem q name ∙ rw (b, export_child.tree)
+  pub item_export : (m ≡ Ed) ⊎ (m ≡ Xd) → {x : Record} → ChildIs r 0 x → (p : Question) (name : List ℕ) → add_item p name (rec_of r) ≡ add_decl p name (rec_of x)
+  item_export h x p name = rw (sym x.is) (⊎_elim (λ (e : m ≡ Ed). rw (sym q, e)) (λ (e : m ≡ Xd). rw (sym q, e)) h)

@@ -1,9 +1,10 @@
 -- The index of the names that a module declares, and a table that is being filled with them.
 use Rattle.std.specs.Prelude.{◌≡◌, List, Bool, ℕ, ◌+◌, ◌*◌, ◌/◌, ◌<◌, ◌≤◌, length}
-use Rattle.definition.specs.Tree.{head_size, tree_at}
+use Rattle.definition.specs.Tree.{head_size, end_at, tree_at}
 use Rattle.definition.specs.Check.{deepest}
 use Rattle.definition.specs.Record.{kids_of}
 use Rattle.definition.specs.Prescan.{Question, asked}
+use Rattle.records.specs.declared.tree.Record.{Record}
 use Rattle.index.specs.declared.Names.{Names}
 use Rattle.index.specs.Index.{farthest, Sorted, Answers, Enters, entries_of}
 
@@ -28,6 +29,18 @@ pub record Filled (s : List ℕ) (a b : Names) (end : ℕ) (G : Question → Lis
   pub same : length b.table.now ≡ length a.table.now
   pub from : b.from ≤ a.from
   pub to : a.from + a.count ≤ b.from + b.count
+
+-- where the record r ends
+abbrev pub end_of : Record → ℕ
+end_of r = end_at r.levels r.tree.now r.at
+
+-- there is room for the names from the record r on
+abbrev pub RoomFor : Record → Names → Type 0
+RoomFor r n = Room r.tree.now n r.at
+
+-- what G adds was entered, and the names stand before the end of the record r
+abbrev pub FilledWith : Record → Names → Names → (Question → List ℕ → Bool) → Type 0
+FilledWith r a b G = Filled r.tree.now a b (end_of r) G
 
 -- the index of the module in the tree s: the answers to all questions
 pub record Indexed (s index : List ℕ) : Type 0 where

@@ -2,28 +2,27 @@
 #![tactic(auto)]
 
 ghost use Rattle.std.specs.Prelude.{◌≡◌, ◌&&◌, ◌+◌, ◌*◌, ◌-◌, ◌/◌, ◌<◌, ◌≤◌, length};
-ghost use Rattle.definition.specs.Tree.{mark_at, text_at, body_at, end_at, tree_at};
+ghost use Rattle.definition.specs.Tree.{text_at, tree_at};
 ghost use Rattle.definition.specs.Grammar.{mark};
 ghost use Rattle.definition.specs.Check.{deepest};
 ghost use Rattle.definition.specs.Children.{AcceptedAt};
-ghost use Rattle.definition.specs.Record.{kids_of};
+ghost use Rattle.definition.specs.ChildNames.{fd_name};
+ghost use Rattle.definition.specs.Record.{kid, kids_of, mark_of};
 ghost use Rattle.definition.specs.Prescan.{Question, is_array_type, refers_to_array, is_array_lit_init, add_class, add_const, named, add_declarator, add_decl, add_item, asked};
+ghost use Rattle.records.specs.Views.{rec_of};
 ghost use Rattle.index.specs.Index.{farthest, has};
 ghost use Rattle.prescan.specs.Decls.{Named, add_var};
-ghost use Rattle.prescan.specs.Table.{declaration_size, Room, Filled, Indexed};
+ghost use Rattle.prescan.specs.Table.{declaration_size, RoomFor, FilledWith, Indexed};
 
 pub mod module_names;
 
 use index::Names;
 pub use index::Sets;
 use records::flags::{CONST, has_flag};
-use records::marks::{
-    AR, AS, AW, AY, BD, CD, CX, ED, FD, FX, ID, NO, PR, RF, RO, TC, TS, TU, VD, VR, XD,
-};
-use records::text::{same_text, symbol_at};
-use records::{
-    CONTEXT_SIZE, DEEPEST, HEAD_SIZE, body_at, count_at, mark_at, read_head, record_end, text_at,
-};
+use records::marks::Mark;
+use records::text::same_text;
+use records::tree::Record;
+use records::{CONTEXT_SIZE, DEEPEST, HEAD_SIZE, text_at};
 
 // The bytes that a declaration of a name takes at least: four records, and the context of the name.
 pub const DECLARATION_SIZE: usize = 4 * HEAD_SIZE + CONTEXT_SIZE;
@@ -48,72 +47,62 @@ pub struct Scope {
 }
 
 // The arm of `is_array_type` for `TsTypeRef`, at the name: `Array` or `ReadonlyArray` in any context, "only its symbol counts".
-fn refers_to_array(tree: &[u8], at: usize, levels: usize) -> bool
-    requires { AcceptedAt levels tree.now at }
-    ensures { result ≡ refers_to_array (tree_at levels tree.now at) }
+fn refers_to_array(name: Record) -> bool
+    ensures { result ≡ refers_to_array (rec_of name.entry) }
 {
-    if mark_at(tree, at) != ID {
+    if name.mark() != Mark::Id {
         return false;
     }
-    let symbol = symbol_at(tree, at);
+    let symbol = name.symbol();
     same_text(symbol, b"Array") || same_text(symbol, b"ReadonlyArray")
 }
 
 // `is_array_type`
-pub fn is_array_type(tree: &[u8], at: usize, levels: usize) -> bool
-    requires { AcceptedAt levels tree.now at }
-    ensures { result ≡ is_array_type (tree_at levels tree.now at) }
+pub fn is_array_type(ty: Record) -> bool
+    ensures { result ≡ is_array_type (rec_of ty.entry) }
 {
-    match mark_at(tree, at) {
-        AY | TU => true,
-        RO => is_array_type(tree, body_at(tree, at), levels - 1),
-        RF => refers_to_array(tree, body_at(tree, at), levels - 1),
+    match ty.mark() {
+        Mark::Ay | Mark::Tu => true,
+        Mark::Ro => is_array_type(ty.children().first()),
+        Mark::Rf => refers_to_array(ty.children().first()),
         _ => false,
     }
 }
 
 // `is_array_lit_init`: "Pr is untyped, though the prescan looks through it".
-pub fn is_array_lit_init(tree: &[u8], at: usize, levels: usize) -> bool
-    requires { AcceptedAt levels tree.now at }
-    ensures { result ≡ is_array_lit_init (tree_at levels tree.now at) }
+pub fn is_array_lit_init(init: Record) -> bool
+    ensures { result ≡ is_array_lit_init (rec_of init.entry) }
 {
-    match mark_at(tree, at) {
-        AR => true,
-        PR | TC | TS => is_array_lit_init(tree, body_at(tree, at), levels - 1),
-        AS => {
-            let ty = record_end(tree, body_at(tree, at), levels - 1);
-            is_array_type(tree, ty, levels - 1)
-        }
+    match init.mark() {
+        Mark::Ar => true,
+        Mark::Pr | Mark::Tc | Mark::Ts => is_array_lit_init(init.children().first()),
+        Mark::As => is_array_type(init.children().rest().first()),
         _ => false,
     }
 }
 
-// `add_class`: the sets to which the Cl at `at` adds its name.
-fn add_class(tree: &[u8], at: usize, levels: usize) -> Sets
-    requires accepted_at { AcceptedAt levels tree.now at }
-    requires at_value { mark_at tree.now at ≡ mark "Cl" }
-    ensures { (q : Question) → has q result ≡ add_class q (tree_at levels tree.now at) }
+// `add_class`: the sets to which a Cl adds its name.
+fn add_class(class: Record) -> Sets
+    requires { mark_of (rec_of class) ≡ mark "Cl" }
+    ensures { (q : Question) → has q result ≡ add_class q (rec_of class.entry) }
 {
     Sets {
         typeof_safe: true,
-        non_generic_class: mark_at(tree, body_at(tree, at)) == NO,
+        non_generic_class: class.children().first().mark() == Mark::No,
         array_typed: false,
     }
 }
 
-// `add_decl`, in the arm for `Decl::Var`: the sets to which a const adds its name, by its init and by its type, which has one level less.
-fn add_const(tree: &[u8], init: usize, levels: usize, ty: usize) -> Sets
-    requires accepted_at { AcceptedAt levels tree.now init }
-    requires accepted_at_2 { AcceptedAt (levels - 1) tree.now ty }
-    ensures { (q : Question) → has q result
-        ≡ add_const q (tree_at (levels - 1) tree.now ty) (tree_at levels tree.now init) }
+// `add_decl`, in the arm for `Decl::Var`: the sets to which a const adds its name, by its type and by its init.
+fn add_const(ty: Record, init: Record) -> Sets
+    ensures { (q : Question) → has q result ≡ add_const q (rec_of ty.entry) (rec_of init.entry) }
 {
-    let typed = mark_at(tree, ty) != NO;
-    let typeof_safe = typed || matches!(mark_at(tree, init), FX | AW);
+    let typed = ty.mark() != Mark::No;
+    let typeof_safe = typed || matches!(init.mark(), Mark::Fx | Mark::Aw);
     let array_typed = if typed {
-        is_array_type(tree, ty, levels - 1)
+        is_array_type(ty)
     } else {
-        is_array_lit_init(tree, init, levels)
+        is_array_lit_init(init)
     };
     Sets {
         typeof_safe,
@@ -123,89 +112,75 @@ fn add_const(tree: &[u8], init: usize, levels: usize, ty: usize) -> Sets
 }
 
 // `add_decl`, in the arm for `Decl::Var`: a declarator of a const, `if let Pat::Ident(ident) = &declarator.name`.
-fn enter_declarator(tree: &[u8], at: usize, levels: usize, names: &mut Names)
-    requires accepted_at { AcceptedAt levels tree.now at }
-    requires room { Room tree.now names.old at }
-    ensures { Filled tree.now names.old names.new (end_at levels tree.now at)
-        (λ q t. add_declarator q t (tree_at levels tree.now at)) }
+fn enter_declarator(declarator: Record, names: &mut Names)
+    requires { RoomFor declarator names.old }
+    ensures { FilledWith declarator.entry names.old names.new (λ q t. add_declarator q t (rec_of declarator.entry)) }
 {
-    if mark_at(tree, at) != VR {
+    if declarator.mark() != Mark::Vr {
         return;
     }
-    let pattern = body_at(tree, at);
-    if mark_at(tree, pattern) != BD {
+    let parts = declarator.children();
+    let pattern = parts.first();
+    if pattern.mark() != Mark::Bd {
         return;
     }
-    let ident = body_at(tree, pattern);
-    let below = levels - 1;
-    let ty = record_end(tree, ident, below - 1);
-    let init = record_end(tree, pattern, below);
-    let sets = add_const(tree, init, below, ty);
-    names.insert(tree, ident, sets);
+    let binding = pattern.children();
+    let ident = binding.first();
+    let ty = binding.rest().first();
+    let init = parts.rest().first();
+    let sets = add_const(ty, init);
+    names.insert(ident.tree, ident.at, sets);
 }
 
 // `add_decl`, the arm for `Decl::Var`: the declarators of a const.
-fn enter_var(tree: &[u8], at: usize, levels: usize, names: &mut Names)
-    requires accepted_at { AcceptedAt levels tree.now at }
-    requires room { Room tree.now names.old at }
-    ensures { Filled tree.now names.old names.new (end_at levels tree.now at)
-        (λ q t. add_var q t (tree_at levels tree.now at)) }
+fn enter_var(var: Record, names: &mut Names)
+    requires { RoomFor var names.old }
+    ensures { FilledWith var.entry names.old names.new (λ q t. add_var q t (rec_of var.entry)) }
 {
-    let head = read_head(tree, at);
-    if !has_flag(head.flags, CONST) {
+    if !has_flag(var.flags(), CONST) {
         return;
     }
-    let mut rest = head.count;
-    let mut declarator = body_at(tree, at);
-    while 0 < rest {
-        enter_declarator(tree, declarator, levels - 1, names);
-        declarator = record_end(tree, declarator, levels - 1);
-        rest -= 1;
+    for declarator in var.children() {
+        enter_declarator(declarator, names);
     }
 }
 
 // A function or a class, by its name, which stands in front of it: in these sets. An expression may have no name.
-fn enter_named(tree: &[u8], at: usize, levels: usize, sets: Sets, names: &mut Names)
-    requires accepted_at { AcceptedAt levels tree.now at }
-    requires at_value { Named (mark_at tree.now at) }
-    requires room { Room tree.now names.old at }
-    ensures { Filled tree.now names.old names.new (end_at levels tree.now at)
-        (λ q t. named t (tree_at (levels - 1) tree.now (body_at tree.now at)) && has q sets) }
+fn enter_named(decl: Record, sets: Sets, names: &mut Names)
+    requires named { Named (mark_of (rec_of decl)) }
+    requires room { RoomFor decl names.old }
+    ensures { FilledWith decl.entry names.old names.new (λ q t. named t (kid fd_name (kids_of (rec_of decl.entry))) && has q sets) }
 {
-    let ident = body_at(tree, at);
-    if mark_at(tree, ident) == ID {
-        names.insert(tree, ident, sets);
+    let ident = decl.children().first();
+    if ident.mark() == Mark::Id {
+        names.insert(ident.tree, ident.at, sets);
     }
 }
 
 // `add_decl`, and the arms of `prescan_module_ids` for `ExportDefaultDecl`: a function and a class expression stand beside their name too.
-fn enter_decl(tree: &[u8], at: usize, levels: usize, names: &mut Names)
-    requires accepted_at { AcceptedAt levels tree.now at }
-    requires room { Room tree.now names.old at }
-    ensures { Filled tree.now names.old names.new (end_at levels tree.now at)
-        (λ q t. add_decl q t (tree_at levels tree.now at)) }
+fn enter_decl(decl: Record, names: &mut Names)
+    requires { RoomFor decl names.old }
+    ensures { FilledWith decl.entry names.old names.new (λ q t. add_decl q t (rec_of decl.entry)) }
 {
-    match mark_at(tree, at) {
-        FD | FX => enter_named(tree, at, levels, FUNCTION, names),
-        CD | CX => {
-            let class = record_end(tree, body_at(tree, at), levels - 1);
-            enter_named(tree, at, levels, add_class(tree, class, levels - 1), names)
+    match decl.mark() {
+        Mark::Fd | Mark::Fx => enter_named(decl, FUNCTION, names),
+        Mark::Cd | Mark::Cx => {
+            let class = decl.children().rest().first();
+            enter_named(decl, add_class(class), names)
         }
-        VD => enter_var(tree, at, levels, names),
+        Mark::Vd => enter_var(decl, names),
         _ => {}
     }
 }
 
 // An item of the module: a declaration, or what an `ExportDecl` (Ed) or an `ExportDefaultDecl` (Xd) holds.
-fn enter_item(tree: &[u8], at: usize, levels: usize, names: &mut Names)
-    requires accepted_at { AcceptedAt levels tree.now at }
-    requires room { Room tree.now names.old at }
-    ensures { Filled tree.now names.old names.new (end_at levels tree.now at)
-        (λ q t. add_item q t (tree_at levels tree.now at)) }
+fn enter_item(item: Record, names: &mut Names)
+    requires { RoomFor item names.old }
+    ensures { FilledWith item.entry names.old names.new (λ q t. add_item q t (rec_of item.entry)) }
 {
-    match mark_at(tree, at) {
-        ED | XD => enter_decl(tree, body_at(tree, at), levels - 1, names),
-        _ => enter_decl(tree, at, levels, names),
+    match item.mark() {
+        Mark::Ed | Mark::Xd => enter_decl(item.children().first(), names),
+        _ => enter_decl(item, names),
     }
 }
 
@@ -217,12 +192,13 @@ pub fn index<'a>(tree: &[u8], table: &'a mut [u32]) -> &'a [u32]
     ensures { Indexed tree.now result.now }
 {
     let mut names = Names::new(table);
-    let mut rest = count_at(tree, 0);
-    let mut item = body_at(tree, 0);
-    while 0 < rest {
-        enter_item(tree, item, DEEPEST - 1, &mut names);
-        item = record_end(tree, item, DEEPEST - 1);
-        rest -= 1;
+    let root = Record {
+        tree,
+        at: 0,
+        levels: DEEPEST,
+    };
+    for item in root.children() {
+        enter_item(item, &mut names);
     }
     names.into_entries()
 }

@@ -50,10 +50,10 @@ impl<'o> Writer<'o> {
     }
 
     // A record of the tree as it stands.
-    pub fn put_record(&mut self, record: Record)
-        ensures { Writes self.old self.new (encode (rec_of record.entry)) }
+    pub fn put_record(&mut self, r: Record)
+        ensures { Writes self.old self.new (encode (rec_of r.entry)) }
     {
-        self.put(record.part());
+        self.put(r.part());
     }
 
     // The head of a record that is made, with a text of a length and children of a number: "A record made afresh has none" (no Ops) "and only the

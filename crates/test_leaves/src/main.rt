@@ -73,7 +73,7 @@ fn show_type(rt: &impl Print, tree: &[u8], at: usize, levels: usize) -> io::Resu
         rt,
         at,
         b"is_array_type",
-        prescan::is_array_type(tree, at, levels),
+        prescan::is_array_type(Record { tree, at, levels }),
     )?;
     let mut out = [0u8; ROOM];
     let end = swc_helpers::ts_readonly(DUMMY_SP, &mut out, 0);
@@ -87,13 +87,8 @@ fn show_type(rt: &impl Print, tree: &[u8], at: usize, levels: usize) -> io::Resu
 fn show_expression(rt: &impl Print, tree: &[u8], at: usize, levels: usize) -> io::Result<()>
     requires { AcceptedAt levels tree.now at }
 {
-    print_bool(
-        rt,
-        at,
-        b"is_array_lit_init",
-        prescan::is_array_lit_init(tree, at, levels),
-    )?;
     let expr = Record { tree, at, levels };
+    print_bool(rt, at, b"is_array_lit_init", prescan::is_array_lit_init(expr))?;
     let symbol = names::is_well_known_symbol_expr(expr, UNRESOLVED);
     print_bool(rt, at, b"is_well_known_symbol_expr", symbol)
 }

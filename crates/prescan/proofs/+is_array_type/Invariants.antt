@@ -1,5 +1,5 @@
--- `prescan::is_array_type` meets its contract: in each arm the mark picks the definition's case. The measure is the depth left.
+-- `prescan::is_array_type`: the measure is the depth left.
 use Rattle.prescan.proofs.+is_array_type.Given as goal
 
 abbrev pub decreases-is_array_type : goal.decreases-is_array_type
-decreases-is_array_type l = l.levels
+decreases-is_array_type l = l.ty.levels

@@ -1,12 +1,9 @@
 -- `prescan::enter_var` meets its contract: each turn of the loop enters one declarator.
-use Prim.Native.Nat.{◌-◌}
-use Rattle.definition.specs.Tree.{end_at, tree_at}
 use Rattle.definition.specs.Record.{kids_of}
+use Rattle.records.specs.Views.{rec_of}
+use Rattle.prescan.specs.Table.{end_of}
 use Rattle.prescan.proofs.Tables.{Vars, Filling}
 use Rattle.prescan.proofs.enter_var.Given as goal
 
-abbrev pub invariant-loop-rest : goal.invariant-loop-rest
-invariant-loop-rest l = Filling Vars (kids_of (tree_at l.levels l.tree l.at)) (l.levels - 1) l.tree l.initial.names (end_at l.levels l.tree l.at) l.names l.rest l.declarator
-
-abbrev pub decreases-loop-rest : goal.decreases-loop-rest
-decreases-loop-rest l = l.rest
+abbrev pub invariant-loop-declarator : goal.invariant-loop-declarator
+invariant-loop-declarator l = Filling Vars (kids_of (rec_of l.var)) l.var.tree.now (end_of l.var) l.initial.names l.names l.declarator-iterator

@@ -1,27 +1,22 @@
 -- `prescan::index` meets its contract: each turn of the loop enters one item.
 use Rattle.definition.specs.Prescan.{add_item}
-use Rattle.definition.proofs.Walk.{left-first}
-use Rattle.records.proofs.Accepted.{room, lies}
-use Rattle.prescan.proofs.Tables.{Items, room-start, filling_start, filling_turn, filling_done, items-step, items-none, indexed}
+use Rattle.definition.proofs.Anywhere.{is_accepted}
+use Rattle.records.specs.Views.{rec_of}
+use Rattle.prescan.proofs.Tables.{Items, items_step, items_none, room_start, filling_start, filling_turn, filling_done, indexed}
 use Rattle.prescan.proofs.index.Goals as goal
 
-pub count_at-rest-requires : goal.count_at-rest-requires
-count_at-rest-requires c = room c.requires.accepted_at
+pub invariant_of-root : goal.invariant_of-root
+invariant_of-root c = record { accepted = is_accepted c.requires.accepted_at }
 
-pub body_at-item-requires : goal.body_at-item-requires
-body_at-item-requires c = room c.requires.accepted_at
+pub loop-item-init : goal.loop-item-init
+unfolding rec_of
+loop-item-init c =
+    rw c.into_iter-item-iterator.ensures.into_iter_gives
+    (filling_start Items c.children-item-items.ensures
+    (room_start c.new-names.result (rw c.new-names.ensures.table c.requires.tree_len_bound) c.requires.tree_len_bound_2 (rw c.new-names.ensures.table c.new-names.ensures.from) c.new-names.ensures.count))
 
-pub loop-rest-init : goal.loop-rest-init
-loop-rest-init c = filling_start Items c.requires.accepted_at (room-start c.new-names.result (rw c.new-names.ensures.table c.requires.tree_len_bound) c.requires.tree_len_bound_2 (rw c.new-names.ensures.table c.new-names.ensures.from) c.new-names.ensures.count) c.count_at-rest.ensures.0 c.body_at-item.ensures
-
-pub enter_item-requires-clause-accepted_at : goal.enter_item-requires-clause-accepted_at
-enter_item-requires-clause-accepted_at c = left-first c.loop-rest.invariant.left c.loop-rest-test.true
-
-pub record_end-item-requires : goal.record_end-item-requires
-record_end-item-requires c = lies (left-first c.loop-rest.invariant.left c.loop-rest-test.true)
-
-pub loop-rest-preserved : goal.loop-rest-preserved
-loop-rest-preserved c = filling_turn c.loop-rest.invariant add_item items-step c.loop-rest-test.true c.enter_item.ensures c.record_end-item.ensures
+pub loop-item-preserved : goal.loop-item-preserved
+loop-item-preserved c = filling_turn c.loop-item.invariant add_item items_step c.in-Some.ensures.steps c.enter_item.ensures
 
 pub returns : goal.returns
-returns c = rw c.into_entries.ensures (indexed c.new-names.ensures.count (filling_done c.loop-rest.invariant items-none c.loop-rest-test.false))
+returns c = rw c.into_entries.ensures (indexed c.new-names.ensures.count (filling_done c.loop-item.invariant items_none c.in-None.ensures.steps.0))
