@@ -16,13 +16,14 @@ ghost use Rattle.prescan.specs.Table.{declaration_size, RoomFor, FilledWith, Ind
 
 pub mod module_names;
 
+use crate::module_names::Index;
 use index::Names;
 pub use index::Sets;
 use records::flags::{CONST, has_flag};
 use records::marks::Mark;
 use records::text::same_text;
 use records::tree::Record;
-use records::{CONTEXT_SIZE, DEEPEST, HEAD_SIZE, text_at};
+use records::{CONTEXT_SIZE, DEEPEST, HEAD_SIZE};
 
 // The bytes that a declaration of a name takes at least: four records, and the context of the name.
 pub const DECLARATION_SIZE: usize = 4 * HEAD_SIZE + CONTEXT_SIZE;
@@ -209,8 +210,13 @@ pub fn look_up(tree: &[u8], index: &[u32], id: usize, levels: usize) -> Sets
     requires indexed { Indexed tree.now index.now }
     ensures { (q : Question) → has q result ≡ asked q (kids_of (tree_at deepest tree.now 0)) (text_at tree.now id) }
 {
-    match index::find(tree, index, text_at(tree, id)) {
-        Ok(p) => Sets::of(index[p]),
-        Err(_) => Sets::default(),
-    }
+    let names = Index {
+        tree,
+        entries: index,
+    };
+    names.look_up(Record {
+        tree,
+        at: id,
+        levels,
+    })
 }

@@ -1,21 +1,17 @@
--- `prescan::look_up` meets its contract: the entry that was found has the answers, or there is none.
-use native.Mathlib.Omega.{arith}
-use mathlib.Core.Path.{sym, ◌∙◌}
-use Rattle.index.proofs.Laws.{hit-within}
-use Rattle.records.proofs.Accepted.{fits}
-use Rattle.prescan.proofs.Tables.{has-sets_of, has-nothing, look_hit, look-miss}
+-- `prescan::look_up`: an accepted record, and the index of the module in the tree.
+use Rattle.definition.proofs.Anywhere.{is_accepted}
+use mathlib.Core.Path.{ap, ◌∙◌}
+use Rattle.definition.specs.Check.{deepest}
+use Rattle.definition.specs.Prescan.{asked}
+use Rattle.definition.specs.Record.{kids_of}
+use Rattle.definition.specs.Tree.{tree_at}
+use Rattle.definition.proofs.Kids.{text-is}
+use Rattle.records.specs.Views.{rec_of}
 use Rattle.prescan.proofs.look_up.Goals as goal
 
-pub text_at-requires : goal.text_at-requires
-text_at-requires c = fits c.requires.accepted_at
+pub invariant_of-look_up : goal.invariant_of-look_up
+invariant_of-look_up c = record { accepted = is_accepted c.requires.accepted_at }
 
-pub bounds-index-p : goal.bounds-index-p
-bounds-index-p c = omega (arith, hit-within c.in-Ok.ensures.0 c.in-Ok.ensures.1)
-
-pub returns-in-Ok : goal.returns-in-Ok
-returns-in-Ok c q = rw (c.of.ensures, has-sets_of _ q, sym c.text_at.ensures) (look_hit c.requires.indexed c.in-Ok.ensures.0 q c.in-Ok.ensures.1)
-
-pub returns-in-Err : goal.returns-in-Err
-returns-in-Err c q =
-    has-nothing c.default.ensures.0 c.default.ensures.1.0 c.default.ensures.1.1 q ∙
-    rw (sym c.text_at.ensures) (sym (look-miss c.requires.indexed c.in-Err.ensures.0 q c.in-Err.ensures.1))
+pub returns : goal.returns
+unfolding rec_of
+returns c q = c.look_up.ensures q ∙ ap (λ t. asked q (kids_of (tree_at deepest c.args.tree.now 0)) t) (text-is c.args.levels c.args.tree.now c.args.id)
