@@ -1,4 +1,4 @@
--- The part of the tree that a record fills, read by itself: it holds a head, and the record's mark is at its start. Who calls `part` or `child_at` cites this.
+-- The part of the tree that a record fills, read by itself: it holds a head, and the record's mark is at its start. Who reads a part of `record_at` cites this.
 use mathlib.Core.Path.{◌≡◌, ap, ◌∙◌}
 use mathlib.Core.List.{List}
 use Prim.Native.Nat.{ℕ, ◌+◌, ◌-◌, ◌*◌, ◌≤◌, ◌<◌}

@@ -1,12 +1,12 @@
 -- What `all` and `any` over records answer: what a definition by recursion over their trees says.
-use mathlib.Core.Path.{◌≡◌, refl, sym, ap, ◌∙◌}
+use mathlib.Core.Path.{◌≡◌, refl, sym, ◌∙◌}
 use mathlib.Core.List.{List, [], ◌∷◌}
 use mathlib.Core.Bool.{Bool, true, false, ◌&&◌, ◌||◌}
-use Prim.Native.Nat.{ℕ, zero, suc, ◌+◌, ◌-◌, ◌<◌, ◌≤◌}
+use Prim.Native.Nat.{ℕ, zero, suc, ◌<◌}
 use native.Mathlib.Omega.{arith}
-use lib.ListN.{length, get_or}
+use lib.ListN.{length}
 use denote.Param.Members.{Mut}
-use Rattle.std.specs.Prelude.{Option, Some, None, MatchOption}
+use Rattle.std.specs.Prelude.{Option, MatchOption}
 use Rattle.std.specs.Bool.{MatchBool}
 use Rattle.std.specs.Fn.{Called}
 use Rattle.std.specs.Iterator.{AlwaysYields, YieldsThen}
@@ -15,7 +15,7 @@ use Rattle.std.proofs.lemmas.Iterator.{YieldsList, cases_from_all, cases_from_an
 use Rattle.definition.specs.Tree.{Rec, Recs, nil, cons}
 use Rattle.records.specs.declared.tree.Record.{Record}
 use Rattle.records.specs.declared.tree.Records.{Records}
-use Rattle.records.specs.Views.{rec_of, recs_of, FirstOf, RestOf, Step}
+use Rattle.records.specs.Views.{rec_of, recs_of, Step}
 use Rattle.records.proofs.Records.{recs_none, recs_step}
 
 -- the trees as a list

@@ -1,6 +1,7 @@
 pub mod Known
 pub mod Stores
 pub mod Whole
+pub mod Filled
 pub mod Wrote
 pub mod Texts
 pub mod Puts

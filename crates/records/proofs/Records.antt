@@ -1,25 +1,22 @@
 -- Laws of records as the code walks over them: the children of a record one after the other, and what a loop over them meets.
-use mathlib.Core.Path.{◌≡◌, refl, sym, ap, ◌∙◌, subst}
-use mathlib.Core.List.{List}
-use mathlib.Core.Bool.{Bool, true, false}
-use Rattle.std.proofs.Math.Option.{Option, some}
-use Prim.Native.Nat.{ℕ, zero, suc, ◌+◌, ◌-◌, ◌<◌, ◌≤◌}
+use mathlib.Core.Path.{◌≡◌, refl, sym, ap, ◌∙◌}
+use mathlib.Core.Bool.{true, false}
+use Rattle.std.proofs.Math.Option.{some}
+use Prim.Native.Nat.{ℕ, zero, suc, ◌-◌, ◌<◌, ◌≤◌}
 use Prim.Native.String.{String}
 use native.Mathlib.Omega.{arith}
-use native.Mathlib.Numerals.{add-one}
 use lib.Dec.{eqb}
-use Rattle.definition.specs.Tree.{Rec, Recs, rec, nil, cons, count, head_size, mark_at, count_at, body_at, end_at, end_of_all, read_all, tree_at}
-use Rattle.definition.specs.Grammar.{Part, mark, marks, member}
+use Rattle.definition.specs.Tree.{Rec, Recs, nil, cons, count, body_at, end_at, end_of_all, read_all, tree_at}
+use Rattle.definition.specs.Grammar.{mark, marks, member}
 use Rattle.definition.specs.Check.{slots_of}
-use Rattle.definition.specs.Children.{AcceptedAt, AllAccepted, child_at}
+use Rattle.definition.specs.Children.{child_at}
 use Rattle.definition.specs.Record.{kids_of, mark_of, kid}
-use Rattle.definition.proofs.Children.{read_all_more, read_all_none, first_one, end_after}
+use Rattle.definition.proofs.Children.{read_all_more, read_all_none}
 use Rattle.definition.proofs.Kids.{mark-is, has-least, least_of, child_in, fixed}
 use Rattle.records.specs.declared.tree.Record.{Record}
 use Rattle.records.specs.declared.tree.Records.{Records}
 use Rattle.records.specs.Views.{rec_of, recs_of, behind, ChildrenOf, FirstOf, RestOf, From, ChildIs}
-use Rattle.records.proofs.Accepted.{level}
-use Rattle.records.proofs.Views.{accepted, rec_is, mark_here, kids_here, count_here, all_here, first_here, rest_behind}
+use Rattle.records.proofs.Views.{accepted, mark_here, count_here}
 
 -- ---- one step over records
 

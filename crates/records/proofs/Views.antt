@@ -1,24 +1,20 @@
 -- What the code reads of a Record is what the tree that stands there has.
 use mathlib.Core.Path.{◌≡◌, refl, sym, ap, ◌∙◌}
-use mathlib.Core.List.{List}
-use Prim.Native.Nat.{ℕ, ◌+◌, ◌-◌, ◌<◌, ◌≤◌}
+use Prim.Native.Nat.{◌+◌, ◌-◌, ◌<◌, ◌≤◌}
 use native.Mathlib.Omega.{arith}
-use lib.ListN.{length, take, drop}
-use Rattle.definition.specs.Tree.{Rec, Recs, rec, nil, cons, count, head_size, mark_at, flags_at, start_at, last_at, length_at, count_at, text_at, body_at, end_at, head_at, read_all, tree_at, encode, Bytes}
+use Rattle.definition.specs.Tree.{count, head_size, mark_at, flags_at, length_at, count_at, text_at, body_at, end_at, head_at, read_all, tree_at}
 use Rattle.definition.specs.Children.{AcceptedAt, AllAccepted}
 use Rattle.definition.specs.Record.{head_of, kids_of, mark_of, text_of}
-use Rattle.definition.proofs.Anywhere.{accepted_at, is_accepted, all_accepted, are_accepted}
-use Rattle.definition.proofs.Children.{first_one, others, children, part_is, read_all_more, read_all_none, end_after}
+use Rattle.definition.proofs.Anywhere.{accepted_at, all_accepted}
+use Rattle.definition.proofs.Children.{first_one, others, children, end_after}
 use Rattle.definition.proofs.Converse.{count_read_all}
 use Rattle.definition.proofs.Kids.{head_is, mark-is, flags-is, text-is, kids_are}
 use Rattle.definition.proofs.Places.{part_length}
-use Rattle.records.specs.declared.Head.{Head}
-use Rattle.records.specs.declared.Range.{Range}
 use Rattle.records.specs.declared.tree.Record.{Record}
 use Rattle.records.specs.declared.tree.Records.{Records}
 use Rattle.records.specs.Fields.{fields_at, fields_of, range_at, range_of}
-use Rattle.records.specs.Views.{rec_of, recs_of, ChildrenOf, FirstOf, RestOf}
-use Rattle.records.proofs.Accepted.{room, fits, lies, level}
+use Rattle.records.specs.Views.{rec_of, recs_of, ChildrenOf}
+use Rattle.records.proofs.Accepted.{fits, level}
 
 module _ (r : Record) where
   pub accepted : AcceptedAt r.levels r.tree.now r.at

@@ -1,10 +1,10 @@
 -- Laws of what was done to a Writer.
-use mathlib.Core.Path.{◌≡◌, refl, ◌∙◌}
+use mathlib.Core.Path.{◌≡◌, ◌∙◌}
 use mathlib.Core.List.{List, ◌++◌}
 use Prim.Native.Nat.{ℕ, ◌<◌, ◌^◌}
 use lib.ListN.{length}
 use Rattle.records.specs.declared.writer.Writer.{Writer}
-use Rattle.records.specs.Writers.{Writes, Skips}
+use Rattle.records.specs.Writers.{Writes}
 use native.Mathlib.Omega.{arith}
 use Rattle.records.proofs.Puts.{put-put, put_as}
 use Rattle.records.proofs.Wrote.{put-wrote}

@@ -3,7 +3,6 @@ use mathlib.Core.Path.{◌≡◌, sym}
 use Prim.Native.Nat.{◌-◌}
 use native.Mathlib.Omega.{arith}
 use lib.ListN.{length, length-take, length-drop}
-use lib.Seq.{length-take-le}
 use Rattle.records.proofs.Stores.{sets-out, part_sets, cut_sets}
 use Rattle.records.proofs.put_text.Goals as goal
 

@@ -1,5 +1,5 @@
 use mathlib.Core.Path.{◌∙◌}
-use Rattle.records.proofs.Accepted.{room, fits, lies}
+use Rattle.records.proofs.Accepted.{room}
 use Rattle.records.proofs.Views.{accepted, flags_here}
 use Rattle.records.proofs.tree.Record.flags.Goals as goal
 

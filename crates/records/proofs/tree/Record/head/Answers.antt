@@ -1,5 +1,5 @@
 use mathlib.Core.Path.{◌∙◌}
-use Rattle.records.proofs.Accepted.{room, fits, lies}
+use Rattle.records.proofs.Accepted.{room}
 use Rattle.records.proofs.Views.{accepted, fields_here}
 use Rattle.records.proofs.tree.Record.head.Goals as goal
 

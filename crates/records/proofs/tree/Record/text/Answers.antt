@@ -1,5 +1,5 @@
 use mathlib.Core.Path.{◌∙◌}
-use Rattle.records.proofs.Accepted.{room, fits, lies}
+use Rattle.records.proofs.Accepted.{fits}
 use Rattle.records.proofs.Views.{accepted, text_here}
 use Rattle.records.proofs.tree.Record.text.Goals as goal
 
