@@ -1,14 +1,13 @@
 -- Whether `readonly_of` has an answer for the type of an expression: what is asked of the expression says it.
 use mathlib.Core.Path.{◌≡◌, refl, sym, ap, ◌∙◌}
-use mathlib.Core.List.{List, []}
+use mathlib.Core.List.{[]}
 use mathlib.Core.Bool.{Bool, true, false, cond}
-use mathlib.Core.Logic.{◌⊎◌, inl, inr, ⊎_elim}
+use mathlib.Core.Logic.{◌⊎◌, inl, inr}
 use mathlib.Core.Option.{Option, none, some}
-use Prim.Native.Nat.{ℕ, ◌-◌}
+use Prim.Native.Nat.{ℕ, ◌≤◌, ◌<◌}
 use native.Mathlib.Omega.{arith}
-use Rattle.definition.specs.Tree.{Head, Rec, Recs, rec, nil, cons, mark_at, body_at, tree_at}
-use Rattle.definition.specs.Grammar.{mark, marks, member, expression, type}
-use Rattle.definition.specs.Children.{AcceptedAt}
+use Rattle.definition.specs.Tree.{Head, Rec, Recs, rec, nil, cons, count}
+use Rattle.definition.specs.Grammar.{mark, marks, member, expression, grammar, known, slots, place}
 use Rattle.definition.specs.Record.{kids_of, mark_of, is_no, ranged, kid, given, present, Out, pure, if_m}
 use Rattle.definition.specs.Helpers.{lit_kind, object_freeze_call_arg}
 use Rattle.definition.specs.Prescan.{PrescannedModuleIds}
@@ -43,11 +42,18 @@ use Rattle.definition.specs.Typing.{
   fn_first,
   function_type,
 }
-use Rattle.definition.proofs.Kids.{Child, mark-is}
+use Rattle.definition.proofs.Kids.{fixed, first_in}
+use Rattle.records.specs.declared.marks.Mark.{Mark}
+use Rattle.records.specs.declared.marks.Mark.TheVariants.{Ar, Ob, Fx, Aw, Ca, Tc, Ts}
+use Rattle.records.specs.declared.tree.Record.{Record}
+use Rattle.records.specs.Marks.{number_of}
+use Rattle.records.specs.Views.{rec_of, ChildIs}
+use Rattle.records.proofs.Records.{enough}
+use Rattle.records.proofs.SameMarks.{marked}
+use Rattle.records.proofs.Views.{accepted, mark_here, count_here}
 use Rattle.typing.specs.Parts.{type_has_readonly, has_readonly_by, has_readonly, first_has_readonly}
 use Rattle.typing.proofs.Frozen.{readonly_stays, lit-none, tpl_none, ident-none, minus-none, new_none, plain-props}
-use Rattle.typing.proofs.Slots.{tc_expr, ts_expr}
-use Rattle.typing.proofs.LeafArms.{is_leaf, is_leaf_lem}
+use Rattle.typing.proofs.LeafArms.{is_leaf}
 
 -- ---- the types that an expression may have
 
@@ -161,31 +167,44 @@ has_eta : (t : Rec) → has_readonly t ≡ has_readonly_by (expr_kind (mark_of t
 unfolding has_readonly
 has_eta (rec h ks) = ap (has_readonly_by (expr_kind h.mark) ks) (first-is ks)
 
-module _ (levels : ℕ) (tree : List ℕ) (at : ℕ) where
-  abbrev t : Rec
-  t = tree_at levels tree at
+has-by : (t : Rec) (k : Expr) → expr_kind (mark_of t) ≡ k → has_readonly t ≡ has_readonly_by k (kids_of t) (has_readonly (kid 0 (kids_of t)))
+has-by t k e = has_eta t ∙ ap (λ (k : Expr). has_readonly_by k (kids_of t) (has_readonly (kid 0 (kids_of t)))) e
 
-  has-by : (k : Expr) → expr_kind (mark_at tree at) ≡ k → has_readonly t ≡ has_readonly_by k (kids_of t) (has_readonly (kid 0 (kids_of t)))
-  has-by k e = has_eta t ∙ rw (mark-is levels tree at, e)
+-- the marks of the expressions whose type is readonly or can be, and of those that assert
+abbrev pub Readonly : Mark → Type 0
+Readonly m = (m ≡ Ar) ⊎ ((m ≡ Ob) ⊎ ((m ≡ Fx) ⊎ ((m ≡ Aw) ⊎ (m ≡ Ca))))
 
-  pub has-made : (mark_at tree at ≡ mark "Ca") ⊎ ((mark_at tree at ≡ mark "Ob") ⊎ ((mark_at tree at ≡ mark "Ar") ⊎ ((mark_at tree at ≡ mark "Aw") ⊎ (mark_at tree at ≡ mark "Fx")))) → true ≡ has_readonly t
+abbrev pub Asserts : Mark → Type 0
+Asserts m = (m ≡ Tc) ⊎ (m ≡ Ts)
+
+module _ (r : Record) where
+  module _ {m : Mark} (n : number_of m ≡ mark_of (rec_of r)) where
+    pub has_made : Readonly m → has_readonly (rec_of r) ≡ true
+    unfolding has_readonly_by expr_kind marks member
+    has_made (inl e) = has-by (rec_of r) x_array (rw (marked m n e))
+    has_made (inr (inl e)) = has-by (rec_of r) x_object (rw (marked m n e))
+    has_made (inr (inr (inl e))) = has-by (rec_of r) x_fn (rw (marked m n e))
+    has_made (inr (inr (inr (inl e)))) = has-by (rec_of r) x_arrow (rw (marked m n e))
+    has_made (inr (inr (inr (inr e)))) = has-by (rec_of r) x_call (rw (marked m n e))
+
+    -- what a Tc or a Ts asserts
+    pub asserted : Asserts m → 0 < count (kids_of (rec_of r))
+    unfolding grammar known slots place fixed
+    asserted (inl e) = omega (arith, (first_in _ _ _ (accepted r) (mark "Tc") (mark_here r ∙ marked m n e) refl expression refl).there, count_here r)
+    asserted (inr e) = omega (arith, (first_in _ _ _ (accepted r) (mark "Ts") (mark_here r ∙ marked m n e) refl expression refl).there, count_here r)
+
+    pub has_first : Asserts m → {x : Record} → ChildIs r 0 x → has_readonly (rec_of r) ≡ has_readonly (rec_of x)
+    unfolding has_readonly_by expr_kind marks member
+    has_first (inl e) x = has-by (rec_of r) x_const (rw (marked m n e)) ∙ ap has_readonly (sym x.is)
+    has_first (inr e) x = has-by (rec_of r) x_satisfies (rw (marked m n e)) ∙ ap has_readonly (sym x.is)
+
+  -- the type of an As
+  pub typed : mark_of (rec_of r) ≡ mark "As" → 2 ≤ count (kids_of (rec_of r))
+  typed e = enough r e
+
+  pub has_as : mark_of (rec_of r) ≡ mark "As" → {y : Record} → ChildIs r 1 y → has_readonly (rec_of r) ≡ type_has_readonly (rec_of y)
   unfolding has_readonly_by expr_kind marks member
-  has-made =
-      ⊎_elim (λ e. sym (has-by x_call (rw e))) (⊎_elim (λ e. sym (has-by x_object (rw e))) (⊎_elim (λ e. sym (has-by x_array (rw e))) (⊎_elim (λ e. sym (has-by x_arrow (rw e))) (λ e. sym (has-by x_fn (rw e))))))
+  has_as e y = has-by (rec_of r) x_as (rw e) ∙ ap type_has_readonly (sym y.is)
 
-  -- what a Tc or a Ts asserts
-  pub asserted_expr : AcceptedAt levels tree at → (mark_at tree at ≡ mark "Tc") ⊎ (mark_at tree at ≡ mark "Ts") → Child levels tree at 0 (body_at tree at) expression
-  asserted_expr a = ⊎_elim (λ e. tc_expr levels tree at a e) (λ e. ts_expr levels tree at a e)
-
-  pub has_first : {p : ℕ} → (mark_at tree at ≡ mark "Tc") ⊎ (mark_at tree at ≡ mark "Ts") → Child levels tree at 0 p expression → has_readonly (tree_at (levels - 1) tree p) ≡ has_readonly t
-  unfolding has_readonly_by expr_kind marks member
-  has_first m k = sym (⊎_elim (λ e. has-by x_const (rw e)) (λ e. has-by x_satisfies (rw e)) m ∙ ap has_readonly k.tree)
-
-  pub has-as : {p : ℕ} → mark_at tree at ≡ mark "As" → Child levels tree at 1 p type → type_has_readonly (tree_at (levels - 1) tree p) ≡ has_readonly t
-  unfolding has_readonly_by expr_kind marks member
-  has-as e k = sym (has-by x_as (rw e) ∙ ap type_has_readonly k.tree)
-
-  pub has-none : ((mark_at tree at ≡ mark "Ca") ⊎ ((mark_at tree at ≡ mark "Ob") ⊎ ((mark_at tree at ≡ mark "Ar") ⊎ ((mark_at tree at ≡ mark "Aw") ⊎ (mark_at tree at ≡ mark "Fx")))) → ⊥)
-      → ((mark_at tree at ≡ mark "Tc") ⊎ (mark_at tree at ≡ mark "Ts") → ⊥) → (mark_at tree at ≡ mark "As" → ⊥) → false ≡ has_readonly t
-  has-none a b c =
-      sym (has_eta t ∙ leaf-by (expr_kind (mark_of t)) (kids_of t) _ (is_leaf_lem tree levels at (λ e. a (inr (inr (inl e)))) (λ e. a (inr (inl e))) (λ e. b (inl e)) (λ e. b (inr e)) c (λ e. a (inr (inr (inr (inr e))))) (λ e. a (inr (inr (inr (inl e))))) (λ e. a (inl e))))
+  pub has_none : is_leaf (expr_kind (mark_of (rec_of r))) ≡ true → has_readonly (rec_of r) ≡ false
+  has_none e = has_eta (rec_of r) ∙ leaf-by (expr_kind (mark_of (rec_of r))) (kids_of (rec_of r)) _ e

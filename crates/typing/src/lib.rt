@@ -19,6 +19,7 @@ use records::marks::{
     AG, AR, AS, AW, BD, CA, D1, D2, D3, D4, FT, FX, ID, KV, LI, NO, OB, OP, PA, PB, PE, PO, RS, SH,
     SP, TC, TS, TU,
 };
+use records::tree::Record;
 use records::{DUMMY_SP, HEAD_SIZE, Range};
 
 mod leaves;
@@ -565,7 +566,12 @@ fn call_type(
     let Typed::Some(next) = inner_type else {
         return inner_type;
     };
-    if !has_readonly(tree, arg, levels - 1) {
+    let inner = Record {
+        tree,
+        at: arg,
+        levels: levels - 1,
+    };
+    if !has_readonly(inner) {
         return Typed::None(back(s, next));
     }
     Typed::Some(next)

@@ -5,10 +5,12 @@ use mathlib.Core.Path.{◌≡◌, sym, ◌∙◌, refl, ap}
 use native.Mathlib.Omega.{arith}
 use borrow.Author.Tests.{not-true, not-false}
 use Rattle.definition.specs.Helpers.{ts_readonly}
+use Rattle.records.specs.Views.{rec_of}
 use Rattle.typing.proofs.Steps.{did-as, did_at, is_some, is_none, step-put, wrap-some, wrap-none, did_none, step-none, kept-none, kept-some, kept_back, did-put}
 use Rattle.definition.specs.Record.{dummy_sp}
 use Rattle.typing.proofs.Arrays.{readonly_front, element-op, element_hole, element_expr, all-op, all_hole, all_expr, rest-ident, rest-array, rest-other, element_spread, all-spread, all_fail}
 use Rattle.typing.proofs.ExprArms.{array_plain, array_readonly, type_other_call, freeze_ready, freeze-is, type-const, type-satisfies, type-as, type-fn, type-arrow}
+use Rattle.definition.proofs.Anywhere.{is_accepted}
 use Rattle.definition.proofs.Children.{some_left, itself}
 use Rattle.swc_helpers.proofs.Answers.{is-nothing, is_found}
 use Rattle.typing.specs.Did.{type_of, ids_of}
@@ -78,16 +80,18 @@ call_type-expr_to_ts_type-inner_type-requires t c = (omega (arith, c.decreases, 
 pub call_type-returns-in_default-inner_type : goal.call_type-returns-in_default-inner_type
 call_type-returns-in_default-inner_type t c = did-as (kept-none _ c.expr_to_ts_type-inner_type.ensures c.in_default-inner_type.is) (freeze-is c.args.tree.now c.args.mode c.args.levels c.args.at c.args.s.counter c.requires.0.accepted c.requires.1 (is_found _ _ _ (sym c.in-Some.is ∙ c.object_freeze_call_arg-found.ensures)))
 
-pub call_type-overflow_sub-levels-2 : goal.call_type-overflow_sub-levels-2
-call_type-overflow_sub-levels-2 t c = omega (arith, some_left _ _ _ c.requires.0.accepted)
+pub call_type-overflow_sub-inner : goal.call_type-overflow_sub-inner
+call_type-overflow_sub-inner t c = omega (arith, some_left _ _ _ c.requires.0.accepted)
 
-pub call_type-has_readonly-requires : goal.call_type-has_readonly-requires
-call_type-has_readonly-requires t c = (freeze_ready c.args.tree.now c.args.mode c.args.levels c.args.at c.args.s.counter c.requires.0 c.requires.1 (is_found _ _ _ (sym c.in-Some.is ∙ c.object_freeze_call_arg-found.ensures))).accepted
+pub call_type-invariant_of-inner : goal.call_type-invariant_of-inner
+call_type-invariant_of-inner t c = record { accepted = is_accepted (freeze_ready c.args.tree.now c.args.mode c.args.levels c.args.at c.args.s.counter c.requires.0 c.requires.1 (is_found _ _ _ (sym c.in-Some.is ∙ c.object_freeze_call_arg-found.ensures))).accepted }
 
 pub call_type-returns-then-not-has_readonly : goal.call_type-returns-then-not-has_readonly
+unfolding rec_of
 call_type-returns-then-not-has_readonly t c = did-as (did_at c.back.ensures (kept_back _ c.expr_to_ts_type-inner_type.ensures (sym c.has_readonly.ensures ∙ c.if-not-has_readonly.true) (omega (arith, c.well_formed)) c.in-Some-inner_type.is)) (freeze-is c.args.tree.now c.args.mode c.args.levels c.args.at c.args.s.counter c.requires.0.accepted c.requires.1 (is_found _ _ _ (sym c.in-Some.is ∙ c.object_freeze_call_arg-found.ensures)))
 
 pub call_type-returns : goal.call_type-returns
+unfolding rec_of
 call_type-returns t c = did-as (kept-some _ c.expr_to_ts_type-inner_type.ensures (sym c.has_readonly.ensures ∙ c.if-not-has_readonly.false) c.in-Some-inner_type.is) (freeze-is c.args.tree.now c.args.mode c.args.levels c.args.at c.args.s.counter c.requires.0.accepted c.requires.1 (is_found _ _ _ (sym c.in-Some.is ∙ c.object_freeze_call_arg-found.ensures)))
 
 pub element_type-mark_at-requires : goal.element_type-mark_at-requires

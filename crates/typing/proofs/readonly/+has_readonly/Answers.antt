@@ -1,42 +1,39 @@
 -- `readonly::has_readonly` meets its contract, and the levels fall.
-use mathlib.Core.Path.{sym, ◌∙◌}
-use native.Mathlib.Omega.{arith}
-use Rattle.definition.proofs.Children.{itself, some_left}
-use Rattle.definition.proofs.Kids.{placed}
-use Rattle.typing.proofs.Ready.{second_at}
-use Rattle.typing.proofs.Slots.{as-type}
-use Rattle.typing.proofs.HasReadonly.{asserted_expr, has-made, has_first, has-as, has-none}
+use Rattle.std.proofs.Common.{sym, ◌∙◌, arith}
+use Rattle.records.specs.declared.marks.Mark.TheVariants.{Ar, Ob, Fx, Aw, Ca, Tc, Ts, As}
+use Rattle.records.proofs.Records.{from_children, from_rest, child_is}
+use Rattle.records.proofs.SameMarks.{marked, not_marked}
+use Rattle.typing.proofs.LeafArms.{leaf_but}
+use Rattle.typing.proofs.HasReadonly.{has_made, asserted, has_first, typed, has_as, has_none}
 use Rattle.typing.proofs.readonly.+has_readonly.Goals as goal
 
-pub mark_at-requires : goal.mark_at-requires
-mark_at-requires t c = (itself _ _ _ c.requires).room
+pub first-requires : goal.first-requires
+first-requires t c = omega (arith, c.children.ensures.many, asserted c.args.expr c.mark.ensures c.in-Tc.is)
 
-pub body_at-expr-requires : goal.body_at-expr-requires
-body_at-expr-requires t c = (itself _ _ _ c.requires).room
+pub rest-requires : goal.rest-requires
+rest-requires t c = omega (arith, c.children-in-As.ensures.many, typed c.args.expr (marked _ c.mark.ensures c.in-As.is))
 
-pub overflow_sub-levels : goal.overflow_sub-levels
-overflow_sub-levels t c = omega (arith, some_left _ _ _ c.requires)
+pub first-requires-in-As : goal.first-requires-in-As
+first-requires-in-As t c = omega (arith, c.children-in-As.ensures.many, c.rest.ensures.many, typed c.args.expr (marked _ c.mark.ensures c.in-As.is))
 
-pub has_readonly-requires : goal.has_readonly-requires
-has_readonly-requires t c = (omega (arith, c.decreases, some_left _ _ _ c.requires), (placed (asserted_expr _ _ _ c.requires (rw c.mark_at.ensures.0 at c.in-25428.is)) c.body_at-expr.ensures).accepted)
+pub returns-in-Ar : goal.returns-in-Ar
+returns-in-Ar t c = sym (has_made c.args.expr c.mark.ensures c.in-Ar.is)
 
-pub child_at-type_ann-requires : goal.child_at-type_ann-requires
-child_at-type_ann-requires t c = (c.requires, omega (arith, (as-type _ _ _ c.requires (sym c.mark_at.ensures.0 ∙ c.in-29505.is)).there))
+pub returns-in-Tc : goal.returns-in-Tc
+returns-in-Tc t c =
+    let x = child_is (from_children c.children.ensures) (omega (arith, c.children.ensures.many, asserted c.args.expr c.mark.ensures c.in-Tc.is)) c.first.ensures in
+    c.has_readonly.ensures ∙ sym (has_first c.args.expr c.mark.ensures c.in-Tc.is x)
 
-pub overflow_sub-levels-in-29505 : goal.overflow_sub-levels-in-29505
-overflow_sub-levels-in-29505 t c = omega (arith, some_left _ _ _ c.requires)
-
-pub type_has_readonly-requires : goal.type_has_readonly-requires
-type_has_readonly-requires t c = (placed (as-type _ _ _ c.requires (sym c.mark_at.ensures.0 ∙ c.in-29505.is)) (second_at _ _ _ c.child_at-type_ann.ensures)).accepted
-
-pub returns-in-29249 : goal.returns-in-29249
-returns-in-29249 t c = has-made _ _ _ (rw c.mark_at.ensures.0 at c.in-29249.is)
-
-pub returns-in-25428 : goal.returns-in-25428
-returns-in-25428 t c = c.has_readonly.ensures ∙ has_first _ _ _ (rw c.mark_at.ensures.0 at c.in-25428.is) (placed (asserted_expr _ _ _ c.requires (rw c.mark_at.ensures.0 at c.in-25428.is)) c.body_at-expr.ensures)
-
-pub returns-in-29505 : goal.returns-in-29505
-returns-in-29505 t c = c.type_has_readonly.ensures ∙ has-as _ _ _ (sym c.mark_at.ensures.0 ∙ c.in-29505.is) (placed (as-type _ _ _ c.requires (sym c.mark_at.ensures.0 ∙ c.in-29505.is)) (second_at _ _ _ c.child_at-type_ann.ensures))
+pub returns-in-As : goal.returns-in-As
+returns-in-As t c =
+    let e = marked _ c.mark.ensures c.in-As.is in
+    let n = typed c.args.expr e in
+    let g = from_rest (from_children c.children-in-As.ensures) (omega (arith, c.children-in-As.ensures.many, n)) c.rest.ensures in
+    let y = child_is g (omega (arith, c.children-in-As.ensures.many, c.rest.ensures.many, n)) c.first-in-As.ensures in
+    c.type_has_readonly.ensures ∙ sym (has_as c.args.expr e y)
 
 pub returns-in_default : goal.returns-in_default
-returns-in_default t c = has-none _ _ _ (rw c.mark_at.ensures.0 at c.in_default.in_default-own.rest.0.0.1) (rw c.mark_at.ensures.0 at c.in_default.in_default-own.rest.0.1) (rw c.mark_at.ensures.0 at c.in_default.in_default-own.rest.1)
+returns-in_default t c =
+    let m = c.mark.ensures in
+    sym (has_none c.args.expr
+    (leaf_but _ (not_marked _ m Ar c.in_default.not-Ar) (not_marked _ m Ob c.in_default.not-Ob) (not_marked _ m Tc c.in_default.not-Tc) (not_marked _ m Ts c.in_default.not-Ts) (not_marked _ m As c.in_default.not-As) (not_marked _ m Fx c.in_default.not-Fx) (not_marked _ m Aw c.in_default.not-Aw) (not_marked _ m Ca c.in_default.not-Ca)))

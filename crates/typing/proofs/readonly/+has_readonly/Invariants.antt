@@ -2,4 +2,4 @@
 use Rattle.typing.proofs.readonly.+has_readonly.Given as goal
 
 abbrev pub decreases-has_readonly : goal.decreases-has_readonly
-decreases-has_readonly l = l.levels
+decreases-has_readonly l = l.expr.levels
