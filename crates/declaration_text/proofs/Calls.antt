@@ -2,7 +2,7 @@
 use mathlib.Core.Path.{◌≡◌, refl, sym, ap, ◌∙◌, subst}
 use mathlib.Core.List.{List, [], ◌∷◌, ◌++◌}
 use mathlib.Core.Bool.{Bool, true, false, cond, ◌||◌}
-use Prim.Native.Nat.{ℕ, ◌+◌, ◌*◌, ◌-◌, ◌<◌, ◌≤◌, ◌^◌}
+use Prim.Native.Nat.{ℕ, ◌*◌, ◌<◌, ◌≤◌, ◌^◌}
 use native.Mathlib.Omega.{arith}
 use lib.Dec.{leb, ltb}
 use mir.Syntax.{w8}
@@ -12,18 +12,22 @@ use lib.Seq.{length-sets, length-take-le}
 use borrow.Author.Tests.{le-leb, lt-leb, lt-ltb, le-ltb}
 use Rattle.std.specs.declared.result.Result.{Result}
 use Rattle.std.specs.declared.result.Result.TheVariants.{Ok, Err}
-use Rattle.definition.specs.Tree.{rec, head_size, count_at, body_at, head_at, tree_at}
+use Rattle.definition.specs.Tree.{Rec, rec, tree_at}
 use Rattle.definition.specs.Check.{fine, refused, longest_tree, deepest, check_tree}
 use Rattle.definition.specs.Check as Check
 use Rattle.definition.specs.Children.{AcceptedAt}
 use Rattle.definition.specs.Transform.{done, over}
 use Rattle.definition.specs.Transform as Transform
-use Rattle.definition.specs.Text.{Token, Line, tokens, any_written, first_line, items_lines, lines_of, lines_bytes, first_outside, nowhere, Written, written_text, text_by, call_text, text_of}
+use Rattle.definition.specs.Text.{Token, Line, tokens, any_written, first_line, items_lines, lines_of, lines_bytes, body_of, first_outside, nowhere, Written, written_text, text_by, call_text, text_of}
 use Rattle.definition.specs.TextNumbers.{numbers_fit}
 use Rattle.definition.proofs.Accepted.{accepted-tree}
 use Rattle.definition.proofs.TextBound.{accepted-text, text-succeeds}
-use Rattle.definition.proofs.Children.{root-accepted, tree_is}
-use Rattle.definition.proofs.Kids.{text-length as own-length}
+use Rattle.definition.specs.Record.{head_of, kids_of}
+use Rattle.definition.proofs.Children.{root-accepted}
+use Rattle.records.specs.declared.tree.Record.{Record}
+use Rattle.records.specs.declared.tree.Records.{Records}
+use Rattle.records.specs.Views.{rec_of, recs_of, ChildrenOf}
+use Rattle.declaration_text.proofs.Parts.{body_here}
 use Rattle.grammar.specs.Answers.{number, checked}
 use Rattle.grammar.specs.declared.Refusal.TheVariants.{OutputFull, NumberOutside}
 use Rattle.grammar.specs.declared.Refused.{Refused}
@@ -32,7 +36,7 @@ use Rattle.records.proofs.Stores.{copy-all, part_sets}
 use Rattle.records.proofs.Whole.{slice_bytes}
 use Rattle.text_tokens.specs.declared.State.{State}
 use Rattle.text_tokens.specs.Writes.{Writes}
-use Rattle.declaration_text.specs.Lines.{WritesLines, lines_seen, records_at}
+use Rattle.declaration_text.specs.Lines.{WritesLines, lines_seen}
 use Rattle.declaration_text.specs.Answers.{start, Accepted, answered, Gives}
 use Rattle.declaration_text.proofs.LinesWritten.{lines_none}
 use Rattle.declaration_text.proofs.Places.{seen-none, seen-place}
@@ -42,17 +46,20 @@ use Rattle.definition.proofs.Converse.{read-accepted}
 -- ---- a module
 
 -- its lines: those of its own Ops, then those of its items
-pub module_lines : (s : List ℕ) → AcceptedAt deepest s 0 → {p n : ℕ} → p ≡ body_at s 0 → n ≡ count_at s 0
-    → first_line (tokens (tree_at deepest s 0) false 0) ++ items_lines (records_at (deepest - 1) s n p) 0 p ≡ lines_of (tree_at deepest s 0)
-unfolding lines_of head_at
-module_lines s a e f =
-    rw (e, f, tree_is deepest s 0 a)
-    (ap (λ (k : ℕ). first_line (tokens (rec (head_at s 0) (records_at (deepest - 1) s (count_at s 0) (body_at s 0))) false 0) ++ items_lines (records_at (deepest - 1) s (count_at s 0) (body_at s 0)) 0 (0 + head_size + k))
-    (sym (own-length deepest s 0 a)))
+pub module_lines : {r : Record} → r.at ≡ 0 → {k : Records} → ChildrenOf r k → first_line (tokens (rec_of r) false 0) ++ items_lines (recs_of k) 0 k.at ≡ lines_of (rec_of r)
+unfolding lines_of
+module_lines {r} z c = rw (c.are, c.place, ← body_here r) (go (rec_of r) r.at z)
+  where
+    go : (y : Rec) (at : ℕ) → at ≡ 0 → first_line (tokens y false 0) ++ items_lines (kids_of y) 0 (body_of at (head_of y)) ≡ lines_of y
+    go (rec h ks) at e = rw e
 
 -- a run begins where all is empty
 pub started : (s : State) → (s.written ≡ 0) × ((s.last ≡ None) × ((s.some ≡ false) × (s.place ≡ None))) → s ≡ start
 started s h = λ i. record { written = h.0 i; last = h.1.0 i; some = h.1.1.0 i; place = h.1.1.1 i }
+
+-- it stands at the root's offset
+pub first_at : (r : Record) → r.at ≡ 0 → first_line (tokens (rec_of r) false r.at) ≡ first_line (tokens (rec_of r) false 0)
+first_at r e = ap (λ (k : ℕ). first_line (tokens (rec_of r) false k)) e
 
 -- the line of its own Ops, if a dry run from where a run begins has written some
 module _ {a b : List ℕ} {s d : State} {ts : List Token} (e : s ≡ start) (w : Writes a b s d ts) where

@@ -1,4 +1,5 @@
 pub mod Children
+pub mod Parts
 pub mod RowsRead
 pub mod Words
 pub mod Templates

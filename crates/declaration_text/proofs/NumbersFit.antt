@@ -11,7 +11,10 @@ use Rattle.definition.specs.Grammar.{mark}
 use Rattle.definition.specs.Numerals.{bits_of, whole_of}
 use Rattle.definition.specs.TextNumbers.{is_some, number_fits, numbers_fit, all_numbers_fit}
 use Rattle.definition.proofs.Tests.{and-true}
+use Rattle.records.specs.declared.tree.Record.{Record}
 use Rattle.records.specs.Whole.{Each, Whole}
+use Rattle.records.proofs.Accepted.{lies}
+use Rattle.records.proofs.Views.{accepted}
 use Rattle.records.proofs.Whole.{Pending, pending_start, pending_turn}
 
 -- ---- one level more
@@ -96,29 +99,30 @@ turn (suc k) s n c a i h =
     let others : all_numbers_fit (read_all t f n (f c)) ≡ true = subst (λ (x : ℕ). all_numbers_fit (read_all t f n x) ≡ true) ends p.1 in
     rw (itself-fits (head_at s c) (tree_at k s) (end_at k s) m (body_at s c) i, below, others) refl
 
--- n records are pending, the first of them at c: where all their numbers fit, all numbers of the tree fit
-pub record Walks (levels : ℕ) (s : List ℕ) (n c : ℕ) : Type 0 where
-  pub row : Pending levels s n c (end_at levels s 0)
-  pub fit : RowFits levels s n c → numbers_fit (tree_at levels s 0) ≡ true
+-- n records of the one at `at` are pending, the first of them at c: where all their numbers fit, all numbers of the record fit
+pub record Walks (levels : ℕ) (s : List ℕ) (at n c : ℕ) : Type 0 where
+  pub row : Pending levels s n c (end_at levels s at)
+  pub fit : RowFits levels s n c → numbers_fit (tree_at levels s at) ≡ true
 
-pub walks_start : (levels : ℕ) (s : List ℕ) → Whole levels s 0 → Walks levels s 1 0
+pub walks_start : (r : Record) → Walks r.levels r.tree.now r.at 1 r.at
 unfolding read_all all_numbers_fit
-walks_start levels s w = record {
-  row = pending_start levels s 0 w;
-  fit = λ h. (and-true (numbers_fit (tree_at levels s 0)) true h).0;
+walks_start r = record {
+  row = pending_start r.levels r.tree.now r.at (lies (accepted r));
+  fit = λ h. (and-true (numbers_fit (tree_at r.levels r.tree.now r.at)) true h).0;
 }
 
-pub walks_turn : (levels : ℕ) (s : List ℕ) (n c : ℕ) → Walks levels s n c → 0 < n → ItselfFits s c → Walks levels s (n - 1 + count_at s c) (body_at s c)
-walks_turn levels s n c l h i =
-    let one_more : n ≡ suc (n - 1) = omega arith in
-    record {
-      row = pending_turn levels s n c (end_at levels s 0) l.row h;
-      fit = λ g. l.fit (subst (λ (k : ℕ). RowFits levels s k c) (sym one_more)
-          (turn levels s (n - 1) c (subst (λ (k : ℕ). Each (Whole levels s) (end_at levels s) k c) one_more l.row.all) i g));
-    }
+module _ (levels : ℕ) (s : List ℕ) (at n c : ℕ) (l : Walks levels s at n c) where
+  pub walks_turn : 0 < n → ItselfFits s c → Walks levels s at (n - 1 + count_at s c) (body_at s c)
+  walks_turn h i =
+      let one_more : n ≡ suc (n - 1) = omega arith in
+      record {
+        row = pending_turn levels s n c (end_at levels s at) l.row h;
+        fit = λ g. l.fit (subst (λ (k : ℕ). RowFits levels s k c) (sym one_more)
+            (turn levels s (n - 1) c (subst (λ (k : ℕ). Each (Whole levels s) (end_at levels s) k c) one_more l.row.all) i g));
+      }
 
-pub walks_done : (levels : ℕ) (s : List ℕ) (n c : ℕ) → Walks levels s n c → n ≤ 0 → numbers_fit (tree_at levels s 0) ≡ true
-unfolding read_all all_numbers_fit
-walks_done levels s n c l h =
-    let e : n ≡ 0 = omega arith in
-    l.fit (subst (λ (k : ℕ). RowFits levels s k c) (sym e) refl)
+  pub walks_done : n ≤ 0 → numbers_fit (tree_at levels s at) ≡ true
+  unfolding read_all all_numbers_fit
+  walks_done h =
+      let e : n ≡ 0 = omega arith in
+      l.fit (subst (λ (k : ℕ). RowFits levels s k c) (sym e) refl)

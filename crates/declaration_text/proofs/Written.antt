@@ -3,20 +3,26 @@ use mathlib.Core.Path.{◌≡◌, refl, sym, ap, ◌∙◌}
 use mathlib.Core.List.{List, [], ◌∷◌, ◌++◌, append-nil, append_assoc}
 use mathlib.Core.Logic.{⊎_elim}
 use mathlib.Core.Bool.{Bool, true, false, cond, ◌&&◌, ◌||◌}
-use Prim.Native.Nat.{ℕ, zero, suc, ◌+◌, ◌-◌, ◌*◌, ◌<◌, ◌≤◌, ◌^◌}
+use Prim.Native.Nat.{ℕ, ◌+◌, ◌-◌, ◌*◌, ◌<◌, ◌≤◌, ◌^◌}
 use native.Mathlib.Omega.{arith}
 use lib.Dec.{eqb}
 use lib.ListN.{length, get_or, drop}
-use mir.Syntax.{w8}
-use mir.Val
-use Rattle.definition.specs.Tree.{Head, mark_at, count_at, body_at, text_at, head_at, end_of_all, end_at, tree_at}
+use denote.Enum.Declared.{tag_of}
+use Rattle.std.specs.Prelude.{Option, Some, None}
+use Rattle.definition.specs.Tree.{Head, Recs, nil, cons, count}
 use Rattle.definition.specs.Grammar.{mark, marks, member, known, place}
-use Rattle.definition.specs.Children.{AcceptedAt, AllAccepted, child_at}
-use Rattle.definition.specs.Record.{text, is_no}
+use Rattle.definition.specs.Record.{text, is, is_no, head_of, kids_of, mark_of, text_of}
 use Rattle.definition.specs.Numerals.{bits_of, whole_of}
-use Rattle.definition.specs.Text.{Token, token, own, is_written, any_written, last_written, decimal_token, Piece, Child, nth, tokens, text_rows, row_in, row_tokens, holds, more, closed, each_of, number_of, template_of, in_braces, in_turns, quasis, behind_quasis, expressions, what_tokens, piece_tokens, pieces_tokens}
-use Rattle.definition.proofs.Children.{children, first_one, others, itself}
-use Rattle.definition.proofs.Kids.{text-is, is-mark, not-mark, all_others}
+use Rattle.definition.specs.Text.{Token, token, own, is_written, any_written, last_written, decimal_token, Piece, Child, nth, tokens, children, body_of, text_rows, row_in, row_tokens, holds, more, closed, each_of, number_of, template_of, in_braces, in_turns, quasis, behind_quasis, expressions, what_tokens, piece_tokens, pieces_tokens}
+use Rattle.definition.proofs.Children.{itself}
+use Rattle.records.specs.declared.marks.Mark.{Mark}
+use Rattle.records.specs.declared.tree.Record.{Record}
+use Rattle.records.specs.declared.tree.Records.{Records}
+use Rattle.records.specs.contracts.marks.Mark.{the_type}
+use Rattle.records.specs.Marks as Code
+use Rattle.records.specs.Views.{rec_of, ChildrenOf, Step, From, ChildIs}
+use Rattle.records.proofs.SameMarks.{row_is}
+use Rattle.records.proofs.Views.{accepted, mark_here}
 use Rattle.text_tokens.specs.declared.State.{State}
 use Rattle.text_tokens.specs.Writes.{Writes, last_of, cleared_of}
 use Rattle.text_tokens.proofs.Writes.{or_true, writes-none, writes_then, writes_as, writes-same, any_written_append, last-any}
@@ -25,84 +31,87 @@ use Rattle.declaration_text.specs.declared.pieces.Each.{Each}
 use Rattle.declaration_text.specs.declared.pieces.Each.TheVariants.{Ops, Elements, Members}
 use Rattle.declaration_text.specs.declared.pieces.What.{What as NamedWhat}
 use Rattle.declaration_text.specs.declared.pieces.Piece.{Piece as NamedPiece}
-use Rattle.std.specs.Prelude.{Some}
-use Rattle.declaration_text.specs.Steps.{children_at, child_alone, children_of, is_chain, Plain, Name}
-use Rattle.declaration_text.specs.Templates.{texts_of, tokens_of, Quasis, Expressions, quasi_if, braces_if, passed}
-use Rattle.declaration_text.proofs.Children.{children-none, children-first, children-more, kid-none, kid_at, drop-is, drop-none, tokens_are}
+use Rattle.declaration_text.specs.Steps.{part_of, parts_of, is_oc, parts_in, Plain, Name}
+use Rattle.declaration_text.specs.Templates.{texts_of, tokens_of, QuasisAre, ExpressionsAre, quasi_if, braces_if}
+use Rattle.declaration_text.proofs.Parts.{parts_none, parts_more, parts_are, parts_behind, part_is, no_part, parts_nil, parts_past, tokens_are}
 use Rattle.declaration_text.proofs.RowsRead.{row-pieces, row-slots, pieces_none, pieces_end, pieces_more}
 
 -- tokens that are none
 pub writes_nothing : (o : List ℕ) (s : State) → s.written < 2 ^ 64 → {ts : List Token} → ts ≡ [] → Writes o o s s ts
 writes_nothing o s h e = writes_as (writes-none o s h) (sym e)
 
-module _ (levels : ℕ) (s : List ℕ) (at : ℕ) (a : AcceptedAt levels s at) (known : (i : ℕ) → mir.Val.Fits w8 (get_or s i 0)) where
-  -- ---- a child, by its place
+module _ (r : Record) where
+  -- ---- a child, by its number
 
-  pub no_child_lem : (i : ℕ) → count_at s at ≤ i → (nth i (children_of levels s at)).tokens ≡ []
-  no_child_lem i h = ap (λ (c : Child). c.tokens) (kid-none levels s at a known i h)
+  pub no_child_lem : {i : ℕ} → count (kids_of (rec_of r)) ≤ i → (nth i (parts_in r)).tokens ≡ []
+  no_child_lem h = ap (λ (c : Child). c.tokens) (no_part r h)
 
-  pub child-tokens : (i : ℕ) → i < count_at s at → {p : ℕ} → p ≡ child_at levels s at i → {under : Bool} → under ≡ is_chain s at
-      → tokens (tree_at (levels - 1) s p) under p ≡ (nth i (children_of levels s at)).tokens
-  child-tokens i h e f = rw (e, f) (ap (λ (c : Child). c.tokens) (sym (kid_at levels s at a known i h)))
+  pub child-tokens : {i : ℕ} {x : Record} → ChildIs r i x → {under : Bool} → under ≡ is_oc (rec_of r) → tokens (rec_of x) under x.at ≡ (nth i (parts_in r)).tokens
+  child-tokens c f = rw f (ap (λ (c : Child). c.tokens) (sym (part_is c)))
 
   -- ---- the children behind the slots
 
-  pub none-behind : (f : Child → List Child → List Token) (n : ℕ) → count_at s at ≤ n → each_of f (drop n (children_of levels s at)) ≡ []
+  pub none-behind : (f : Child → List Child → List Token) (n : ℕ) → count (kids_of (rec_of r)) ≤ n → each_of f (drop n (parts_in r)) ≡ []
   unfolding each_of
-  none-behind f n h = rw (drop-none (levels - 1) s known (is_chain s at) n (count_at s at) (body_at s at) (children levels s at a) h)
+  none-behind f n h = rw (parts_past (kids_of (rec_of r)) (is_oc (rec_of r)) (body_of r.at (head_of (rec_of r))) n h)
 
-  pub some-behind : (f : Child → List Child → List Token) (n : ℕ) → n ≤ count_at s at → {p : ℕ} → p ≡ child_at levels s at n → {under : Bool} → under ≡ is_chain s at
-      → {m : ℕ} → m ≡ count_at s at - n → each_of f (children_at (levels - 1) s under m p) ≡ each_of f (drop n (children_of levels s at))
-  some-behind f n h e u q =
-      rw (e, u, q) (ap (each_of f) (sym (drop-is (levels - 1) s known (is_chain s at) n (count_at s at) (body_at s at) (children levels s at a) h)))
+  pub some-behind : (f : Child → List Child → List Token) {n : ℕ} {k : Records} → From r n k → {under : Bool} → under ≡ is_oc (rec_of r)
+      → each_of f (parts_of under k) ≡ each_of f (drop n (parts_in r))
+  some-behind f g u = rw u (ap (each_of f) (parts_behind g))
 
   -- ---- a number
 
-  pub number-alone : count_at s at ≤ 0 → {t : List ℕ} → t ≡ text_at s at
-      → decimal_token at (bits_of t) (whole_of (bits_of t)) ∷ [] ≡ number_of at (text_at s at) (children_of levels s at)
+  pub number-alone : count (kids_of (rec_of r)) ≤ 0 → {t : List ℕ} → t ≡ text_of (rec_of r)
+      → decimal_token r.at (bits_of t) (whole_of (bits_of t)) ∷ [] ≡ number_of r.at (text_of (rec_of r)) (parts_in r)
   unfolding number_of
-  number-alone h e = rw (e, children-none (levels - 1) s known (is_chain s at) (count_at s at) (body_at s at) h)
+  number-alone h e = rw (e, parts_nil (kids_of (rec_of r)) (is_oc (rec_of r)) (body_of r.at (head_of (rec_of r))) h)
 
-  pub number-spelt : 0 < count_at s at → (nth 0 (children_of levels s at)).tokens ≡ number_of at (text_at s at) (children_of levels s at)
-  unfolding number_of
-  number-spelt h = rw (children-more (levels - 1) s known (is_chain s at) (count_at s at) (body_at s at) (children levels s at a) h)
+  pub number-spelt : 0 < count (kids_of (rec_of r)) → (nth 0 (parts_in r)).tokens ≡ number_of r.at (text_of (rec_of r)) (parts_in r)
+  unfolding number_of children
+  number-spelt h = go (kids_of (rec_of r)) h
+    where
+      go : (ks : Recs) → 0 < count ks
+          → (nth 0 (children ks (is_oc (rec_of r)) (body_of r.at (head_of (rec_of r))))).tokens
+          ≡ number_of r.at (text_of (rec_of r)) (children ks (is_oc (rec_of r)) (body_of r.at (head_of (rec_of r))))
+      go nil h = absurd (omega arith)
+      go (cons k ks) h = refl
 
 -- ---- one of the children behind the slots, by what is written for each
 
-module _ (levels : ℕ) (s : List ℕ) (under : Bool) (at : ℕ) (cs : List Child) where
-  pub op-written : mark_at s at ≡ mark "Op" → tokens (tree_at levels s at) under at ≡ each_by Ops (child_alone levels s under at) cs
+module _ (x : Record) (under : Bool) (cs : List Child) where
+  pub op-written : is "Op" (rec_of x) ≡ true → tokens (rec_of x) under x.at ≡ each_by Ops (part_of under x) cs
   unfolding each_by
-  op-written m = rw (is-mark levels s at (mark "Op") m)
+  op-written m = rw m
 
-  pub no_op : (mark_at s at ≡ mark "Op" → ⊥) → each_by Ops (child_alone levels s under at) cs ≡ []
+  pub no_op : is "Op" (rec_of x) ≡ false → each_by Ops (part_of under x) cs ≡ []
   unfolding each_by
-  no_op m = rw (not-mark levels s at (mark "Op") m)
+  no_op m = rw m
 
-  pub no_element : mark_at s at ≡ mark "Op" → each_by Elements (child_alone levels s under at) cs ≡ []
+  pub no_element : is "Op" (rec_of x) ≡ true → each_by Elements (part_of under x) cs ≡ []
   unfolding each_by
-  no_element m = rw (is-mark levels s at (mark "Op") m)
+  no_element m = rw m
 
-  module _ (m : mark_at s at ≡ mark "Op" → ⊥) {b : Bool} (f : b ≡ (more cs || is_no (tree_at levels s at))) where
-    pub element-comma : b ≡ true → tokens (tree_at levels s at) under at ++ (token (text ",") ∷ []) ≡ each_by Elements (child_alone levels s under at) cs
+  module _ (m : is "Op" (rec_of x) ≡ false) {b : Bool} (f : b ≡ (more cs || is_no (rec_of x))) where
+    pub element-comma : b ≡ true → tokens (rec_of x) under x.at ++ (token (text ",") ∷ []) ≡ each_by Elements (part_of under x) cs
     unfolding each_by
-    element-comma t = rw (not-mark levels s at (mark "Op") m, ← f, t)
+    element-comma t = rw (m, ← f, t)
 
-    pub element-last : b ≡ false → tokens (tree_at levels s at) under at ≡ each_by Elements (child_alone levels s under at) cs
+    pub element-last : b ≡ false → tokens (rec_of x) under x.at ≡ each_by Elements (part_of under x) cs
     unfolding each_by
-    element-last t = rw (not-mark levels s at (mark "Op") m, ← f, t) (sym (append-nil (tokens (tree_at levels s at) under at)))
+    element-last t = rw (m, ← f, t) (sym (append-nil (tokens (rec_of x) under x.at)))
 
-  pub op_no_member : mark_at s at ≡ mark "Op" → each_by Members (child_alone levels s under at) cs ≡ []
+  pub op_no_member : is "Op" (rec_of x) ≡ true → each_by Members (part_of under x) cs ≡ []
   unfolding each_by
-  op_no_member m = rw (is-mark levels s at (mark "Op") m)
+  op_no_member m = rw m
 
-  module _ (m : mark_at s at ≡ mark "Op" → ⊥) where
-    pub no_member : mark_at s at ≡ mark "Dm" → each_by Members (child_alone levels s under at) cs ≡ []
+  module _ (m : is "Op" (rec_of x) ≡ false) where
+    pub no_member : is "Dm" (rec_of x) ≡ true → each_by Members (part_of under x) cs ≡ []
     unfolding each_by
-    no_member d = rw (not-mark levels s at (mark "Op") m, is-mark levels s at (mark "Dm") d)
+    no_member d = rw (m, d)
 
-    pub member-closed : (mark_at s at ≡ mark "Dm" → ⊥) → closed (tokens (tree_at levels s at) under at) ≡ each_by Members (child_alone levels s under at) cs
+    pub member-closed : is "Dm" (rec_of x) ≡ false → closed (tokens (rec_of x) under x.at) ≡ each_by Members (part_of under x) cs
     unfolding each_by
-    member-closed d = rw (not-mark levels s at (mark "Op") m, not-mark levels s at (mark "Dm") d)
+    member-closed d = rw (m, d)
 
 -- ---- tokens from a cleared state
 
@@ -152,41 +161,34 @@ module _ {o o' : List ℕ} (s : State) {r s' : State} {ts : List Token} (e : r �
 
 -- ---- the children behind the slots, one after the other
 
--- `done` was written, and for k more children from c on it is to be written what f gives
-pub record Telling (f : Child → List Child → List Token) (levels : ℕ) (tree : List ℕ) (under : Bool) (total : List Token) (o0 o : List ℕ) (s0 s : State) (k c : ℕ) : Type 0 where
-  pub kids : AllAccepted levels tree k c
+-- `done` was written, and for the records k it is to be written what f gives
+pub record Telling (f : Child → List Child → List Token) (under : Bool) (total : List Token) (o0 o : List ℕ) (s0 s : State) (top : ℕ) (k : Records) : Type 0 where
   pub done : List Token
   pub wrote : Writes o0 o s0 s done
-  pub same : total ≡ done ++ each_of f (children_at levels tree under k c)
+  pub same : total ≡ done ++ each_of f (parts_of under k)
+  pub levels : k.levels ≡ top
 
-pub telling_start : (f : Child → List Child → List Token) (levels : ℕ) (tree : List ℕ) (under : Bool) (n at : ℕ) → AllAccepted levels tree n at
-    → (o : List ℕ) (s : State) → s.written < 2 ^ 64 → Telling f levels tree under (each_of f (children_at levels tree under n at)) o o s s n at
-telling_start f levels tree under n at a o s h = record { kids = a; done = []; wrote = writes-none o s h; same = refl }
+pub telling_start : (f : Child → List Child → List Token) (under : Bool) (k : Records) (o : List ℕ) (s : State) → s.written < 2 ^ 64
+    → Telling f under (each_of f (parts_of under k)) o o s s k.levels k
+telling_start f under k o s h = record { done = []; wrote = writes-none o s h; same = refl; levels = refl }
 
-module _ {f : Child → List Child → List Token} {levels : ℕ} {tree : List ℕ} {under : Bool} {total : List Token} {o0 o : List ℕ} {s0 s : State} {k c : ℕ}
-    (l : Telling f levels tree under total o0 o s0 s k c) where
-  pub telling_first : 0 < k → AcceptedAt levels tree c
-  telling_first h = first_one levels tree k c l.kids h
-
-  pub telling_turn : length o0 < 2 ^ 64 → ((i : ℕ) → mir.Val.Fits w8 (get_or tree i 0)) → 0 < k → {o' : List ℕ} {s' : State}
-      → Writes o o' s s' (f (child_alone levels tree under c) (children_at levels tree under (k - 1) (end_at levels tree c))) → {d : ℕ} → d ≡ end_at levels tree c
-      → Telling f levels tree under total o0 o' s0 s' (k - 1) d
+module _ {f : Child → List Child → List Token} {under : Bool} {total : List Token} {o0 o : List ℕ} {s0 s : State} {top : ℕ} {k : Records}
+    (l : Telling f under total o0 o s0 s top k) where
+  pub telling_turn : length o0 < 2 ^ 64 → {x : Record} {rest : Records} → Step k (Some x) rest → {o' : List ℕ} {s' : State}
+      → Writes o o' s s' (f (part_of under x) (parts_of under rest)) → Telling f under total o0 o' s0 s' top rest
   unfolding each_of
-  telling_turn b known h w e =
-      rw e (record {
-        kids = others levels tree k c l.kids h;
-        done = l.done ++ f (child_alone levels tree under c) (children_at levels tree under (k - 1) (end_at levels tree c));
-        wrote = writes_then b l.wrote w;
-        same =
-            l.same ∙ ap (λ (cs : List Child). l.done ++ each_of f cs) (children-more levels tree known under k c l.kids h)
-            ∙ sym (append_assoc l.done (f (child_alone levels tree under c) (children_at levels tree under (k - 1) (end_at levels tree c))) (each_of f (children_at levels tree under (k - 1) (end_at levels tree c))));
-      })
+  telling_turn b {x} {rest} t w = record {
+    done = l.done ++ f (part_of under x) (parts_of under rest);
+    wrote = writes_then b l.wrote w;
+    same =
+        l.same ∙ ap (λ (cs : List Child). l.done ++ each_of f cs) (parts_more t.0 t.1 t.2 under)
+        ∙ sym (append_assoc l.done (f (part_of under x) (parts_of under rest)) (each_of f (parts_of under rest)));
+    levels = t.2.levels ∙ l.levels;
+  }
 
-  pub telling_done : ((i : ℕ) → mir.Val.Fits w8 (get_or tree i 0)) → k ≤ 0 → Writes o0 o s0 s total
+  pub telling_done : {rest : Records} → Step k None rest → Writes o0 o s0 s total
   unfolding each_of
-  telling_done known h =
-      writes_as l.wrote
-      (sym (l.same ∙ ap (λ (cs : List Child). l.done ++ each_of f cs) (children-none levels tree known under k c h) ∙ append-nil l.done))
+  telling_done t = writes_as l.wrote (sym (l.same ∙ ap (λ (cs : List Child). l.done ++ each_of f cs) (parts_none k under t.0) ∙ append-nil l.done))
 
 -- ---- the pieces of a row, one after the other
 
@@ -196,19 +198,20 @@ pub record Reading (row : ℕ) (under : Bool) (at : ℕ) (h : Head) (cs : List C
   pub wrote : Writes o0 o s0 s done
   pub same : total ≡ done ++ pieces_tokens (pieces_in (8 - k) (row_at row) (k * 5 + 1)) under (cell row 0) at h cs
 
--- the row of the record at `at`
-pub reading-start : (levels : ℕ) (s : List ℕ) (at : ℕ) (under : Bool) (a : AcceptedAt levels s at) → {m row : ℕ} → m ≡ mark_at s at → row ≡ place known m
+-- the row of a record, by its mark in the code
+pub reading-start : (r : Record) (under : Bool) (m : Mark) {row : ℕ} → Code.number_of m ≡ mark_of (rec_of r) → row ≡ tag_of the_type m
     → (o : List ℕ) (st : State) → st.written < 2 ^ 64
-    → Reading row under at (head_at s at) (children_of levels s at) (tokens (tree_at levels s at) under at) o o st st 0
-reading-start levels s at under a e f o st h =
-    let k : place known (mark_at s at) < length known = (itself levels s at a).known in
-    rw (f, e) (record {
+    → Reading row under r.at (head_of (rec_of r)) (parts_in r) (tokens (rec_of r) under r.at) o o st st 0
+reading-start r under m {row} e f o st h =
+    let g : row ≡ place known (mark_of (rec_of r)) = f ∙ row_is m ∙ ap (place known) e in
+    let k : place known (mark_of (rec_of r)) < length known = rw (mark_here r) at (itself r.levels r.tree.now r.at (accepted r)).known in
+    rw g (record {
       done = [];
       wrote = writes-none o st h;
       same =
-          tokens_are levels s at under a
-          ∙ ap (λ (n : ℕ). pieces_tokens (row_in text_rows (mark_at s at)).pieces under n at (head_at s at) (children_of levels s at)) (sym (row-slots (mark_at s at) k))
-          ∙ ap (λ (ps : List Piece). pieces_tokens ps under (cell (place known (mark_at s at)) 0) at (head_at s at) (children_of levels s at)) (sym (row-pieces (mark_at s at) k));
+          tokens_are r under
+          ∙ ap (λ (n : ℕ). pieces_tokens (row_in text_rows (mark_of (rec_of r))).pieces under n r.at (head_of (rec_of r)) (parts_in r)) (sym (row-slots (mark_of (rec_of r)) k))
+          ∙ ap (λ (ps : List Piece). pieces_tokens ps under (cell (place known (mark_of (rec_of r))) 0) r.at (head_of (rec_of r)) (parts_in r)) (sym (row-pieces (mark_of (rec_of r)) k));
     })
 
 module _ {row : ℕ} {under : Bool} {at : ℕ} {h : Head} {cs : List Child} {total : List Token} {o0 o : List ℕ} {s0 s : State} {k : ℕ}
@@ -277,69 +280,47 @@ module _ {o o1 o2 o3 : List ℕ} {s s1 r s2 s3 : State} {ts : List Token} (h : l
   unfolding in_braces
   braced-none t w = writes_as (braced refl w) (rw (← some_is s1 e v, t))
 
-pub braces_none : (n : ℕ) (ts : List Token) → n ≡ 0 → braces_if n ts ≡ []
-braces_none n ts e = rw e
-
-pub braces_some : (n : ℕ) (ts : List Token) → (n ≡ 0 → ⊥) → in_braces ts ≡ braces_if n ts
-braces_some zero ts e = absurd (e refl)
-braces_some (suc n) ts e = refl
-
 -- ---- a template
 
--- one turn: a quasi, if one is left, an expression, if one is left, and the turns behind them
-module _ (levels : ℕ) (tree : List ℕ) (known : (i : ℕ) → mir.Val.Fits w8 (get_or tree i 0)) (under : Bool) where
-  abbrev texts : ℕ → ℕ → List (List ℕ)
-  texts n at = texts_of (children_at levels tree under n at)
+-- one step over its quasis, and over its expressions: none is left, or one and those behind it
+texts-none : (k : Records) (under : Bool) → k.count ≡ 0 → texts_of (parts_of under k) ≡ []
+texts-none k under h = ap texts_of (parts_none k under h)
 
-  abbrev tokens-from : ℕ → ℕ → List (List Token)
-  tokens-from n at = tokens_of (children_at levels tree under n at)
+tokens_none : (k : Records) (under : Bool) → k.count ≡ 0 → tokens_of (parts_of under k) ≡ []
+tokens_none k under h = ap tokens_of (parts_none k under h)
 
-  texts-first : (n at : ℕ) → AcceptedAt levels tree at → texts (suc n) at ≡ text_at tree at ∷ texts n (end_at levels tree at)
-  texts-first n at a =
-      ap texts_of (children-first levels tree known under (suc n) at a (omega arith))
-      ∙ (let z : suc n - 1 ≡ n = omega arith in rw (text-is levels tree at, z))
-
-  tokens-first : (n at : ℕ) → AcceptedAt levels tree at → tokens-from (suc n) at ≡ tokens (tree_at levels tree at) under at ∷ tokens-from n (end_at levels tree at)
-  tokens-first n at a =
-      ap tokens_of (children-first levels tree known under (suc n) at a (omega arith))
-      ∙ (let z : suc n - 1 ≡ n = omega arith in rw z)
-
-  texts-none : (at : ℕ) → texts 0 at ≡ []
-  texts-none at = ap texts_of (children-none levels tree known under 0 at (omega arith))
-
-  tokens_none : (at : ℕ) → tokens-from 0 at ≡ []
-  tokens_none at = ap tokens_of (children-none levels tree known under 0 at (omega arith))
-
-  pub one-turn : (q p e x : ℕ) → (0 < q → AcceptedAt levels tree p) → (0 < e → AcceptedAt levels tree x)
-      → in_turns (texts q p) (tokens-from e x)
-      ≡ quasi_if q (text_at tree p) ++ (braces_if e (tokens (tree_at levels tree x) under x)
-      ++ in_turns (texts (q - 1) (passed levels tree q p)) (tokens-from (e - 1) (passed levels tree e x)))
+module _ (under : Bool) (q e q' e' : Records) where
+  one-turn : (fq fe : Option Record) → Step q fq q' → Step e fe e'
+      → in_turns (texts_of (parts_of under q)) (tokens_of (parts_of under e))
+      ≡ quasi_if fq ++ (braces_if under fe ++ in_turns (texts_of (parts_of under q')) (tokens_of (parts_of under e')))
   unfolding in_turns
-  one-turn zero p zero x a b = rw (texts-none p, tokens_none x)
-  one-turn zero p (suc e) x a b =
-      let z : suc e - 1 ≡ e = omega arith in
-      rw (texts-none p, tokens-first e x (b (omega arith)), z)
-  one-turn (suc q) p zero x a b =
-      let z : suc q - 1 ≡ q = omega arith in
-      rw (texts-first q p (a (omega arith)), tokens_none x, z)
-  one-turn (suc q) p (suc e) x a b =
-      let z : suc q - 1 ≡ q = omega arith in
-      let y : suc e - 1 ≡ e = omega arith in
-      rw (texts-first q p (a (omega arith)), tokens-first e x (b (omega arith)), z, y)
+  one-turn None None a b = rw (a.1, b.1, texts-none q under a.0, tokens_none e under b.0)
+  one-turn None (Some y) a b = rw (a.1, texts-none q under a.0, ap tokens_of (parts_more b.0 b.1 b.2 under))
+  one-turn (Some x) None a b = rw (b.1, ap texts_of (parts_more a.0 a.1 a.2 under), tokens_none e under b.0)
+  one-turn (Some x) (Some y) a b = rw (ap texts_of (parts_more a.0 a.1 a.2 under), ap tokens_of (parts_more b.0 b.1 b.2 under))
 
--- `done` was written, and q quasis from p on and e expressions from x on are left, for no more than n turns
-pub record Turning (levels : ℕ) (tree : List ℕ) (under : Bool) (total : List Token) (o0 o : List ℕ) (s0 s : State) (q p e x n : ℕ) : Type 0 where
-  pub more_quasis : ℕ
-  pub quasis_left : AllAccepted levels tree more_quasis p
-  pub few_quasis : q ≤ more_quasis
-  pub more_expressions : ℕ
-  pub expressions_left : AllAccepted levels tree more_expressions x
-  pub few_expressions : e ≤ more_expressions
-  pub quasis_turns : q ≤ n
-  pub expressions_turns : e ≤ n
+-- the levels of an expression, if there is one
+abbrev pub levels_of : Option Record → ℕ
+levels_of None = 0
+levels_of (Some e) = e.levels
+
+-- how many are left behind a step
+step_count : (k : Records) (f : Option Record) (l : Records) → Step k f l → l.count ≡ k.count - 1
+step_count k None l t = rw t.1 (omega (arith, t.0))
+step_count k (Some x) l t = t.2.many
+
+step_levels : (k : Records) (f : Option Record) (l : Records) → Step k f l → l.levels ≡ k.levels
+step_levels k None l t = rw t.1
+step_levels k (Some x) l t = t.2.levels
+
+-- `done` was written, and the quasis q and the expressions e are left, for no more than n turns
+pub record Turning (under : Bool) (total : List Token) (o0 o : List ℕ) (s0 s : State) (top : ℕ) (q e : Records) (n : ℕ) : Type 0 where
+  pub quasis_turns : q.count ≤ n
+  pub expressions_turns : e.count ≤ n
+  pub levels : e.levels ≡ top
   pub done : List Token
   pub wrote : Writes o0 o s0 s done
-  pub same : total ≡ done ++ (in_turns (texts_of (children_at levels tree under q p)) (tokens_of (children_at levels tree under e x)) ++ (own (96 ∷ []) ∷ []))
+  pub same : total ≡ done ++ (in_turns (texts_of (parts_of under q)) (tokens_of (parts_of under e)) ++ (own (96 ∷ []) ∷ []))
 
 -- what stands between the two backticks of a template, and the second
 abbrev pub turns_of : List Child → List Token
@@ -349,106 +330,66 @@ pub template-is : (cs : List Child) → (token (96 ∷ []) ∷ []) ++ turns_of c
 unfolding template_of
 template-is cs = refl
 
-pub turning_start : (levels : ℕ) (tree : List ℕ) (under : Bool) (n at : ℕ) → AllAccepted levels tree n at → {q x e m : ℕ}
-    → Quasis levels tree n at q → x ≡ end_of_all (end_at levels tree) q at → Expressions levels tree (n - q) x e → (q ≤ m) × (e ≤ m)
-    → (o : List ℕ) (s : State) → s.written < 2 ^ 64 → Turning levels tree under (turns_of (children_at levels tree under n at)) o o s s q at e x m
-turning_start levels tree under n at a {q} {x} {e} {m} f z g b o s w =
-    record {
-      more_quasis = n;
-      quasis_left = a;
-      few_quasis = f.few;
-      more_expressions = n - q;
-      expressions_left = rw z (all_others levels tree n at a q f.few);
-      few_expressions = g.few;
-      quasis_turns = b.0;
-      expressions_turns = b.1;
-      done = [];
-      wrote = writes-none o s w;
-      same =
-          ap (λ (ts : List Token). ts ++ (own (96 ∷ []) ∷ []))
-          (ap (λ (qs : List (List ℕ)). in_turns qs (expressions (behind_quasis (children_at levels tree under n at)))) (f.texts under)
-          ∙ ap (λ (cs : List Child). in_turns (texts_of (children_at levels tree under q at)) (expressions cs)) (f.behind under ∙ ap (λ (y : ℕ). children_at levels tree under (n - q) y) (sym z))
-          ∙ ap (in_turns (texts_of (children_at levels tree under q at))) (g.tokens under));
-    }
+pub turning_start : (under : Bool) {k q rest e : Records} → QuasisAre k q rest → ExpressionsAre rest e → {n : ℕ} → (q.count ≤ n) × (e.count ≤ n)
+    → (o : List ℕ) (s : State) → s.written < 2 ^ 64 → Turning under (turns_of (parts_of under k)) o o s s k.levels q e n
+turning_start under {k} {q} {rest} {e} a b h o s w = record {
+  quasis_turns = h.0;
+  expressions_turns = h.1;
+  levels = b.levels ∙ a.rest_levels;
+  done = [];
+  wrote = writes-none o s w;
+  same = rw (a.texts under, a.behind under, b.tokens under);
+}
 
--- the records that are left behind the first of n, if there is one
-passed-left : (levels : ℕ) (tree : List ℕ) (n m p : ℕ) → AllAccepted levels tree m p → n ≤ m → (k : ℕ) × AllAccepted levels tree k (passed levels tree n p) × (n - 1 ≤ k)
-passed-left levels tree zero m p a h = (m, a, omega arith)
-passed-left levels tree (suc n) m p a h = (m - 1, others levels tree m p a (omega arith), omega arith)
-
-module _ {levels : ℕ} {tree : List ℕ} {under : Bool} {total : List Token} {o0 o : List ℕ} {s0 s : State} {q p e x n : ℕ}
-    (l : Turning levels tree under total o0 o s0 s q p e x n) where
-  pub turning_quasi : 0 < q → AcceptedAt levels tree p
-  turning_quasi h = first_one levels tree l.more_quasis p l.quasis_left (let f = l.few_quasis in omega arith)
-
-  pub turning_expression : 0 < e → AcceptedAt levels tree x
-  turning_expression h = first_one levels tree l.more_expressions x l.expressions_left (let f = l.few_expressions in omega arith)
-
-  pub turning_turn : ((i : ℕ) → mir.Val.Fits w8 (get_or tree i 0)) → length o0 < 2 ^ 64 → {n' : ℕ} → n ≤ n' + 1 → {o1 o2 : List ℕ} {s1 s2 : State}
-      → Writes o o1 s s1 (quasi_if q (text_at tree p)) → Writes o1 o2 s1 s2 (braces_if e (tokens (tree_at levels tree x) under x))
-      → {p' q' x' e' : ℕ} → p' ≡ passed levels tree q p → q' ≡ q - 1 → x' ≡ passed levels tree e x → e' ≡ e - 1
-      → Turning levels tree under total o0 o2 s0 s2 q' p' e' x' n'
-  turning_turn known b h {o1} {o2} {s1} {s2} v w ep eq ex ee =
-      let one = passed-left levels tree q l.more_quasis p l.quasis_left l.few_quasis in
-      let two = passed-left levels tree e l.more_expressions x l.expressions_left l.few_expressions in
-      let f = l.quasis_turns in
-      let g = l.expressions_turns in
-      let A : List Token = quasi_if q (text_at tree p) in
-      let B : List Token = braces_if e (tokens (tree_at levels tree x) under x) in
-      let C : List Token = in_turns (texts_of (children_at levels tree under (q - 1) (passed levels tree q p))) (tokens_of (children_at levels tree under (e - 1) (passed levels tree e x))) in
-      rw (ep, eq, ex, ee) (record {
-        more_quasis = one.0;
-        quasis_left = one.1;
-        few_quasis = one.2;
-        more_expressions = two.0;
-        expressions_left = two.1;
-        few_expressions = two.2;
-        quasis_turns = omega arith;
-        expressions_turns = omega arith;
+module _ {under : Bool} {total : List Token} {o0 o : List ℕ} {s0 s : State} {top : ℕ} {q e : Records} {n : ℕ} (l : Turning under total o0 o s0 s top q e n) where
+  pub turning_turn : length o0 < 2 ^ 64 → {n' : ℕ} → n ≤ n' + 1 → {q' e' : Records} (fq fe : Option Record) → Step q fq q' → Step e fe e' → {o1 o2 : List ℕ} {s1 s2 : State}
+      → Writes o o1 s s1 (quasi_if fq) → Writes o1 o2 s1 s2 (braces_if under fe) → Turning under total o0 o2 s0 s2 top q' e' n'
+  turning_turn b {n'} h {q'} {e'} fq fe a c v w =
+      let C : List Token = in_turns (texts_of (parts_of under q')) (tokens_of (parts_of under e')) in
+      let A : List Token = quasi_if fq in
+      let B : List Token = braces_if under fe in
+      record {
+        quasis_turns = omega (arith, l.quasis_turns, h, step_count q fq q' a);
+        expressions_turns = omega (arith, l.expressions_turns, h, step_count e fe e' c);
+        levels = step_levels e fe e' c ∙ l.levels;
         done = l.done ++ (A ++ B);
         wrote = writes_then b l.wrote (writes_then (let z = writes-same l.wrote in omega arith) v w);
         same =
             l.same
-            ∙ ap (λ (ts : List Token). l.done ++ (ts ++ (own (96 ∷ []) ∷ []))) (one-turn levels tree known under q p e x turning_quasi turning_expression ∙ sym (append_assoc A B C))
+            ∙ ap (λ (ts : List Token). l.done ++ (ts ++ (own (96 ∷ []) ∷ []))) (one-turn under q e q' e' fq fe a c ∙ sym (append_assoc A B C))
             ∙ ap (λ (ts : List Token). l.done ++ ts) (append_assoc (A ++ B) C (own (96 ∷ []) ∷ []))
             ∙ sym (append_assoc l.done (A ++ B) (C ++ (own (96 ∷ []) ∷ [])));
-      })
+      }
 
-  pub turning_done : ((i : ℕ) → mir.Val.Fits w8 (get_or tree i 0)) → length o0 < 2 ^ 64 → n ≤ 0 → {o' : List ℕ} {s' : State} → Writes o o' s s' (own (96 ∷ []) ∷ [])
-      → Writes o0 o' s0 s' total
+  pub turning_done : length o0 < 2 ^ 64 → n ≤ 0 → {o' : List ℕ} {s' : State} → Writes o o' s s' (own (96 ∷ []) ∷ []) → Writes o0 o' s0 s' total
   unfolding in_turns
-  turning_done known b h w =
-      let f : q ≡ 0 = let g = l.quasis_turns in omega arith in
-      let g : e ≡ 0 = let f = l.expressions_turns in omega arith in
+  turning_done b h w =
       writes_as (writes_then b l.wrote w)
-      (sym (l.same ∙ rw (f, g, texts-none levels tree known under p, tokens_none levels tree known under x)))
+      (sym (l.same ∙ rw (texts-none q under (omega (arith, l.quasis_turns, h)), tokens_none e under (omega (arith, l.expressions_turns, h)))))
 
 -- a template of all children of a record
-pub template_of_lem : (levels : ℕ) (s : List ℕ) (at : ℕ) → {under : Bool} → under ≡ is_chain s at → {n : ℕ} → n ≡ count_at s at → {p : ℕ} → p ≡ body_at s at
-    → template_of (children_at (levels - 1) s under n p) ≡ template_of (children_of levels s at)
-template_of_lem levels s at e f g = rw (e, f, g)
+pub template_of_lem : {r : Record} {k : Records} → ChildrenOf r k → {under : Bool} → under ≡ is_oc (rec_of r) → template_of (parts_of under k) ≡ template_of (parts_in r)
+template_of_lem c e = rw e (ap template_of (parts_are c))
 
 -- ---- records with one token
 
-module _ (levels : ℕ) (s : List ℕ) (at : ℕ) (under : Bool) (a : AcceptedAt levels s at) (known : (i : ℕ) → mir.Val.Fits w8 (get_or s i 0)) {m : ℕ} (e : m ≡ mark_at s at) where
-  alone : count_at s at ≡ 0 → children_of levels s at ≡ []
-  alone z = children-none (levels - 1) s known (is_chain s at) (count_at s at) (body_at s at) (omega arith)
-
+module _ (r : Record) (under : Bool) (m : Mark) (e : Code.number_of m ≡ mark_of (rec_of r)) where
   -- a row that gives the tokens ts where there are no children
-  by_row : (w : ℕ) (ts : List Token) → row_tokens (row_in text_rows w) under at (head_at s at) [] ≡ ts → count_at s at ≡ 0 → m ≡ w → ts ≡ tokens (tree_at levels s at) under at
+  by_row : (w : ℕ) (ts : List Token) → row_tokens (row_in text_rows w) under r.at (head_of (rec_of r)) [] ≡ ts → count (kids_of (rec_of r)) ≡ 0 → Code.number_of m ≡ w
+      → ts ≡ tokens (rec_of r) under r.at
   by_row w ts q z f =
-      sym (tokens_are levels s at under a
-      ∙ ap (λ (x : ℕ). row_tokens (row_in text_rows x) under at (head_at s at) (children_of levels s at)) (sym e ∙ f)
-      ∙ ap (λ (cs : List Child). row_tokens (row_in text_rows w) under at (head_at s at) cs) (alone z)
+      sym (tokens_are r under
+      ∙ ap (λ (x : ℕ). row_tokens (row_in text_rows x) under r.at (head_of (rec_of r)) (parts_in r)) (sym e ∙ f)
+      ∙ ap (λ (cs : List Child). row_tokens (row_in text_rows w) under r.at (head_of (rec_of r)) cs) (parts_nil (kids_of (rec_of r)) (is_oc (rec_of r)) (body_of r.at (head_of (rec_of r))) (omega (arith, z)))
       ∙ q)
 
-  pub plain-token : Plain s at m → {t : List ℕ} → t ≡ text_at s at → token t ∷ [] ≡ tokens (tree_at levels s at) under at
-  unfolding text_rows row_in marks member pieces_tokens holds what_tokens each_of head_at
+  pub plain-token : Plain (rec_of r) (Code.number_of m) → {t : List ℕ} → t ≡ text_of (rec_of r) → token t ∷ [] ≡ tokens (rec_of r) under r.at
+  unfolding text_rows row_in marks member pieces_tokens holds what_tokens each_of
   plain-token p g =
       ap (λ (t : List ℕ). token t ∷ []) g
-      ∙ ⊎_elim (λ x. by_row (mark "Ki") (token (text_at s at) ∷ []) refl p.alone x)
-      (λ y. ⊎_elim (λ x. by_row (mark "Op") (token (text_at s at) ∷ []) refl p.alone x) (λ x. by_row (mark "Kw") (token (text_at s at) ∷ []) refl p.alone x) y) p.kind
+      ∙ ⊎_elim (λ x. by_row (mark "Ki") (token (text_of (rec_of r)) ∷ []) refl p.alone x)
+      (λ y. ⊎_elim (λ x. by_row (mark "Op") (token (text_of (rec_of r)) ∷ []) refl p.alone x) (λ x. by_row (mark "Kw") (token (text_of (rec_of r)) ∷ []) refl p.alone x) y) p.kind
 
-  pub name-token : Name s at m → token (drop 4 (text_at s at)) ∷ [] ≡ tokens (tree_at levels s at) under at
-  unfolding text_rows row_in marks member pieces_tokens holds what_tokens each_of head_at
-  name-token p = by_row (mark "Id") (token (drop 4 (text_at s at)) ∷ []) (rw p.required) p.alone p.kind
+  pub name-token : Name (rec_of r) (Code.number_of m) → token (drop 4 (text_of (rec_of r))) ∷ [] ≡ tokens (rec_of r) under r.at
+  unfolding text_rows row_in marks member pieces_tokens holds what_tokens each_of
+  name-token p = by_row (mark "Id") (token (drop 4 (text_of (rec_of r))) ∷ []) (rw p.required) p.alone p.kind

@@ -1,13 +1,12 @@
 -- What it means that lines were written, and the block that an item opens.
-use Rattle.std.specs.Prelude.{ℕ, suc, ◌-◌, ◌≤◌, ◌≡◌, List, [], ◌∷◌, ◌++◌, Option, Some, None}
-use Rattle.definition.specs.Tree.{Recs, count_at, body_at, read_all, end_at, tree_at}
-use Rattle.definition.specs.Children.{AcceptedAt}
-use Rattle.definition.specs.Record.{text}
-use Rattle.definition.specs.Text.{token, Line, items_lines, block_lines, lines_bytes}
+use Rattle.std.specs.Prelude.{ℕ, suc, ◌≤◌, ◌≡◌, List, [], ◌∷◌, ◌++◌, Option, Some, None}
+use Rattle.definition.specs.Record.{text, head_of, kids_of}
+use Rattle.definition.specs.Text.{token, Line, items_lines, block_lines, lines_bytes, body_of}
+use Rattle.records.specs.declared.tree.Record.{Record}
+use Rattle.records.specs.Views.{rec_of}
 use Rattle.records.specs.Wrote.{Put}
 use Rattle.text_tokens.specs.declared.State.{State}
 use Rattle.text_tokens.specs.Writes.{first_seen}
-use Rattle.declaration_text.specs.declared.lines.Block.{Block}
 
 -- the first place of a number outside the forms, among those of lines and x, if there is one
 unfoldable pub lines_seen : Option ℕ → List Line → Option ℕ
@@ -19,20 +18,19 @@ pub record WritesLines (o o' : List ℕ) (s s' : State) (ls : List Line) : Type 
   pub put : Put o o' s.written (lines_bytes ls) s'.written
   pub place : s'.place ≡ lines_seen s.place ls
 
--- n items from `at` on
-abbrev pub records_at : ℕ → List ℕ → ℕ → ℕ → Recs
-records_at levels s n at = read_all (tree_at levels s) (end_at levels s) n at
-
 -- the line that closes a block
 abbrev pub closing : ℕ → Line
 closing d = record { spaces = d; tokens = token (text "}") ∷ [] }
 
--- the Nb at `block`, with `left` levels, is the block in the record at `at`, with `levels` levels
-pub record Opens (levels : ℕ) (s : List ℕ) (at block left : ℕ) : Type 0 where
-  pub accepted : AcceptedAt left s block
-  pub lower : left ≤ levels
-  pub lines : (d : ℕ) → block_lines (tree_at levels s at) d at ≡ items_lines (records_at (left - 1) s (count_at s block) (body_at s block)) (suc d) (body_at s block) ++ (closing d ∷ [])
+-- the lines of the block b, an Nb, in an item that d Ns records hold
+abbrev pub lines_in : Record → ℕ → List Line
+lines_in b d = items_lines (kids_of (rec_of b)) (suc d) (body_of b.at (head_of (rec_of b))) ++ (closing d ∷ [])
 
-abbrev pub Found : ℕ → List ℕ → ℕ → Option Block → Type 0
-Found levels s at (Some block) = Opens levels s at block.at block.levels
-Found levels s at None = (d : ℕ) → block_lines (tree_at levels s at) d at ≡ []
+-- b is the block in the item r
+pub record Opens (r b : Record) : Type 0 where
+  pub lower : b.levels ≤ r.levels
+  pub lines : (d : ℕ) → block_lines (rec_of r) d r.at ≡ lines_in b d
+
+abbrev pub Found : Record → Option Record → Type 0
+Found r (Some b) = Opens r b
+Found r None = (d : ℕ) → block_lines (rec_of r) d r.at ≡ []

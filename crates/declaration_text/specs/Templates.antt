@@ -1,9 +1,14 @@
 -- The parts of a template, as the code meets them: quasis and expressions, each by an offset and how many are left.
-use Rattle.std.specs.Prelude.{ℕ, zero, suc, ◌-◌, ◌≤◌, ◌<◌, ◌≡◌, List, [], ◌∷◌, map, Bool, true, false}
+use Rattle.std.specs.Prelude.{ℕ, zero, suc, ◌+◌, ◌-◌, ◌≤◌, ◌<◌, ◌≡◌, List, [], ◌∷◌, map, Bool, true, false, Option, Some, None}
 use Rattle.definition.specs.Tree.{mark_at, end_of_all, end_at}
 use Rattle.definition.specs.Record.{text_of}
-use Rattle.definition.specs.Text.{Token, own, escaped, Child, quasis, behind_quasis, expressions, in_braces}
-use Rattle.declaration_text.specs.Steps.{children_at}
+use Rattle.definition.specs.Text.{Token, own, escaped, Child, tokens, quasis, behind_quasis, expressions, in_braces}
+use Rattle.records.specs.declared.marks.Mark.{Mark}
+use Rattle.records.specs.declared.tree.Record.{Record}
+use Rattle.records.specs.declared.tree.Records.{Records}
+use Rattle.records.specs.Marks.{number_of}
+use Rattle.records.specs.Views.{rec_of}
+use Rattle.declaration_text.specs.Steps.{parts_of, children_at}
 
 -- the texts of children, and their tokens
 abbrev pub texts_of : List Child → List (List ℕ)
@@ -28,15 +33,40 @@ pub record Expressions (levels : ℕ) (s : List ℕ) (n at r : ℕ) : Type 0 whe
   pub few : r ≤ n
   pub tokens : (under : Bool) → expressions (children_at levels s under n at) ≡ tokens_of (children_at levels s under r at)
 
--- what is written for the first of n, and the offset behind it
-abbrev pub quasi_if : ℕ → List ℕ → List Token
-quasi_if zero t = []
-quasi_if (suc n) t = own (escaped t) ∷ []
+-- ---- of records of the code
 
-abbrev pub braces_if : ℕ → List Token → List Token
-braces_if zero ts = []
-braces_if (suc n) ts = in_braces ts
+-- the marks with a number that P says are counted, or that they aren't
+abbrev pub OfMark : (Mark → Bool → Type 0) → ℕ → Bool → Type 0
+OfMark P n b = (m : Mark) × (number_of m ≡ n) × P m b
 
-abbrev pub passed : ℕ → List ℕ → ℕ → ℕ → ℕ
-passed levels s zero at = at
-passed levels s (suc n) at = end_at levels s at
+-- front are the first of k, as many as P says are counted before the next, and rest those behind them
+pub record Split (P : Mark → Bool → Type 0) (k front rest : Records) : Type 0 where
+  pub counted : Before (OfMark P) k.levels k.tree.now k.count k.at front.count
+  pub tree : front.tree ≡ k.tree
+  pub place : front.at ≡ k.at
+  pub levels : front.levels ≡ k.levels
+  pub rest_tree : rest.tree ≡ k.tree
+  pub rest_place : rest.at ≡ end_of_all (end_at k.levels k.tree.now) front.count k.at
+  pub rest_levels : rest.levels ≡ k.levels
+  pub many : front.count + rest.count ≡ k.count
+
+-- front are the quasis of k, and rest what is behind them
+pub record QuasisAre (k front rest : Records) : Type 0 where
+  pub texts : (under : Bool) → quasis (parts_of under k) ≡ texts_of (parts_of under front)
+  pub behind : (under : Bool) → behind_quasis (parts_of under k) ≡ parts_of under rest
+  pub levels : front.levels ≡ k.levels
+  pub rest_levels : rest.levels ≡ k.levels
+
+-- front are the expressions of k
+pub record ExpressionsAre (k front : Records) : Type 0 where
+  pub tokens : (under : Bool) → expressions (parts_of under k) ≡ tokens_of (parts_of under front)
+  pub levels : front.levels ≡ k.levels
+
+-- what is written for a quasi or an expression, if there is one
+abbrev pub quasi_if : Option Record → List Token
+quasi_if None = []
+quasi_if (Some q) = own (escaped (text_of (rec_of q))) ∷ []
+
+abbrev pub braces_if : Bool → Option Record → List Token
+braces_if under None = []
+braces_if under (Some e) = in_braces (tokens (rec_of e) under e.at)

@@ -1,58 +1,55 @@
 // What the pieces of a row ask of a record: its flags and its children.
-ghost use Rattle.std.specs.Prelude.{true, ◌≡◌, ◌+◌, ◌-◌, ◌≤◌, ◌<◌, eqb, length};
-ghost use Rattle.definition.specs.Tree.{head_size, count_at, flags_at, head_at, end_of_all, end_at};
-ghost use Rattle.definition.specs.Children.{AcceptedAt, AllAccepted, child_at};
-ghost use Rattle.definition.specs.Record.{has_flag, mark_of, text_of};
+ghost use Rattle.std.specs.Prelude.{true, ◌≡◌, ◌≤◌, eqb, MatchOption};
+ghost use Rattle.definition.specs.Tree.{count};
+ghost use Rattle.definition.specs.Record.{has_flag, head_of, kids_of, mark_of, text_of};
 ghost use Rattle.definition.specs.Text.{nth, is_quoted, holds};
+ghost use Rattle.records.specs.Marks.{number_of};
+ghost use Rattle.records.specs.Views.{rec_of, From, ChildIs};
 ghost use Rattle.declaration_text.specs.Table.{when_is};
-ghost use Rattle.declaration_text.specs.Steps.{children_of, Plain, Name};
+ghost use Rattle.declaration_text.specs.Steps.{parts_in, Plain, Name};
 
 use crate::pieces::When;
 use records::flags::has_flag;
-use records::marks::{ID, KI, KW, ND, NO, OP};
-use records::{body_at, count_at, mark_at, read_head, record_end, text_at};
+use records::marks::Mark;
+use records::tree::{Record, Records};
 
-// The offset behind the first `i` of n records from `at` on.
-pub fn skip(tree: &[u8], at: usize, n: usize, i: usize, levels: usize) -> usize
-    requires { AllAccepted levels tree.now n at × (i ≤ n) }
-    ensures { result ≡ end_of_all (end_at levels tree.now) i at }
+// The children of a record from the number i on.
+pub fn children_from<'t>(r: Record<'t>, i: usize) -> Records<'t>
+    requires { i ≤ count (kids_of (rec_of r)) }
+    ensures { From r.entry i result }
 {
-    let mut k = i;
-    let mut child = at;
-    while 0 < k {
-        child = record_end(tree, child, levels);
-        k -= 1;
+    let mut kids = r.children();
+    for _ in 0..i {
+        kids = kids.rest();
     }
-    child
+    kids
 }
 
-// The child at the place i of the record at `at`.
-pub fn child_place(tree: &[u8], at: usize, i: usize, levels: usize) -> usize
-    requires { AcceptedAt levels tree.now at × (i ≤ count_at tree.now at) }
-    ensures { result ≡ child_at levels tree.now at i }
+// The child with the number i, if there is one.
+pub fn child_at<'t>(r: Record<'t>, i: usize) -> Option<Record<'t>>
+    ensures { MatchOption result (count (kids_of (rec_of r.entry)) ≤ i) (λ x. ChildIs r.entry i x) }
 {
-    let n = count_at(tree, at);
-    let first = body_at(tree, at);
-    skip(tree, first, n, i, levels - 1)
+    if r.count() <= i {
+        return None;
+    }
+    Some(children_from(r, i).first())
 }
 
 // Whether a flag of the record is set.
-fn flag_is_set(tree: &[u8], at: usize, flag: u8) -> bool
-    requires { at + head_size ≤ length tree.now }
-    ensures { result ≡ has_flag flag (flags_at tree.now at) }
+fn flag_is_set(r: Record, flag: u8) -> bool
+    ensures { result ≡ has_flag flag (head_of (rec_of r.entry)).flags }
 {
-    flag != 0 && has_flag(read_head(tree, at).flags, flag)
+    flag != 0 && has_flag(r.flags(), flag)
 }
 
-// Whether the child at the place i has a mark; where there is no child, it is as a No.
-fn child_is(tree: &[u8], at: usize, levels: usize, i: usize, mark: u16) -> bool
-    requires { AcceptedAt levels tree.now at }
-    ensures { result ≡ eqb (mark_of (nth i (children_of levels tree.now at)).itself) mark }
+// Whether the child with the number i has a mark; where there is no child, it is as a No.
+fn child_is(r: Record, i: usize, mark: Mark) -> bool
+    ensures { result ≡ eqb (mark_of (nth i (parts_in r.entry)).itself) (number_of mark) }
 {
-    if count_at(tree, at) <= i {
-        return NO == mark;
+    match child_at(r, i) {
+        Some(child) => child.mark() == mark,
+        None => Mark::No == mark,
     }
-    mark_at(tree, child_place(tree, at, i, levels)) == mark
 }
 
 // Whether a text begins with a quote.
@@ -63,47 +60,46 @@ fn is_quoted(text: &[u8]) -> bool
 }
 
 // Whether the text of the first child does.
-fn name_is_quoted(tree: &[u8], at: usize, levels: usize) -> bool
-    requires { AcceptedAt levels tree.now at }
-    ensures { result ≡ is_quoted (text_of (nth 0 (children_of levels tree.now at)).itself) }
+fn name_is_quoted(r: Record) -> bool
+    ensures { result ≡ is_quoted (text_of (nth 0 (parts_in r.entry)).itself) }
 {
-    count_at(tree, at) != 0 && is_quoted(text_at(tree, body_at(tree, at)))
+    match child_at(r, 0) {
+        Some(name) => is_quoted(name.text()),
+        None => false,
+    }
 }
 
 impl When {
-    // Whether a piece is written of the record at `at`; `under` says whether an Oc holds the record.
-    #[tactic(auto, unfolding(definition::specs::Text::holds, definition::specs::Tree::head_at))]
-    pub fn holds(self, tree: &[u8], at: usize, levels: usize, under: bool) -> bool
-        requires { AcceptedAt levels tree.now at }
-        ensures { result ≡ holds (when_is self) under (head_at tree.now at) (children_of levels tree.now at) }
+    // Whether a piece is written of the record; `under` says whether an Oc holds the record.
+    #[tactic(auto, unfolding(definition::specs::Text::holds))]
+    pub fn holds(self, r: Record, under: bool) -> bool
+        ensures { result ≡ holds (when_is self) under (head_of (rec_of r.entry)) (parts_in r.entry) }
     {
         match self {
             When::Always => true,
-            When::Flagged(flag) => flag_is_set(tree, at, flag),
-            When::Unflagged(flag) => !flag_is_set(tree, at, flag),
-            When::Getter => flag_is_set(tree, at, 2) && !flag_is_set(tree, at, 1),
-            When::There(i) => !child_is(tree, at, levels, i, NO),
-            When::Dotted => child_is(tree, at, levels, 1, ND),
-            When::Quoted => name_is_quoted(tree, at, levels),
-            When::Unquoted => !name_is_quoted(tree, at, levels),
+            When::Flagged(flag) => flag_is_set(r, flag),
+            When::Unflagged(flag) => !flag_is_set(r, flag),
+            When::Getter => flag_is_set(r, 2) && !flag_is_set(r, 1),
+            When::There(i) => !child_is(r, i, Mark::No),
+            When::Dotted => child_is(r, 1, Mark::Nd),
+            When::Quoted => name_is_quoted(r),
+            When::Unquoted => !name_is_quoted(r),
             When::Chained => under,
-            When::Linked => !under && child_is(tree, at, levels, 1, KI),
+            When::Linked => !under && child_is(r, 1, Mark::Ki),
         }
     }
 }
 
-// Whether the record is an Op, a Kw or a Ki without children: its text is its only token.
-pub fn is_plain(tree: &[u8], at: usize, mark: u16) -> bool
-    requires { at + head_size ≤ length tree.now }
-    ensures { result ≡ true → Plain tree.now at mark }
+// Whether the record, with this mark, is an Op, a Kw or a Ki without children: its text is its only token.
+pub fn is_plain(r: Record, mark: Mark) -> bool
+    ensures { result ≡ true → Plain (rec_of r.entry) (number_of mark) }
 {
-    matches!(mark, OP | KW | KI) && count_at(tree, at) == 0
+    matches!(mark, Mark::Op | Mark::Kw | Mark::Ki) && r.count() == 0
 }
 
 // Whether it is an Id without children and without flag 1: its symbol is its only token.
-pub fn is_name(tree: &[u8], at: usize, mark: u16) -> bool
-    requires { at + head_size ≤ length tree.now }
-    ensures { result ≡ true → Name tree.now at mark }
+pub fn is_name(r: Record, mark: Mark) -> bool
+    ensures { result ≡ true → Name (rec_of r.entry) (number_of mark) }
 {
-    mark == ID && !flag_is_set(tree, at, 1) && count_at(tree, at) == 0
+    mark == Mark::Id && !flag_is_set(r, 1) && r.count() == 0
 }

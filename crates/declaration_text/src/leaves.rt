@@ -1,40 +1,36 @@
 // Parts of records that are written or counted without going into children.
-ghost use Rattle.std.specs.Prelude.{◌≡◌, Bool, ◌&&◌, ◌||◌, [], ◌∷◌, ◌-◌, ◌<◌, eqb, drop};
-ghost use Rattle.definition.specs.Tree.{end_at, text_at, tree_at};
-ghost use Rattle.definition.specs.Children.{AcceptedAt, AllAccepted};
-ghost use Rattle.definition.specs.Record.{is_no};
+ghost use Rattle.std.specs.Prelude.{◌≡◌, Bool, ◌&&◌, ◌||◌, [], ◌∷◌, eqb, drop};
+ghost use Rattle.definition.specs.Record.{is_no, text_of};
 ghost use Rattle.definition.specs.Text.{token, more};
+ghost use Rattle.records.specs.Views.{rec_of};
 ghost use Rattle.text_tokens.specs.Writes.{Writes, last_of};
-ghost use Rattle.declaration_text.specs.Steps.{children_at};
-ghost use Rattle.declaration_text.specs.Templates.{Before, Quasis, Expressions, quasi_if, passed};
+ghost use Rattle.declaration_text.specs.Steps.{parts_of};
+ghost use Rattle.declaration_text.specs.Templates.{Split, QuasisAre, ExpressionsAre, quasi_if};
 
-use records::marks::{NO, OP, QU};
-use records::{mark_at, record_end, text_at};
+use records::marks::Mark;
+use records::tree::{Record, Records};
 use text_tokens::State;
 
 // The symbol of an Id, as it stands.
-pub fn put_symbol(tree: &[u8], at: usize, levels: usize, out: &mut [u8], s: State) -> State
-    requires { AcceptedAt levels tree.now at }
-    ensures { Writes out.old out.new s result (token (drop 4 (text_at tree.now at)) ∷ []) }
+pub fn put_symbol(r: Record, out: &mut [u8], s: State) -> State
+    ensures { Writes out.old out.new s result (token (drop 4 (text_of (rec_of r.entry))) ∷ []) }
 {
-    let text = text_at(tree, at);
+    let text = r.text();
     s.put_token(&text[text.len().min(4)..], out)
 }
 
-// Whether a `,` follows the first of n elements: another element, or none behind a hole.
-pub fn comma_follows(tree: &[u8], at: usize, n: usize, levels: usize) -> bool
-    requires { AllAccepted levels tree.now n at × (0 < n) }
-    ensures { (under : Bool)
-        → result ≡ (more (children_at levels tree.now under (n - 1) (end_at levels tree.now at))
-        || is_no (tree_at levels tree.now at)) }
+// Whether a `,` follows an element before these records: another element, or none behind a hole.
+pub fn comma_follows(element: Record, behind: Records) -> bool
+    ensures { (under : Bool) → result ≡ (more (parts_of under behind.entry) || is_no (rec_of element.entry)) }
 {
-    if mark_at(tree, at) == NO {
+    if element.mark() == Mark::No {
         return true;
     }
-    if n == 1 {
+    if behind.count == 0 {
         return false;
     }
-    mark_at(tree, record_end(tree, at, levels)) != OP
+    let op_follows = behind.first().mark() == Mark::Op;
+    !op_follows
 }
 
 // Whether a token was written, and the last one ends in `;`.
@@ -44,64 +40,48 @@ pub fn ends_in_semicolon(s: State) -> bool
     s.some && s.last == Some(b';')
 }
 
-// How many of n children stand before the first whose mark isn't counted.
-fn count_while<F: Fn(u16) -> bool>(
-    tree: &[u8],
-    at: usize,
-    n: usize,
-    levels: usize,
-    counted: F,
-) -> usize
-    requires accepted { AllAccepted levels tree.now n at }
-    requires callable { F.IsAlwaysCallable counted }
-    ensures { Before (F.post counted) levels tree.now n at result }
+// The records before the first whose mark isn't counted, and those from it on.
+fn split<'t, F: Fn(Mark) -> bool>(records: Records<'t>, counted: F) -> (Records<'t>, Records<'t>)
+    requires { F.IsAlwaysCallable counted }
+    ensures { Split (F.post counted) records.entry result.0 result.1 }
 {
-    let mut k = n;
-    let mut child = at;
-    while 0 < k {
-        if !counted(mark_at(tree, child)) {
-            return n - k;
+    let mut rest = records;
+    while 0 < rest.count {
+        if !counted(rest.first().mark()) {
+            break;
         }
-        child = record_end(tree, child, levels);
-        k -= 1;
+        rest = rest.rest();
     }
-    n
+    let front = Records {
+        tree: records.tree,
+        at: records.at,
+        levels: records.levels,
+        count: records.count - rest.count,
+    };
+    (front, rest)
 }
 
-// How many of n children are `Qu`s before the first that isn't.
-pub fn count_quasis(tree: &[u8], at: usize, n: usize, levels: usize) -> usize
-    requires { AllAccepted levels tree.now n at }
-    ensures { Quasis levels tree.now n at result }
+// The `Qu`s before the first that isn't, and the records from it on.
+pub fn split_quasis<'t>(records: Records<'t>) -> (Records<'t>, Records<'t>)
+    ensures { QuasisAre records.entry result.0 result.1 }
 {
-    count_while(tree, at, n, levels, |mark| mark == QU)
+    split(records, |mark| mark == Mark::Qu)
 }
 
-// How many of n children stand before the first `Op`.
-pub fn count_expressions(tree: &[u8], at: usize, n: usize, levels: usize) -> usize
-    requires { AllAccepted levels tree.now n at }
-    ensures { Expressions levels tree.now n at result }
+// The records before the first `Op`.
+pub fn expressions<'t>(records: Records<'t>) -> Records<'t>
+    ensures { ExpressionsAre records.entry result }
 {
-    count_while(tree, at, n, levels, |mark| mark != OP)
+    let (expressions, _) = split(records, |mark| mark != Mark::Op);
+    expressions
 }
 
-// The text of the first of n `Qu`s, if there is one.
-pub fn put_quasi(tree: &[u8], at: usize, n: usize, levels: usize, out: &mut [u8], s: State) -> State
-    requires { 0 < n → AcceptedAt levels tree.now at }
-    ensures { Writes out.old out.new s result (quasi_if n (text_at tree.now at)) }
+// The text of a `Qu`, if there is one.
+pub fn put_quasi(quasi: Option<Record>, out: &mut [u8], s: State) -> State
+    ensures { Writes out.old out.new s result (quasi_if quasi.entry) }
 {
-    if n == 0 {
-        return s;
+    match quasi {
+        Some(quasi) => s.put_own_escaped(quasi.text(), out),
+        None => s,
     }
-    s.put_own_escaped(text_at(tree, at), out)
-}
-
-// The offset behind the first of n records, if there is one.
-pub fn pass(tree: &[u8], at: usize, n: usize, levels: usize) -> usize
-    requires { 0 < n → AcceptedAt levels tree.now at }
-    ensures { result ≡ passed levels tree.now n at }
-{
-    if n == 0 {
-        return at;
-    }
-    record_end(tree, at, levels)
 }

@@ -5,16 +5,17 @@
 ghost use Rattle.std.specs.Prelude.{true, false, ◌≡◌, ◌*◌, ◌≤◌, length};
 ghost use Rattle.definition.specs.Tree.{tree_at};
 ghost use Rattle.definition.specs.Check.{longest_tree, deepest};
-ghost use Rattle.definition.specs.Children.{AcceptedAt};
 ghost use Rattle.definition.specs.Text.{tokens, first_line, lines_of, written_text, call_text};
 ghost use Rattle.definition.specs.TextNumbers.{numbers_fit};
+ghost use Rattle.records.specs.Views.{rec_of};
 ghost use Rattle.declaration_text.specs.Lines.{WritesLines};
-ghost use Rattle.declaration_text.specs.Answers.{start, Accepted, Gives};
+ghost use Rattle.declaration_text.specs.Answers.{start, Accepted, IsRoot, Gives};
 
 use crate::numbers::numbers_fit;
 use crate::table::Tables;
 use grammar::{Refusal, Refused};
-use records::{DEEPEST, body_at, count_at};
+use records::DEEPEST;
+use records::tree::Record;
 use text_tokens::State;
 
 pub mod asks;
@@ -25,48 +26,39 @@ pub mod pieces;
 pub mod record;
 pub mod table;
 
-
 // The bytes of a text for each byte of its tree, at most (`text-short` of definition/proofs/TextBound.antt).
 const MOST_TEXT: usize = 6;
 
 impl Tables {
     // "A `Mo`'s own Ops, if any of their tokens is nonempty, are a first line."
-    fn put_first_line(&self, tree: &[u8], out: &mut [u8]) -> State
-        requires { AcceptedAt deepest tree.now 0 }
-        ensures { WritesLines out.old out.new start result (first_line (tokens (tree_at deepest tree.now 0) false 0)) }
+    fn put_first_line(&self, root: Record, out: &mut [u8]) -> State
+        requires { IsRoot root }
+        ensures { WritesLines out.old out.new start result (first_line (tokens (rec_of root.entry) false 0)) }
     {
         let s = State::default();
-        let dry = self.write(tree, 0, DEEPEST, false, &mut [], s);
+        let dry = self.write(root, false, &mut [], s);
         if dry.some {
-            return self.put_line(tree, 0, DEEPEST, 0, out, s);
+            return self.put_line(root, 0, out, s);
         }
         s
     }
 
     // All lines of the Mo of an accepted tree.
-    fn put_module(&self, tree: &[u8], out: &mut [u8]) -> State
-        requires { AcceptedAt deepest tree.now 0 }
-        ensures { WritesLines out.old out.new start result (lines_of (tree_at deepest tree.now 0)) }
+    fn put_module(&self, root: Record, out: &mut [u8]) -> State
+        requires { IsRoot root }
+        ensures { WritesLines out.old out.new start result (lines_of (rec_of root.entry)) }
     {
-        let first = self.put_first_line(tree, out);
-        self.put_items(
-            tree,
-            body_at(tree, 0),
-            count_at(tree, 0),
-            DEEPEST - 1,
-            0,
-            out,
-            first,
-        )
+        let first = self.put_first_line(root, out);
+        self.put_items(root.children(), 0, out, first)
     }
 }
 
 // Whether a run is sure to succeed: there is room for the text of any tree of this length, and no number is outside the forms.
-fn is_certain(tree: &[u8], room: usize) -> bool
-    requires { AcceptedAt deepest tree.now 0 × (length tree.now ≤ longest_tree) }
-    ensures { result ≡ true → (6 * length tree.now ≤ room) × (numbers_fit (tree_at deepest tree.now 0) ≡ true) }
+fn is_certain(root: Record, room: usize) -> bool
+    requires { length root.tree.now ≤ longest_tree }
+    ensures { result ≡ true → (6 * length root.entry.tree.now ≤ room) × (numbers_fit (rec_of root.entry) ≡ true) }
 {
-    MOST_TEXT * tree.len() <= room && numbers_fit(tree)
+    MOST_TEXT * root.tree.len() <= room && numbers_fit(root)
 }
 
 // The text of an accepted tree: the run alone where it is sure to succeed; else refusals 11 and 9 by a dry run, then the run, on exactly the room that
@@ -76,11 +68,16 @@ fn accepted(tree: &[u8], out: &mut [u8]) -> Result<usize, Refused>
     ensures { Gives (written_text (lines_of (tree_at deepest tree.now 0)) out.old) result out.new }
 {
     let tables = Tables::new();
-    if is_certain(tree, out.len()) {
-        let all = tables.put_module(tree, out);
+    let root = Record {
+        tree,
+        at: 0,
+        levels: DEEPEST,
+    };
+    if is_certain(root, out.len()) {
+        let all = tables.put_module(root, out);
         return Ok(all.written);
     }
-    let dry = tables.put_module(tree, &mut out[..0]);
+    let dry = tables.put_module(root, &mut out[..0]);
     if let Some(place) = dry.place {
         return Err(Refused {
             refusal: Refusal::NumberOutside,
@@ -93,7 +90,7 @@ fn accepted(tree: &[u8], out: &mut [u8]) -> Result<usize, Refused>
             place: 0,
         });
     }
-    tables.put_module(tree, &mut out[..dry.written]);
+    tables.put_module(root, &mut out[..dry.written]);
     Ok(dry.written)
 }
 

@@ -1,13 +1,13 @@
 // Whether the numbers of a tree are whole and below 2 to the 53 in size, also those that the text leaves out.
 ghost use Rattle.std.specs.Prelude.{◌≡◌, true, ◌≤◌, length};
-ghost use Rattle.definition.specs.Tree.{count_at, mark_at, body_at, text_at, tree_at};
+ghost use Rattle.definition.specs.Tree.{count_at, mark_at, body_at, text_at};
 ghost use Rattle.definition.specs.Grammar.{mark};
-ghost use Rattle.definition.specs.Check.{deepest};
-ghost use Rattle.definition.specs.Children.{AcceptedAt};
 ghost use Rattle.definition.specs.Numerals.{bits_of, whole_of};
 ghost use Rattle.definition.specs.TextNumbers.{is_some, numbers_fit};
+ghost use Rattle.records.specs.Views.{rec_of};
 
 use records::marks::NU;
+use records::tree::Record;
 use records::{body_at, count_at, mark_at, text_at};
 use text_tokens::numerals::{bits_of, whole_of};
 
@@ -25,12 +25,13 @@ fn number_fits(tree: &[u8], at: usize) -> bool
     whole_of(bits_of(text_at(tree, at))).is_some()
 }
 
-// Whether no number of an accepted tree is outside the forms: a walk over all records in preorder, whatever the text leaves out.
-pub fn numbers_fit(tree: &[u8]) -> bool
-    requires { AcceptedAt deepest tree.now 0 }
-    ensures { result ≡ true → numbers_fit (tree_at deepest tree.now 0) ≡ true }
+// Whether no number of a record is outside the forms, whatever the text leaves out: a walk over all records in preorder. It goes by offsets, since a
+// recursion over Records walks to the end of a record once more for each record around it.
+pub fn numbers_fit(r: Record) -> bool
+    ensures { result ≡ true → numbers_fit (rec_of r.entry) ≡ true }
 {
-    let mut at = 0;
+    let tree = r.tree;
+    let mut at = r.at;
     let mut pending: usize = 1;
     while 0 < pending {
         if !number_fits(tree, at) {

@@ -13,7 +13,7 @@ use Rattle.records.specs.contracts.marks.Mark.{the_type}
 use Rattle.records.specs.Marks.{number_of}
 
 -- a mark's place in the code's enum is its row in the grammar
-row_is : (m : Mark) → tag_of the_type m ≡ place known (number_of m)
+pub row_is : (m : Mark) → tag_of the_type m ≡ place known (number_of m)
 unfolding grammar known place
 row_is Mo = refl
 row_is Op = refl

@@ -1,20 +1,16 @@
 -- `child_is` meets its contract: a child that is missing is as a No.
-use native.Mathlib.Omega.{arith}
-use Rattle.records.proofs.Accepted.{room}
-use Rattle.declaration_text.proofs.Children.{mark-none, mark-at, kid-accepted}
+use mathlib.Core.Path.{◌∙◌, ap, sym}
+use lib.Dec.{eqb}
+use Rattle.definition.specs.Record.{mark_of}
+use Rattle.definition.specs.Text.{Child}
+use Rattle.records.specs.declared.marks.Mark.TheVariants.{No}
+use Rattle.records.specs.Marks.{number_of}
+use Rattle.records.proofs.SameMarks.{tested, same_mark}
+use Rattle.declaration_text.proofs.Parts.{part_is, no_part}
 use Rattle.declaration_text.proofs.asks.child_is.Goals as goal
 
-pub count_at-requires : goal.count_at-requires
-count_at-requires c = room c.requires
+pub returns-in-Some : goal.returns-in-Some
+returns-in-Some c = c.eq.ensures ∙ tested _ c.mark.ensures c.args.mark ∙ ap (λ (k : Child). eqb (mark_of k.itself) (number_of c.args.mark)) (sym (part_is c.in-Some.ensures))
 
-pub returns-then-count_at-i : goal.returns-then-count_at-i
-returns-then-count_at-i c = mark-none _ _ _ c.requires c.type_inv.tree _ (omega (arith, c.count_at.ensures.0, c.if-count_at-i.true)) _
-
-pub child_place-requires : goal.child_place-requires
-child_place-requires c = (c.requires, omega (arith, c.count_at.ensures.0, c.if-count_at-i.false))
-
-pub mark_at-requires : goal.mark_at-requires
-mark_at-requires c = rw c.child_place.ensures (room (kid-accepted _ _ _ c.requires c.type_inv.tree _ (omega (arith, c.count_at.ensures.0, c.if-count_at-i.false))))
-
-pub returns : goal.returns
-returns c = rw c.mark_at.ensures.0 (mark-at _ _ _ c.requires c.type_inv.tree _ (omega (arith, c.count_at.ensures.0, c.if-count_at-i.false)) c.child_place.ensures _)
+pub returns-in-None : goal.returns-in-None
+returns-in-None c = c.eq-in-None.ensures ∙ same_mark No c.args.mark ∙ ap (λ (k : Child). eqb (mark_of k.itself) (number_of c.args.mark)) (sym (no_part c.args.r c.in-None.ensures))

@@ -2,4 +2,4 @@
 use Rattle.declaration_text.proofs.lines.+block_at.Given as goal
 
 abbrev pub decreases-block_at : goal.decreases-block_at
-decreases-block_at l = l.levels
+decreases-block_at l = l.item.levels

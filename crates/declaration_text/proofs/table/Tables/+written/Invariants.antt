@@ -1,47 +1,48 @@
 -- The cycle of `write`: each member meets its contract, and the levels that are left fall.
 use Prim.Native.Nat.{◌+◌, ◌-◌, ◌*◌}
-use Rattle.declaration_text.specs.Table.{each_by}
-use Rattle.declaration_text.proofs.Written.{Telling, Turning, turns_of, Reading}
-use Rattle.definition.specs.Tree.{head_at, tree_at}
+use Rattle.definition.specs.Record.{head_of}
 use Rattle.definition.specs.Text.{each_of, tokens}
-use Rattle.declaration_text.specs.Steps.{children_at, children_of}
+use Rattle.records.specs.Views.{rec_of}
+use Rattle.declaration_text.specs.Table.{each_by}
+use Rattle.declaration_text.specs.Steps.{parts_of, parts_in}
+use Rattle.declaration_text.proofs.Written.{Telling, Turning, turns_of, Reading, levels_of}
 use Rattle.declaration_text.proofs.table.Tables.+written.Given as goal
 
 abbrev pub decreases-write : goal.decreases-write
-decreases-write l = 6 * l.levels + 3
+decreases-write l = 6 * l.r.levels + 3
 
 abbrev pub decreases-template : goal.decreases-template
-decreases-template l = 6 * l.levels + 5
+decreases-template l = 6 * l.children.levels + 5
 
 abbrev pub decreases-siblings : goal.decreases-siblings
-decreases-siblings l = 6 * l.levels + 5
+decreases-siblings l = 6 * l.records.levels + 5
 
 abbrev pub decreases-sibling : goal.decreases-sibling
-decreases-sibling l = 6 * l.levels + 4
+decreases-sibling l = 6 * l.child.levels + 4
 
 abbrev pub decreases-put_piece : goal.decreases-put_piece
-decreases-put_piece l = 6 * l.levels + 2
+decreases-put_piece l = 6 * l.r.levels + 2
 
 abbrev pub decreases-number : goal.decreases-number
-decreases-number l = 6 * l.levels + 1
+decreases-number l = 6 * l.r.levels + 1
 
 abbrev pub decreases-child : goal.decreases-child
-decreases-child l = 6 * l.levels + 0
+decreases-child l = 6 * l.r.levels + 0
 
 abbrev pub decreases-braces : goal.decreases-braces
-decreases-braces l = 6 * l.levels + 4
+decreases-braces l = 6 * levels_of l.expression + 4
 
 abbrev pub decreases-behind : goal.decreases-behind
-decreases-behind l = 6 * l.levels + 0
+decreases-behind l = 6 * l.r.levels + 0
 
-abbrev pub invariant-siblings-loop-k : goal.invariant-siblings-loop-k
-invariant-siblings-loop-k l = Telling (each_by l.each) l.levels l.tree l.under (each_of (each_by l.each) (children_at l.levels l.tree l.under l.n l.at)) l.initial.out l.out l.initial.next l.next l.k l.child
+abbrev pub invariant-siblings-loop-next : goal.invariant-siblings-loop-next
+invariant-siblings-loop-next l = Telling (each_by l.each) l.under (each_of (each_by l.each) (parts_of l.under l.records)) l.initial.out l.out l.initial.next l.next l.records.levels l.rest
 
-abbrev pub decreases-siblings-loop-k : goal.decreases-siblings-loop-k
-decreases-siblings-loop-k l = l.k
+abbrev pub decreases-siblings-loop-next : goal.decreases-siblings-loop-next
+decreases-siblings-loop-next l = l.rest.count
 
 abbrev pub invariant-write-loop-i : goal.invariant-write-loop-i
-invariant-write-loop-i l = Reading l.row l.under l.at (head_at l.tree l.at) (children_of l.levels l.tree l.at) (tokens (tree_at l.levels l.tree l.at) l.under l.at) l.initial.out l.out l.initial.next l.next l.i
+invariant-write-loop-i l = Reading l.row l.under l.r.at (head_of (rec_of l.r)) (parts_in l.r) (tokens (rec_of l.r) l.under l.r.at) l.initial.out l.out l.initial.next l.next l.i
 
 abbrev pub invariant-template-loop : goal.invariant-template-loop
-invariant-template-loop l = Turning l.levels l.tree l.under (turns_of (children_at l.levels l.tree l.under l.n l.at)) l.initial.out l.out l.initial.next l.next l.quasis l.quasi l.expressions l.expression (l.turns - l.counter)
+invariant-template-loop l = Turning l.under (turns_of (parts_of l.under l.children)) l.initial.out l.out l.initial.next l.next l.children.levels l.quasis l.expressions (l.turns - l.counter)

@@ -1,7 +1,0 @@
--- `count_quasis` meets its contract: what was counted by the mark.
-use Rattle.std.proofs.Common.{rules}
-use Rattle.declaration_text.proofs.Templates.{before-quasis}
-use Rattle.declaration_text.proofs.leaves.count_quasis.Goals as goal
-
-pub returns : goal.returns
-returns c = before-quasis _ _ c.type_inv.tree _ _ _ _ c.requires c.count_while.ensures (λ m p. search rules) (λ m p. search rules)
