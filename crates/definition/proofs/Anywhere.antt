@@ -1,20 +1,20 @@
 -- A record that is accepted at some slots is accepted at `anywhere`, where records of every mark may stand: so that it is accepted is a fact of which
 -- there is one proof at most, and a struct can hold it.
-use mathlib.Core.Path.{◌≡◌, refl, sym, ap, ◌∙◌}
+use mathlib.Core.Path.{◌≡◌, refl, sym, ap}
 use mathlib.Core.List.{List, [], ◌∷◌}
 use mathlib.Core.Bool.{Bool, true, false, cond, ◌||◌}
-use Prim.Native.Nat.{ℕ, zero, suc, ◌+◌, ◌-◌, ◌<◌, ◌≤◌}
+use Prim.Native.Nat.{ℕ, zero, suc, ◌+◌, ◌-◌, ◌<◌}
 use native.Mathlib.Omega.{arith}
 use lib.Dec.{eqb, leb, ltb}
 use lib.ListN.{length}
 use borrow.Author.Tests.{eqb-true, eq-eqb}
-use Rattle.definition.specs.Tree.{head_size, mark_at, flags_at, start_at, last_at, length_at, count_at, text_at, body_at, end_at}
-use Rattle.definition.specs.Grammar.{mark, Part, one, many, property, marks, member, known, place, slots, grammar, allowed, after, is_property, undestructured, pattern, expression, least}
-use Rattle.definition.specs.Check.{has_form, form_of, slots_of, inside, Opening, Opening.opened, Opening.stopped, open_body, open_at, Checked, Checked.fine, Checked.refused, onward, check_all, within, check_at}
+use Rattle.definition.specs.Tree.{head_size, mark_at, flags_at, start_at, last_at, length_at, count_at, text_at, body_at}
+use Rattle.definition.specs.Grammar.{mark, Part, marks, member, known, place, slots, grammar, allowed, after, is_property, undestructured, pattern, least}
+use Rattle.definition.specs.Check.{has_form, form_of, slots_of, inside, Opening, Opening.opened, Opening.stopped, open_body, open_at, Checked, Checked.fine, Checked.refused, check_all, check_at}
 use Rattle.definition.specs.Children.{AcceptedAt, AllAccepted, anywhere, is_fine, IsAcceptedAt, AreAcceptedAt}
 use Rattle.definition.proofs.Tests.{never}
-use Rattle.definition.proofs.Accepted.{passed, met, never-opened, never-fine, onward-fine, within-fine, Open, Accepted, accepted, record_open}
-use Rattle.definition.proofs.Kids.{contained, member-wider}
+use Rattle.definition.proofs.Accepted.{passed, met, never-opened, never-fine, onward-fine, within-fine, accepted, record_open}
+use Rattle.definition.proofs.Kids.{member-wider}
 
 -- ---- marks that are known
 
