@@ -88,7 +88,12 @@ fn show_expression(rt: &impl Print, tree: &[u8], at: usize, levels: usize) -> io
     requires { AcceptedAt levels tree.now at }
 {
     let expr = Record { tree, at, levels };
-    print_bool(rt, at, b"is_array_lit_init", prescan::is_array_lit_init(expr))?;
+    print_bool(
+        rt,
+        at,
+        b"is_array_lit_init",
+        prescan::is_array_lit_init(expr),
+    )?;
     let symbol = names::is_well_known_symbol_expr(expr, UNRESOLVED);
     print_bool(rt, at, b"is_well_known_symbol_expr", symbol)
 }
