@@ -13,10 +13,6 @@ use Rattle.definition.specs.Children.{AcceptedAt}
 use Rattle.definition.specs.Record.{is, head_of, kids_of, mark_of}
 use Rattle.definition.specs.Text.{Line, tokens, item_line, items_lines, block_lines, first_block, second_block, body_of}
 use Rattle.definition.proofs.Children.{children, first_one, read_all_more}
-use Rattle.records.specs.declared.marks.Mark.{Mark}
-use Rattle.records.specs.declared.marks.Mark.TheVariants.{St, Op}
-use Rattle.records.specs.Marks.{number_of}
-use Rattle.records.proofs.SameMarks.{not_marked}
 use Rattle.records.specs.declared.tree.Record.{Record}
 use Rattle.records.specs.declared.tree.Records.{Records}
 use Rattle.records.specs.Views.{rec_of, recs_of, ChildrenOf, Step, ChildIs}
@@ -106,14 +102,6 @@ module _ (r : Record) where
 
 -- ---- an item
 
--- a mark that was read, of no item or of one
-module _ (r : Record) (m : Mark) (e : number_of m ≡ mark_of (rec_of r)) where
-  pub no_item : (m ≡ St) ⊎ (m ≡ Op) → (is "St" (rec_of r) || is "Op" (rec_of r)) ≡ true
-  no_item k = ⊎_elim (λ q. let z : mark_of (rec_of r) ≡ mark "St" = sym e ∙ ap number_of q in rw z) (λ q. let z : mark_of (rec_of r) ≡ mark "Op" = sym e ∙ ap number_of q in rw z) k
-
-  pub an_item : (m ≡ St → ⊥) → (m ≡ Op → ⊥) → (is "St" (rec_of r) || is "Op" (rec_of r)) ≡ false
-  an_item s o = rw (not_marked m e St s, not_marked m e Op o)
-
 module _ (r : Record) (d : ℕ) where
   abbrev line_of : Line
   line_of = record { spaces = d; tokens = tokens (rec_of r) false r.at }
@@ -122,12 +110,15 @@ module _ (r : Record) (d : ℕ) where
   lines_of = item_line (rec_of r) d r.at (block_lines (rec_of r) d r.at)
 
   -- no item
-  pub item_none : (is "St" (rec_of r) || is "Op" (rec_of r)) ≡ true → [] ≡ lines_of
-  item_none q = rw q
+  pub item_star : is "St" (rec_of r) ≡ true → [] ≡ lines_of
+  item_star q = rw q
 
-  module _ (n : (is "St" (rec_of r) || is "Op" (rec_of r)) ≡ false) {o o1 : List ℕ} {s s1 : State} (w : WritesLines o o1 s s1 (line_of ∷ [])) where
+  pub item-op : is "St" (rec_of r) ≡ false → is "Op" (rec_of r) ≡ true → [] ≡ lines_of
+  item-op n q = rw (n, q)
+
+  module _ (n : is "St" (rec_of r) ≡ false) (m : is "Op" (rec_of r) ≡ false) {o o1 : List ℕ} {s s1 : State} (w : WritesLines o o1 s s1 (line_of ∷ [])) where
     item-is : line_of ∷ block_lines (rec_of r) d r.at ≡ lines_of
-    item-is = rw n
+    item-is = rw (n, m)
 
     -- the line alone
     pub item_line_lem : Found r None → WritesLines o o1 s s1 lines_of

@@ -373,23 +373,23 @@ template_of_lem c e = rw e (ap template_of (parts_are c))
 
 -- ---- records with one token
 
-module _ (r : Record) (under : Bool) (m : Mark) (e : Code.number_of m ≡ mark_of (rec_of r)) where
+module _ (r : Record) (under : Bool) where
   -- a row that gives the tokens ts where there are no children
-  by_row : (w : ℕ) (ts : List Token) → row_tokens (row_in text_rows w) under r.at (head_of (rec_of r)) [] ≡ ts → count (kids_of (rec_of r)) ≡ 0 → Code.number_of m ≡ w
+  by_row : (w : ℕ) (ts : List Token) → row_tokens (row_in text_rows w) under r.at (head_of (rec_of r)) [] ≡ ts → count (kids_of (rec_of r)) ≡ 0 → mark_of (rec_of r) ≡ w
       → ts ≡ tokens (rec_of r) under r.at
   by_row w ts q z f =
       sym (tokens_are r under
-      ∙ ap (λ (x : ℕ). row_tokens (row_in text_rows x) under r.at (head_of (rec_of r)) (parts_in r)) (sym e ∙ f)
+      ∙ ap (λ (x : ℕ). row_tokens (row_in text_rows x) under r.at (head_of (rec_of r)) (parts_in r)) f
       ∙ ap (λ (cs : List Child). row_tokens (row_in text_rows w) under r.at (head_of (rec_of r)) cs) (parts_nil (kids_of (rec_of r)) (is_oc (rec_of r)) (body_of r.at (head_of (rec_of r))) (omega (arith, z)))
       ∙ q)
 
-  pub plain-token : Plain (rec_of r) (Code.number_of m) → {t : List ℕ} → t ≡ text_of (rec_of r) → token t ∷ [] ≡ tokens (rec_of r) under r.at
+  pub plain-token : Plain (rec_of r) → {t : List ℕ} → t ≡ text_of (rec_of r) → token t ∷ [] ≡ tokens (rec_of r) under r.at
   unfolding text_rows row_in marks member pieces_tokens holds what_tokens each_of
   plain-token p g =
       ap (λ (t : List ℕ). token t ∷ []) g
       ∙ ⊎_elim (λ x. by_row (mark "Ki") (token (text_of (rec_of r)) ∷ []) refl p.alone x)
       (λ y. ⊎_elim (λ x. by_row (mark "Op") (token (text_of (rec_of r)) ∷ []) refl p.alone x) (λ x. by_row (mark "Kw") (token (text_of (rec_of r)) ∷ []) refl p.alone x) y) p.kind
 
-  pub name-token : Name (rec_of r) (Code.number_of m) → token (drop 4 (text_of (rec_of r))) ∷ [] ≡ tokens (rec_of r) under r.at
+  pub name-token : Name (rec_of r) → token (drop 4 (text_of (rec_of r))) ∷ [] ≡ tokens (rec_of r) under r.at
   unfolding text_rows row_in marks member pieces_tokens holds what_tokens each_of
   name-token p = by_row (mark "Id") (token (drop 4 (text_of (rec_of r))) ∷ []) (rw p.required) p.alone p.kind

@@ -40,11 +40,11 @@ abbrev pub children_of : ℕ → List ℕ → ℕ → List Child
 children_of levels s at = children_at (levels - 1) s (is_chain s at) (count_at s at) (body_at s at)
 
 -- a record that has its text as its only token: a Ki, an Op or a Kw without children; and one that has its symbol: an Id without children and flag 1
-pub record Plain (r : Rec) (m : ℕ) : Type 0 where
-  pub kind : (m ≡ mark "Ki") ⊎ ((m ≡ mark "Op") ⊎ (m ≡ mark "Kw"))
+pub record Plain (r : Rec) : Type 0 where
+  pub kind : (mark_of r ≡ mark "Ki") ⊎ ((mark_of r ≡ mark "Op") ⊎ (mark_of r ≡ mark "Kw"))
   pub alone : count (kids_of r) ≡ 0
 
-pub record Name (r : Rec) (m : ℕ) : Type 0 where
-  pub kind : m ≡ mark "Id"
+pub record Name (r : Rec) : Type 0 where
+  pub kind : mark_of r ≡ mark "Id"
   pub required : has_flag 1 (head_of r).flags ≡ false
   pub alone : count (kids_of r) ≡ 0

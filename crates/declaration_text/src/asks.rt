@@ -10,8 +10,16 @@ ghost use Rattle.declaration_text.specs.Steps.{parts_in, Plain, Name};
 
 use crate::pieces::When;
 use records::flags::has_flag;
+use records::mark_at;
 use records::marks::Mark;
 use records::tree::{Record, Records};
+
+// Whether the record has a mark, by their numbers: to tell which of all marks it has takes longer.
+pub fn has_mark(r: Record, mark: Mark) -> bool
+    ensures { result ≡ eqb (mark_of (rec_of r.entry)) (number_of mark) }
+{
+    mark_at(r.tree, r.at) == u16::from(mark)
+}
 
 // The children of a record from the number i on.
 pub fn children_from<'t>(r: Record<'t>, i: usize) -> Records<'t>
@@ -47,7 +55,7 @@ fn child_is(r: Record, i: usize, mark: Mark) -> bool
     ensures { result ≡ eqb (mark_of (nth i (parts_in r.entry)).itself) (number_of mark) }
 {
     match child_at(r, i) {
-        Some(child) => child.mark() == mark,
+        Some(child) => has_mark(child, mark),
         None => Mark::No == mark,
     }
 }
@@ -90,16 +98,16 @@ impl When {
     }
 }
 
-// Whether the record, with this mark, is an Op, a Kw or a Ki without children: its text is its only token.
-pub fn is_plain(r: Record, mark: Mark) -> bool
-    ensures { result ≡ true → Plain (rec_of r.entry) (number_of mark) }
+// Whether the record is an Op, a Kw or a Ki without children: its text is its only token.
+pub fn is_plain(r: Record) -> bool
+    ensures { result ≡ true → Plain (rec_of r.entry) }
 {
-    matches!(mark, Mark::Op | Mark::Kw | Mark::Ki) && r.count() == 0
+    (has_mark(r, Mark::Op) || has_mark(r, Mark::Kw) || has_mark(r, Mark::Ki)) && r.count() == 0
 }
 
 // Whether it is an Id without children and without flag 1: its symbol is its only token.
-pub fn is_name(r: Record, mark: Mark) -> bool
-    ensures { result ≡ true → Name (rec_of r.entry) (number_of mark) }
+pub fn is_name(r: Record) -> bool
+    ensures { result ≡ true → Name (rec_of r.entry) }
 {
-    mark == Mark::Id && !flag_is_set(r, 1) && r.count() == 0
+    has_mark(r, Mark::Id) && !flag_is_set(r, 1) && r.count() == 0
 }

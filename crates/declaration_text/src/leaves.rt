@@ -7,6 +7,7 @@ ghost use Rattle.text_tokens.specs.Writes.{Writes, last_of};
 ghost use Rattle.declaration_text.specs.Steps.{parts_of};
 ghost use Rattle.declaration_text.specs.Templates.{Split, QuasisAre, ExpressionsAre, quasi_if};
 
+use crate::asks::has_mark;
 use records::marks::Mark;
 use records::tree::{Record, Records};
 use text_tokens::State;
@@ -23,14 +24,13 @@ pub fn put_symbol(r: Record, out: &mut [u8], s: State) -> State
 pub fn comma_follows(element: Record, behind: Records) -> bool
     ensures { (under : Bool) → result ≡ (more (parts_of under behind.entry) || is_no (rec_of element.entry)) }
 {
-    if element.mark() == Mark::No {
+    if has_mark(element, Mark::No) {
         return true;
     }
     if behind.count == 0 {
         return false;
     }
-    let op_follows = behind.first().mark() == Mark::Op;
-    !op_follows
+    !has_mark(behind.first(), Mark::Op)
 }
 
 // Whether a token was written, and the last one ends in `;`.

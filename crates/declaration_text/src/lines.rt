@@ -5,7 +5,7 @@ ghost use Rattle.records.specs.Views.{rec_of, recs_of};
 ghost use Rattle.records.specs.Wrote.{Put};
 ghost use Rattle.declaration_text.specs.Lines.{WritesLines, closing, Found};
 
-use crate::asks::child_at;
+use crate::asks::{child_at, has_mark};
 use crate::table::Tables;
 use records::marks::Mark;
 use records::tree::{Record, Records};
@@ -85,7 +85,7 @@ impl Tables {
         ensures { WritesLines out.old out.new s result
             (item_line (rec_of item.entry) depth item.entry.at (block_lines (rec_of item.entry) depth item.entry.at)) }
     {
-        if matches!(item.mark(), Mark::St | Mark::Op) {
+        if has_mark(item, Mark::St) || has_mark(item, Mark::Op) {
             return s;
         }
         let next = self.put_line(item, depth, out, s);

@@ -8,7 +8,7 @@ ghost use Rattle.declaration_text.specs.Table.{each_by, piece_is};
 ghost use Rattle.declaration_text.specs.Steps.{part_of, parts_of, parts_in};
 ghost use Rattle.declaration_text.specs.Templates.{braces_if};
 
-use crate::asks::{child_at, children_from, is_name, is_plain};
+use crate::asks::{child_at, children_from, has_mark, is_name, is_plain};
 use crate::leaves::{
     comma_follows, ends_in_semicolon, expressions, put_quasi, put_symbol, split_quasis,
 };
@@ -65,16 +65,16 @@ impl Tables {
         ensures { Writes out.old out.new s result
             (each_by each (part_of under child.entry) (parts_of under behind.entry)) }
     {
-        let mark = child.mark();
+        let is_op = has_mark(child, Mark::Op);
         match each {
             Each::Ops => {
-                if mark != Mark::Op {
-                    return s;
+                if is_op {
+                    return self.write(child, under, out, s);
                 }
-                self.write(child, under, out, s)
+                s
             }
             Each::Elements => {
-                if mark == Mark::Op {
+                if is_op {
                     return s;
                 }
                 let next = self.write(child, under, out, s);
@@ -84,7 +84,7 @@ impl Tables {
                 next
             }
             Each::Members => {
-                if mark == Mark::Op || mark == Mark::Dm {
+                if is_op || has_mark(child, Mark::Dm) {
                     return s;
                 }
                 let next = self.write(child, under, out, s.cleared());
@@ -118,7 +118,7 @@ impl Tables {
         if r.count() <= slots {
             return s;
         }
-        let under = r.mark() == Mark::Oc;
+        let under = has_mark(r, Mark::Oc);
         self.siblings(children_from(r, slots), under, each, out, s)
     }
 
@@ -130,7 +130,7 @@ impl Tables {
         let Some(child) = child_at(r, i) else {
             return s;
         };
-        self.write(child, r.mark() == Mark::Oc, out, s)
+        self.write(child, has_mark(r, Mark::Oc), out, s)
     }
 
     // A number: its spelling, where it has one, else its decimal.
@@ -166,7 +166,7 @@ impl Tables {
             What::Word(start, size) => s.put_token(self.word(start, size), out),
             What::Child(i) => self.child(r, i, out, s),
             What::Behind(each) => self.behind(r, slots, each, out, s),
-            What::Template => { self.template(r.children(), r.mark() == Mark::Oc, out, s) }
+            What::Template => { self.template(r.children(), has_mark(r, Mark::Oc), out, s) }
             What::Text => s.put_token(r.text(), out),
             What::Symbol => put_symbol(r, out, s),
             What::String => s.put_string(r.text(), out),
@@ -180,14 +180,13 @@ impl Tables {
     pub fn write(&self, r: Record, under: bool, out: &mut [u8], s: State) -> State
         ensures { Writes out.old out.new s result (tokens (rec_of r.entry) under r.entry.at) }
     {
-        let mark = r.mark();
-        if is_plain(r, mark) {
+        if is_plain(r) {
             return s.put_token(r.text(), out);
         }
-        if is_name(r, mark) {
+        if is_name(r) {
             return put_symbol(r, out, s);
         }
-        let row = mark as usize;
+        let row = r.mark() as usize;
         let slots = self.slots(row);
         let mut next = s;
         for i in 0..PIECES {

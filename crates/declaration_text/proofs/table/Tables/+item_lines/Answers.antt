@@ -1,31 +1,25 @@
 -- `put_item` and `put_items` meet their contracts: a block's items have fewer levels left.
-use mathlib.Core.Path.{refl}
+use mathlib.Core.Path.{refl, sym, ◌∙◌}
 use native.Mathlib.Omega.{arith}
 use Rattle.declaration_text.proofs.LinesWritten.{lines_none, lines-as}
-use Rattle.declaration_text.proofs.Blocks.{no_item, an_item, item_none, item_line_lem, item-block, listing_start, listing-turn, listing-done}
+use Rattle.declaration_text.proofs.Blocks.{item_star, item-op, item_line_lem, item-block, listing_start, listing-turn, listing-done}
 use Rattle.declaration_text.proofs.table.Tables.+item_lines.Goals as goal
-use Rattle.declaration_text.proofs.table.Tables.+item_lines.Goals.{put_item-in-St, put_item-in_default}
+use Rattle.declaration_text.proofs.table.Tables.+item_lines.Goals.{put_item-then-has_mark-via-then-has_mark, put_item-then-has_mark-via-else-has_mark+then-has_mark-2}
 
 -- ---- one item
 
-pub put_item-returns-then-matches : goal.put_item-returns-then-matches
-put_item-returns-then-matches t c =
-    lines-as (lines_none _ _ (omega (arith, c.well_formed))) (item_none c.args.item c.args.depth (elim c.match-matches.branch [
-      | put_item-in-St w ↦ no_item c.args.item _ c.mark.ensures w.in-St.is
-      | put_item-in_default w ↦ absurd (cc (w.matches-is, c.if-matches.true))
-    ]))
+pub put_item-returns-then-has_mark : goal.put_item-returns-then-has_mark
+put_item-returns-then-has_mark t c =
+    lines-as (lines_none _ _ (omega (arith, c.well_formed))) (elim c.then-has_mark.branch [
+      | put_item-then-has_mark-via-then-has_mark w ↦ item_star c.args.item c.args.depth (sym c.has_mark.ensures ∙ w.if-has_mark.true)
+      | put_item-then-has_mark-via-else-has_mark+then-has_mark-2 w ↦ item-op c.args.item c.args.depth (sym c.has_mark.ensures ∙ w.if-has_mark.false) (sym w.has_mark-else-has_mark.ensures ∙ w.if-has_mark-2.true)
+    ])
 
 pub put_item-returns-in-Some : goal.put_item-returns-in-Some
-put_item-returns-in-Some t c = item-block c.args.item c.args.depth (elim c.match-matches.branch [
-  | put_item-in-St w ↦ absurd (cc (w.matches-is, c.if-matches.false))
-  | put_item-in_default w ↦ an_item c.args.item _ c.mark.ensures w.in_default.not-St w.in_default.not-Op
-]) c.put_line-next.ensures c.in-Some.ensures c.children.ensures refl (omega (arith, c.well_formed)) c.put_items-inner.ensures c.put_closing.ensures
+put_item-returns-in-Some t c = item-block c.args.item c.args.depth (sym c.has_mark.ensures ∙ c.if-has_mark.false) (sym c.has_mark-else-has_mark.ensures ∙ c.if-has_mark-2.false) c.put_line-next.ensures c.in-Some.ensures c.children.ensures refl (omega (arith, c.well_formed)) c.put_items-inner.ensures c.put_closing.ensures
 
 pub put_item-returns-in-None : goal.put_item-returns-in-None
-put_item-returns-in-None t c = item_line_lem c.args.item c.args.depth (elim c.match-matches.branch [
-  | put_item-in-St w ↦ absurd (cc (w.matches-is, c.if-matches.false))
-  | put_item-in_default w ↦ an_item c.args.item _ c.mark.ensures w.in_default.not-St w.in_default.not-Op
-]) c.put_line-next.ensures c.in-None.ensures
+put_item-returns-in-None t c = item_line_lem c.args.item c.args.depth (sym c.has_mark.ensures ∙ c.if-has_mark.false) (sym c.has_mark-else-has_mark.ensures ∙ c.if-has_mark-2.false) c.put_line-next.ensures c.in-None.ensures
 
 -- ---- the items one after the other
 

@@ -4,13 +4,11 @@ use mathlib.Core.List.{List, [], ◌∷◌}
 use Prim.Native.Nat.{ℕ}
 use native.Mathlib.Omega.{arith}
 use Rattle.definition.specs.Text.{token, string_token, integer_token, what_tokens}
-use Rattle.records.specs.declared.marks.Mark.TheVariants.{Op, Dm, Oc}
-use Rattle.records.proofs.SameMarks.{tested, same, other}
 use Rattle.text_tokens.proofs.Writes.{writes_as, writes-same, writes_then}
 use Rattle.declaration_text.specs.Table.{each_by}
 use Rattle.declaration_text.proofs.Written.{writes_nothing, none-behind, some-behind, braced-some, braced-none, no_child_lem, child-tokens, number-alone, number-spelt, piece-not, piece-says, behind-is, template_of_lem, op-written, no_op, no_element, element-comma, element-last, op_no_member, no_member, member-closed, member-ends, member_follows, telling_start, telling_turn, telling_done, template-is, turning_start, turning_turn, turning_done, reading-start, reading-turn, reading-end, reading-done, plain-token, name-token}
 use Rattle.declaration_text.proofs.table.Tables.+written.Goals as goal
-use Rattle.declaration_text.proofs.table.Tables.+written.Goals.{sibling-then-eq-2-via-then-eq-2, sibling-then-eq-2-via-else-eq-2+then-eq-3}
+use Rattle.declaration_text.proofs.table.Tables.+written.Goals.{sibling-then-is_op-3-via-then-is_op-3, sibling-then-is_op-3-via-else-is_op-3+then-has_mark}
 
 -- ---- the children behind the slots, and one of them
 
@@ -18,13 +16,13 @@ pub behind-returns-then-count-slots : goal.behind-returns-then-count-slots
 behind-returns-then-count-slots t c = writes_nothing _ _ (omega (arith, c.well_formed)) (none-behind c.args.r (each_by c.args.each) c.args.slots (omega (arith, c.count.ensures, c.if-count-slots.true)))
 
 pub behind-returns : goal.behind-returns
-behind-returns t c = writes_as c.siblings.ensures (some-behind c.args.r (each_by c.args.each) c.children_from.ensures (c.eq-under.ensures ∙ tested _ c.mark.ensures Oc))
+behind-returns t c = writes_as c.siblings.ensures (some-behind c.args.r (each_by c.args.each) c.children_from.ensures (c.has_mark-under.ensures))
 
 pub child-returns-in_default : goal.child-returns-in_default
 child-returns-in_default t c = writes_nothing _ _ (omega (arith, c.well_formed)) (no_child_lem c.args.r c.in_default.ensures)
 
 pub child-returns : goal.child-returns
-child-returns t c = writes_as c.write.ensures (child-tokens c.args.r c.in-Some.ensures (c.eq.ensures ∙ tested _ c.mark.ensures Oc))
+child-returns t c = writes_as c.write.ensures (child-tokens c.args.r c.in-Some.ensures (c.has_mark.ensures))
 
 pub number-returns-then-count-eq0 : goal.number-returns-then-count-eq0
 number-returns-then-count-eq0 t c = writes_as c.put_number.ensures (number-alone c.args.r (omega (arith, c.count.ensures, c.if-count-eq0.true)) c.text.ensures)
@@ -54,33 +52,33 @@ template-returns t c = writes_as (writes_then (omega (arith, c.well_formed)) c.p
 
 -- ---- one of the children behind the slots
 
-pub sibling-returns-then-ne : goal.sibling-returns-then-ne
-sibling-returns-then-ne t c = rw c.in-Ops.is (writes_nothing _ _ (omega (arith, c.well_formed)) (no_op _ _ _ (other _ c.mark-mark.ensures Op c.ne.ensures c.if-ne.true)))
+pub sibling-returns-then-is_op : goal.sibling-returns-then-is_op
+sibling-returns-then-is_op t c = rw c.in-Ops.is (writes_as c.write.ensures (op-written _ _ _ (sym c.has_mark-is_op.ensures ∙ c.if-is_op.true)))
 
-pub sibling-returns-else-ne : goal.sibling-returns-else-ne
-sibling-returns-else-ne t c = rw c.in-Ops.is (writes_as c.write.ensures (op-written _ _ _ (same _ c.mark-mark.ensures Op c.ne.ensures c.if-ne.false)))
+pub sibling-returns-else-is_op : goal.sibling-returns-else-is_op
+sibling-returns-else-is_op t c = rw c.in-Ops.is (writes_nothing _ _ (omega (arith, c.well_formed)) (no_op _ _ _ (sym c.has_mark-is_op.ensures ∙ c.if-is_op.false)))
 
-pub sibling-returns-then-eq : goal.sibling-returns-then-eq
-sibling-returns-then-eq t c = rw c.in-Elements.is (writes_nothing _ _ (omega (arith, c.well_formed)) (no_element _ _ _ (sym (tested _ c.mark-mark.ensures Op) ∙ sym c.eq.ensures ∙ c.if-eq.true)))
+pub sibling-returns-then-is_op-2 : goal.sibling-returns-then-is_op-2
+sibling-returns-then-is_op-2 t c = rw c.in-Elements.is (writes_nothing _ _ (omega (arith, c.well_formed)) (no_element _ _ _ (sym c.has_mark-is_op.ensures ∙ c.if-is_op-2.true)))
 
 pub sibling-returns-then-comma_follows : goal.sibling-returns-then-comma_follows
-sibling-returns-then-comma_follows t c = rw c.in-Elements.is (writes_as (writes_then (omega (arith, c.well_formed)) c.write-next.ensures c.put_token.ensures) (element-comma _ _ _ (sym (tested _ c.mark-mark.ensures Op) ∙ sym c.eq.ensures ∙ c.if-eq.false) (c.comma_follows.ensures _) c.if-comma_follows.true))
+sibling-returns-then-comma_follows t c = rw c.in-Elements.is (writes_as (writes_then (omega (arith, c.well_formed)) c.write-next.ensures c.put_token.ensures) (element-comma _ _ _ (sym c.has_mark-is_op.ensures ∙ c.if-is_op-2.false) (c.comma_follows.ensures _) c.if-comma_follows.true))
 
 pub sibling-returns-else-comma_follows : goal.sibling-returns-else-comma_follows
-sibling-returns-else-comma_follows t c = rw c.in-Elements.is (writes_as c.write-next.ensures (element-last _ _ _ (sym (tested _ c.mark-mark.ensures Op) ∙ sym c.eq.ensures ∙ c.if-eq.false) (c.comma_follows.ensures _) c.if-comma_follows.false))
+sibling-returns-else-comma_follows t c = rw c.in-Elements.is (writes_as c.write-next.ensures (element-last _ _ _ (sym c.has_mark-is_op.ensures ∙ c.if-is_op-2.false) (c.comma_follows.ensures _) c.if-comma_follows.false))
 
-pub sibling-returns-then-eq-2 : goal.sibling-returns-then-eq-2
-sibling-returns-then-eq-2 t c =
-    rw c.in-Members.is (writes_nothing _ _ (omega (arith, c.well_formed)) (elim c.then-eq-2.branch [
-      | sibling-then-eq-2-via-then-eq-2 w ↦ op_no_member _ _ _ (sym (tested _ c.mark-mark.ensures Op) ∙ sym c.eq-in-Members.ensures ∙ w.if-eq-2.true)
-      | sibling-then-eq-2-via-else-eq-2+then-eq-3 w ↦ no_member _ _ _ (sym (tested _ c.mark-mark.ensures Op) ∙ sym c.eq-in-Members.ensures ∙ w.if-eq-2.false) (sym (tested _ c.mark-mark.ensures Dm) ∙ sym w.eq-else-eq-2.ensures ∙ w.if-eq-3.true)
+pub sibling-returns-then-is_op-3 : goal.sibling-returns-then-is_op-3
+sibling-returns-then-is_op-3 t c =
+    rw c.in-Members.is (writes_nothing _ _ (omega (arith, c.well_formed)) (elim c.then-is_op-3.branch [
+      | sibling-then-is_op-3-via-then-is_op-3 w ↦ op_no_member _ _ _ (sym c.has_mark-is_op.ensures ∙ w.if-is_op-3.true)
+      | sibling-then-is_op-3-via-else-is_op-3+then-has_mark w ↦ no_member _ _ _ (sym c.has_mark-is_op.ensures ∙ w.if-is_op-3.false) (sym w.has_mark.ensures ∙ w.if-has_mark.true)
     ]))
 
 pub sibling-returns-then-ends_in_semicolon : goal.sibling-returns-then-ends_in_semicolon
-sibling-returns-then-ends_in_semicolon t c = rw c.in-Members.is (writes_as (member-ends _ c.cleared.ensures c.write-next-in-Members.ensures c.ends_in_semicolon.ensures c.if-ends_in_semicolon.true) (member-closed _ _ _ (sym (tested _ c.mark-mark.ensures Op) ∙ sym c.eq-in-Members.ensures ∙ c.if-eq-2.false) (sym (tested _ c.mark-mark.ensures Dm) ∙ sym c.eq-else-eq-2.ensures ∙ c.if-eq-3.false)))
+sibling-returns-then-ends_in_semicolon t c = rw c.in-Members.is (writes_as (member-ends _ c.cleared.ensures c.write-next-in-Members.ensures c.ends_in_semicolon.ensures c.if-ends_in_semicolon.true) (member-closed _ _ _ (sym c.has_mark-is_op.ensures ∙ c.if-is_op-3.false) (sym c.has_mark.ensures ∙ c.if-has_mark.false)))
 
 pub sibling-returns-else-ends_in_semicolon : goal.sibling-returns-else-ends_in_semicolon
-sibling-returns-else-ends_in_semicolon t c = rw c.in-Members.is (writes_as (member_follows _ c.cleared.ensures c.write-next-in-Members.ensures c.ends_in_semicolon.ensures (omega (arith, c.well_formed)) c.if-ends_in_semicolon.false c.put_token-in-Members.ensures) (member-closed _ _ _ (sym (tested _ c.mark-mark.ensures Op) ∙ sym c.eq-in-Members.ensures ∙ c.if-eq-2.false) (sym (tested _ c.mark-mark.ensures Dm) ∙ sym c.eq-else-eq-2.ensures ∙ c.if-eq-3.false)))
+sibling-returns-else-ends_in_semicolon t c = rw c.in-Members.is (writes_as (member_follows _ c.cleared.ensures c.write-next-in-Members.ensures c.ends_in_semicolon.ensures (omega (arith, c.well_formed)) c.if-ends_in_semicolon.false c.put_token-in-Members.ensures) (member-closed _ _ _ (sym c.has_mark-is_op.ensures ∙ c.if-is_op-3.false) (sym c.has_mark.ensures ∙ c.if-has_mark.false)))
 
 pub siblings-loop-next-init : goal.siblings-loop-next-init
 siblings-loop-next-init t c = telling_start _ _ _ _ _ (omega (arith, c.well_formed))
@@ -109,7 +107,7 @@ put_piece-returns-in-Behind t c = writes_as c.behind.ensures (behind-is _ _ _ _ 
 
 pub put_piece-returns-in-Template : goal.put_piece-returns-in-Template
 unfolding what_tokens
-put_piece-returns-in-Template t c = writes_as c.template.ensures (template_of_lem c.children.ensures (c.eq.ensures ∙ tested _ c.mark.ensures Oc) ∙ (piece-says _ _ _ _ _ _ c.holds.ensures c.if-not-holds.false c.in-Template.is))
+put_piece-returns-in-Template t c = writes_as c.template.ensures (template_of_lem c.children.ensures (c.has_mark.ensures) ∙ (piece-says _ _ _ _ _ _ c.holds.ensures c.if-not-holds.false c.in-Template.is))
 
 pub put_piece-returns-in-Text : goal.put_piece-returns-in-Text
 unfolding what_tokens
@@ -134,13 +132,13 @@ put_piece-returns-in-Integer t c = writes_as c.put_integer.ensures (ap (λ (x : 
 -- ---- a record
 
 pub write-returns-then-is_plain : goal.write-returns-then-is_plain
-write-returns-then-is_plain t c = writes_as c.put_token.ensures (plain-token _ _ _ c.mark-mark.ensures (c.is_plain.ensures c.if-is_plain.true) c.text.ensures)
+write-returns-then-is_plain t c = writes_as c.put_token.ensures (plain-token _ _ (c.is_plain.ensures c.if-is_plain.true) c.text.ensures)
 
 pub write-returns-then-is_name : goal.write-returns-then-is_name
-write-returns-then-is_name t c = writes_as c.put_symbol.ensures (name-token _ _ _ c.mark-mark.ensures (c.is_name.ensures c.if-is_name.true))
+write-returns-then-is_name t c = writes_as c.put_symbol.ensures (name-token _ _ (c.is_name.ensures c.if-is_name.true))
 
 pub write-loop-i-init : goal.write-loop-i-init
-write-loop-i-init t c = reading-start _ _ _ c.mark-mark.ensures refl _ _ (omega (arith, c.well_formed))
+write-loop-i-init t c = reading-start _ _ _ c.mark-row.ensures refl _ _ (omega (arith, c.well_formed))
 
 pub write-returns-in_default : goal.write-returns-in_default
 write-returns-in_default t c = reading-end c.loop-i.invariant c.in_default.ensures
