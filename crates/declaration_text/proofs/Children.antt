@@ -9,7 +9,7 @@ use lib.ListN.{length, drop}
 use Rattle.definition.specs.Tree.{head_size, encode, encodes, count_at, length_at, body_at, head_at, read_all, end_of_all, end_at, tree_at}
 use Rattle.definition.specs.Children.{AcceptedAt, AllAccepted, child_at}
 use Rattle.definition.specs.Text.{no_child, nth, children, size_of}
-use Rattle.definition.proofs.Children.{child, children as kids, first_one, others, read_all_more, read_all_none}
+use Rattle.definition.proofs.Children.{children as kids, first_one, others, read_all_more, read_all_none}
 use Rattle.definition.proofs.Places.{part_length}
 use Rattle.definition.proofs.TextOutside.{size_is, sizes_are}
 use Rattle.records.specs.Whole.{Each, Whole}
@@ -96,6 +96,3 @@ module _ (levels : ℕ) (s : List ℕ) (at : ℕ) (a : AcceptedAt levels s at) w
 
   pub kid_at : (i : ℕ) → i < count_at s at → nth i (children_of levels s at) ≡ child_alone (levels - 1) s (is_chain s at) (child_at levels s at i)
   kid_at i h = nth-is (levels - 1) s (is_chain s at) i (count_at s at) (body_at s at) (kids levels s at a) h
-
-  pub kid-accepted : (i : ℕ) → i < count_at s at → AcceptedAt (levels - 1) s (child_at levels s at i)
-  kid-accepted i h = child levels s at a i h

@@ -35,9 +35,6 @@ pub counting_start : (Q : ℕ → ℕ → ℕ → Type 0) (levels : ℕ) (s : Li
 counting_start Q levels s n at a = record { few = omega arith; kids = a; back = λ r. λ q. let z : n - n + r ≡ r = omega arith in rw z q }
 
 module _ {Q : ℕ → ℕ → ℕ → Type 0} {levels : ℕ} {s : List ℕ} {n at k c : ℕ} (l : Counting Q levels s n at k c) where
-  pub counting_first : 0 < k → AcceptedAt levels s c
-  counting_first h = first_one levels s k c l.kids h
-
   -- one more is counted
   pub counting_turn : 0 < k → ((r : ℕ) → Q (k - 1) (end_at levels s c) r → Q k c (suc r)) → {d : ℕ} → d ≡ end_at levels s c → Counting Q levels s n at (k - 1) d
   counting_turn h step e =
@@ -51,9 +48,6 @@ module _ {Q : ℕ → ℕ → ℕ → Type 0} {levels : ℕ} {s : List ℕ} {n a
   -- no more are counted
   pub counting_stop : Q k c 0 → Q n at (n - k)
   counting_stop q = let z : n - k ≡ n - k + 0 = omega arith in rw z (l.back 0 q)
-
-  pub counting_done : k ≤ 0 → Q k c 0 → Q n at n
-  counting_done h q = let f = l.few in let z : n - k ≡ n = omega arith in rw z at (counting_stop q)
 
 module _ (levels : ℕ) (s : List ℕ) where
   pub quasis-none : (k c : ℕ) → k ≤ 0 → Quasis levels s k c 0

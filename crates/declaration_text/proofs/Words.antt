@@ -1,16 +1,11 @@
--- What is told of a record without its children: its symbol, and the `,` behind an element.
-use mathlib.Core.Path.{◌≡◌, sym, ap, ◌∙◌}
-use mathlib.Core.List.{List, [], ◌∷◌}
+-- What is told of an element without its children: the `,` behind it.
+use mathlib.Core.Path.{◌≡◌, sym}
 use mathlib.Core.Bool.{Bool, true, false, not, ◌||◌}
-use Prim.Native.Nat.{ℕ, ◌-◌, ◌<◌, ◌≤◌, min}
-use native.Mathlib.Omega.{arith}
+use Prim.Native.Nat.{◌<◌}
 use lib.Dec.{eqb}
-use lib.ListN.{length, take, drop, length-drop, drop_of_length-le}
-use lib.Seq.{take_all}
-use native.Mathlib.Decide.{dec_le}
 use Rattle.definition.specs.Grammar.{mark}
 use Rattle.definition.specs.Record.{mark_of, is_no}
-use Rattle.definition.specs.Text.{token, more, children}
+use Rattle.definition.specs.Text.{more, children}
 use Rattle.records.specs.declared.tree.Record.{Record}
 use Rattle.records.specs.declared.tree.Records.{Records}
 use Rattle.records.specs.Views.{rec_of, recs_of, FirstOf}
@@ -19,18 +14,6 @@ use Rattle.definition.specs.Tree.{end_at, tree_at}
 use Rattle.text_tokens.proofs.Writes.{or_false, or_true}
 use Rattle.declaration_text.specs.Steps.{parts_of}
 use Rattle.declaration_text.proofs.Parts.{parts_none}
-
--- ---- symbols
-
--- what stands behind the first 4 bytes of a text, if it is as long
-pub symbol-is : {t u : List ℕ} → t ≡ u → {k : ℕ} → k ≡ min (length t) 4 → token (take (length t - k) (drop k t)) ∷ [] ≡ token (drop 4 u) ∷ []
-symbol-is {t} e {k} f = rw (← e) (ap (λ (l : List ℕ). token l ∷ []) (take_all (length t - k) (drop k t) (rw length-drop (omega arith)) ∙ go (dec_le 4 (length t))))
-  where
-    go : Dec (4 ≤ length t) → drop k t ≡ drop 4 t
-    go (yes h) = let z : k ≡ 4 = omega arith in rw z
-    go (no h) = drop_of_length-le t {i = k} (omega arith) ∙ sym (drop_of_length-le t {i = 4} (omega arith))
-
--- ---- the `,` behind an element
 
 module _ (x : Record) (k : Records) (under : Bool) where
   -- a hole
