@@ -18,7 +18,7 @@ const LIST: usize = 40970;
 // More than the longest tree's declarations take.
 const OUTPUT: usize = 524544;
 
-const OV: usize = 0x766f;
+const OV: u16 = 0x766f;
 
 // The bytes of an item that fills a tree, and of its text, behind two heads.
 const FILLER: usize = 65534;
@@ -87,7 +87,7 @@ fn nest(tree: &mut [u8], levels: usize) {
 fn entries(list: &mut [u8], count: usize) {
     let mut p: usize = 0;
     for _ in 0..count {
-        records::put2(list, p, OV);
+        records::put_text(list, p, &OV.to_le_bytes());
         p = records::advance(p, ENTRY_SIZE);
     }
 }
