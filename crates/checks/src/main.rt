@@ -5,9 +5,8 @@
 use std::io;
 
 fn main(rt: HostRuntime) -> io::Result<()> {
-    let mut buffer = [0u8; console::TREE_ROOM];
-    if let Some(length) = console::read_tree(&rt, &mut buffer)? {
-        console::print_check(&rt, &buffer[..length])?;
-    }
-    Ok(())
+    console::run(&rt, |tree| {
+        console::print_check(&rt, tree)?;
+        Ok(())
+    })
 }

@@ -7,16 +7,18 @@ ghost use Rattle.definition.specs.Check.{longest_tree, deepest};
 ghost use Rattle.definition.specs.Children.{AcceptedAt};
 
 use grammar::Refused;
+use shown::{Answer, Refusal};
 use std::io;
 use std::io::Read as _;
 
 pub mod replay;
+pub mod shown;
 
 // The unresolved context that the programs take; their overload list is empty.
 pub const UNRESOLVED: u32 = 1;
 
 // The most trees behind their lengths that are read.
-pub const MOST: usize = 65536;
+const MOST: usize = 65536;
 
 // The room for an output, and for its diagnostics, where they are short.
 pub const ROOM: usize = 4096;
@@ -33,6 +35,15 @@ pub const FRAMED_ROOM: usize = 65536;
 pub const OUTPUT_ROOM: usize = 65536;
 
 pub const DIAGNOSTICS_ROOM: usize = 21840;
+
+// The longest tree and the longest overload list that are accepted, and what is too long by one byte, and by one entry.
+pub const LONGEST_TREE: usize = 524288;
+
+pub const TREE_TOO_LONG: usize = 524289;
+
+pub const LONGEST_LIST: usize = 40960;
+
+pub const LIST_TOO_LONG: usize = 40970;
 
 // ---- Buffers
 
@@ -101,7 +112,7 @@ pub fn read_framed(rt: &impl Input, buffer: &mut [u8]) -> io::Result<Option<usiz
     if read_bytes(rt, &mut size, 2)?.is_none() {
         return Ok(None);
     }
-    read_bytes(rt, buffer, records::u16_at(&size, 0) as usize)
+    read_bytes(rt, buffer, usize::from(u16::from_le_bytes(size)))
 }
 
 // A tree that is read alone, all of standard input; prints `too long` where there is more.
@@ -119,50 +130,75 @@ pub fn read_tree(
     Ok(Some(length))
 }
 
-// ---- Printing
+// ---- Programs
 
-pub fn print(rt: &impl Print, text: &[u8]) -> io::Result<()> {
-    rt.write_all(text)
+// Why a program stops before its end: a refusal, or an error of reading or printing.
+#[derive(Debug, Drop)]
+pub enum Stop {
+    Refused(Refused),
+    Failed(io::Error),
 }
 
-pub fn print_number(rt: &impl Print, n: usize) -> io::Result<()> {
-    print!(rt; "{n}")
+impl From<Refused> for Stop {
+    ghost use Rattle.console.specs.declared.Stop.TheVariants.{Refused};
+
+    ghost from_gives = { λ refused stop. stop ≡ Refused refused };
+
+    fn from(refused: Refused) -> Stop {
+        Stop::Refused(refused)
+    }
 }
 
-// Two digits for each byte.
-pub fn print_hex(rt: &impl Print, bytes: &[u8]) -> io::Result<()> {
-    for b in bytes {
-        print!(rt; "{b:02x}")?;
+impl From<io::Error> for Stop {
+    ghost use Rattle.console.specs.declared.Stop.TheVariants.{Failed};
+
+    ghost from_gives = { λ error stop. stop ≡ Failed error };
+
+    fn from(error: io::Error) -> Stop {
+        Stop::Failed(error)
+    }
+}
+
+// Runs a program on a tree that is read alone, and prints the refusal where it stops at one.
+pub fn run<F: FnOnce(&[u8]) -> Result<(), Stop>>(
+    rt: &(impl Input + Print),
+    program: F,
+) -> io::Result<()>
+    requires { F.IsAlwaysCallable program }
+{
+    let mut buffer = [0u8; TREE_ROOM];
+    let Some(length) = read_tree(rt, &mut buffer)? else {
+        return Ok(());
+    };
+    match program(&buffer[..length]) {
+        Ok(()) => Ok(()),
+        Err(Stop::Refused(refused)) => println!(rt; "{}", Refusal(refused)),
+        Err(Stop::Failed(error)) => Err(error),
+    }
+}
+
+// Hands each tree of standard input to `show`, with its number. They stand behind their lengths, in two bytes each.
+pub fn for_each_tree<F: FnMut(usize, &[u8]) -> io::Result<()>>(
+    rt: &impl Input,
+    buffer: &mut [u8],
+    mut show: F,
+) -> io::Result<()>
+    requires { F.IsAlwaysCallable show }
+{
+    for number in 1..=MOST {
+        let Some(length) = read_framed(rt, buffer)? else {
+            break;
+        };
+        show(number, &buffer[..length])?;
     }
     Ok(())
 }
 
-// A success: the bytes of the output and the number of diagnostics.
-pub fn print_done(rt: &impl Print, length: usize, count: usize) -> io::Result<()> {
-    print!(rt; "ok {length} {count}")
-}
-
-// A refusal, a line: its number and its place.
-pub fn print_refusal(rt: &impl Print, refused: Refused) -> io::Result<()> {
-    println!(rt;
-        "refused {} at {}",
-        u32::from(refused.refusal),
-        refused.place
-    )
-}
-
-// The check's answer for a tree, a line; whether it is accepted.
+// Prints the check's answer for a tree, a line; whether it is accepted.
 pub fn print_check(rt: &impl Print, tree: &[u8]) -> io::Result<bool>
     ensures { IfOk result (λ r. r ≡ true → AcceptedAt deepest tree.now 0 × (length tree.now ≤ longest_tree)) }
 {
-    match grammar::check_tree(tree, b"") {
-        Ok(_) => {
-            println!(rt; "accepted")?;
-            Ok(true)
-        }
-        Err(refused) => {
-            print_refusal(rt, refused)?;
-            Ok(false)
-        }
-    }
+    let answer = grammar::check_tree(tree, b"");
+    println!(rt; "{}", Answer(answer.map(|_| "accepted")))?;
+    Ok(answer.is_ok())
 }

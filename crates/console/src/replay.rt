@@ -1,14 +1,29 @@
 // What the test programs share that replay answers: numbers of four bytes, buffers filled with noise, and the loop over the cases.
-ghost use Rattle.std.specs.Prelude.{true, ◌≡◌, ◌+◌, ◌≤◌, length, take};
+ghost use Rattle.std.specs.Prelude.{true, ◌≡◌, ◌+◌, ◌<◌, ◌≤◌, length, take, Ok, Err};
 ghost use Rattle.definition.specs.Tree.{u32_at};
 ghost use Rattle.grammar.specs.Answers.{number};
+ghost use Rattle.console.specs.Replay.{IsExpected};
 
-use crate::front;
+use crate::{front, read_bytes};
 use grammar::Refused;
 use std::io;
 
 // The most cases that are read.
 const MOST: usize = 1000000;
+
+// The numbers in front of a case, of four bytes each; `None` where there is no further case.
+pub fn read_numbers<const N: usize>(rt: &impl Input) -> io::Result<Option<[u32; N]>> {
+    let mut bytes = [[0u8; 4]; N];
+    let all = bytes.as_flattened_mut();
+    if read_bytes(rt, all, all.len())?.is_none() {
+        return Ok(None);
+    }
+    let mut numbers = [0u32; N];
+    for (number, bytes) in numbers.iter_mut().zip(&bytes) {
+        *number = u32::from_le_bytes(*bytes);
+    }
+    Ok(Some(numbers))
+}
 
 // The number of four bytes at a place; 0 where there is none.
 pub fn number_at(bytes: &[u8], at: usize) -> u32
@@ -53,6 +68,35 @@ pub fn is_refusal(refused: Refused, code: usize, place: usize) -> bool
     ensures { result ≡ true → (number refused.refusal ≡ code) × (refused.place ≡ place) }
 {
     u32::from(refused.refusal) as usize == code && refused.place == place
+}
+
+// A refusal as a case tells it: its number and its place.
+#[derive(Clone, Copy)]
+pub struct Told {
+    pub number: usize,
+    pub place: usize,
+}
+
+// What a case expects: 0 as its number stands for what the call gives.
+pub fn expected<T: Copy>(number: usize, place: usize, given: T) -> Result<T, Told>
+    ensures given { number ≡ 0 → result ≡ Ok given }
+    ensures refused { 0 < number → result ≡ Err (record { number = number; place = place }) }
+{
+    match number {
+        0 => Ok(given),
+        _ => Err(Told { number, place }),
+    }
+}
+
+// Whether an answer is the one that a case expects.
+pub fn is_answer<T: PartialEq + Copy>(answer: Result<T, Refused>, expected: Result<T, Told>) -> bool
+    ensures { result ≡ true → IsExpected T.eq answer expected }
+{
+    match (answer, expected) {
+        (Ok(given), Ok(wanted)) => given == wanted,
+        (Err(refused), Err(told)) => is_refusal(refused, told.number, told.place),
+        _ => false,
+    }
 }
 
 // Replays the cases of standard input and counts those that differ. `next` reads the next one: whether it gave what it expects; `None` where there is

@@ -2,58 +2,43 @@
 // as the unresolved context, and prints what the call answers.
 #![tactic(auto)]
 
-ghost use Rattle.std.specs.Prelude.{◌+◌, ◌*◌, ◌≤◌, length};
-
-use console::{DIAGNOSTICS_ROOM, OUTPUT_ROOM, UNRESOLVED, print, print_done, print_refusal};
+use console::shown::Success;
+use console::{DIAGNOSTICS_ROOM, OUTPUT_ROOM, Stop, UNRESOLVED};
 use records::DIAGNOSTIC_SIZE;
-use std::io;
+use std::{fmt, io};
+use transform_dts::Done;
 
-// The places of a diagnostic's parts: its mark is a `d` and a digit, then start and end.
-const DIGIT: usize = 1;
+// A diagnostic's line: "its digit, start, end". Its mark is a `d` and the digit.
+#[derive(Clone, Copy)]
+struct Diagnostic<'a>(&'a [u8; DIAGNOSTIC_SIZE]);
 
-const START: usize = 2;
-
-const END: usize = 6;
-
-// The diagnostic at `at`: "its digit, start, end".
-fn show_diagnostic(rt: &impl Print, diagnostics: &[u8], at: usize) -> io::Result<()>
-    requires { at + 10 ≤ length diagnostics.now }
-{
-    print(rt, &diagnostics[at + DIGIT..at + START])?;
-    println!(rt;
-        " {} {}",
-        records::u32_at(diagnostics, at + START),
-        records::u32_at(diagnostics, at + END)
-    )
-}
-
-// The first `count`, each "on one line".
-fn show_diagnostics(rt: &impl Print, diagnostics: &[u8], count: usize) -> io::Result<()>
-    requires { count * 10 ≤ length diagnostics.now }
-{
-    for i in 0..count {
-        show_diagnostic(rt, diagnostics, i * DIAGNOSTIC_SIZE)?;
+impl fmt::Display for Diagnostic<'_> {
+    fn fmt<W: fmt::Write>(&self, f: &mut fmt::Formatter<W>) -> fmt::Result {
+        let [_, digit, s0, s1, s2, s3, e0, e1, e2, e3] = *self.0;
+        let start = u32::from_le_bytes([s0, s1, s2, s3]);
+        let end = u32::from_le_bytes([e0, e1, e2, e3]);
+        write!(f, "{} {start} {end}", char::from(digit))
     }
-    Ok(())
 }
 
-fn declare(rt: &impl Print, tree: &[u8]) -> io::Result<()> {
+fn declare(rt: &impl Print, tree: &[u8]) -> Result<(), Stop> {
     let mut out = [0u8; OUTPUT_ROOM];
     let mut diagnostics = [0u8; DIAGNOSTICS_ROOM];
-    match transform_dts::transform(tree, b"", UNRESOLVED, &mut out, &mut diagnostics) {
-        Ok(done) => {
-            print_done(rt, done.length, done.count)?;
-            print(rt, b"\n")?;
-            show_diagnostics(rt, &diagnostics, done.count)
-        }
-        Err(refused) => print_refusal(rt, refused),
+    let Done { length, count } = transform_dts::transform(
+        tree,
+        b"",
+        UNRESOLVED,
+        &mut out,
+        &mut diagnostics,
+    )?;
+    println!(rt; "{}", Success { length, count })?;
+    let (written, _) = diagnostics.as_chunks();
+    for diagnostic in &written[..count] {
+        println!(rt; "{}", Diagnostic(diagnostic))?;
     }
+    Ok(())
 }
 
 fn main(rt: HostRuntime) -> io::Result<()> {
-    let mut buffer = [0u8; console::TREE_ROOM];
-    if let Some(length) = console::read_tree(&rt, &mut buffer)? {
-        declare(&rt, &buffer[..length])?;
-    }
-    Ok(())
+    console::run(&rt, |tree| declare(&rt, tree))
 }

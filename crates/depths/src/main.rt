@@ -2,50 +2,46 @@
 // counts, d1 on top, and the total below.
 #![tactic(auto)]
 
-use console::{DIAGNOSTICS_ROOM, OUTPUT_ROOM, UNRESOLVED, print, print_refusal};
-use depth_counts::table::{COLUMNS, ROWS, Table, total};
-use std::io;
+use console::{DIAGNOSTICS_ROOM, OUTPUT_ROOM, Stop, UNRESOLVED};
+use depth_counts::table::{COLUMNS, ROWS, total};
+use std::{fmt, io};
 
-// A row, a line: "one space between counts".
-fn show_row(rt: &impl Print, row: &[usize; COLUMNS]) -> io::Result<()> {
-    print!(rt; "{}", row[0])?;
-    for count in &row[1..] {
-        print!(rt; " {count}")?;
+// A row's line: "one space between counts".
+#[derive(Clone, Copy)]
+struct Row<'a>(&'a [usize]);
+
+impl fmt::Display for Row<'_> {
+    fn fmt<W: fmt::Write>(&self, f: &mut fmt::Formatter<W>) -> fmt::Result {
+        let mut counts = self.0.iter();
+        if let Some(first) = counts.next() {
+            write!(f, "{first}")?;
+        }
+        for count in counts {
+            write!(f, " {count}")?;
+        }
+        Ok(())
     }
-    print(rt, b"\n")
 }
 
-fn show_table(rt: &impl Print, table: &Table) -> io::Result<()> {
-    for row in table {
-        show_row(rt, row)?;
-    }
-    Ok(())
-}
-
-fn count(rt: &impl Print, tree: &[u8]) -> io::Result<()> {
+fn count(rt: &impl Print, tree: &[u8]) -> Result<(), Stop> {
     let mut out = [0u8; OUTPUT_ROOM];
     let mut diagnostics = [0u8; DIAGNOSTICS_ROOM];
     let mut table = [[0usize; COLUMNS]; ROWS];
-    match depth_counts::depths(
+    depth_counts::depths(
         tree,
         b"",
         UNRESOLVED,
         &mut out,
         &mut diagnostics,
         &mut table,
-    ) {
-        Ok(_) => {
-            show_table(rt, &table)?;
-            println!(rt; "{}", total(table))
-        }
-        Err(refused) => print_refusal(rt, refused),
+    )?;
+    for row in &table {
+        println!(rt; "{}", Row(row))?;
     }
+    println!(rt; "{}", total(table))?;
+    Ok(())
 }
 
 fn main(rt: HostRuntime) -> io::Result<()> {
-    let mut buffer = [0u8; console::TREE_ROOM];
-    if let Some(length) = console::read_tree(&rt, &mut buffer)? {
-        count(&rt, &buffer[..length])?;
-    }
-    Ok(())
+    console::run(&rt, |tree| count(&rt, tree))
 }

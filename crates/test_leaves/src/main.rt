@@ -2,470 +2,321 @@
 // the trees, each behind its length in two bytes. What has to be printed comes from the Rust: `oracle leaves`.
 #![tactic(auto)]
 
-ghost use Rattle.definition.specs.Check.{deepest};
-ghost use Rattle.definition.specs.Children.{AcceptedAt};
-ghost use Rattle.definition.specs.Grammar.{mark};
-ghost use Rattle.definition.specs.Tree.{mark_at};
-ghost use Rattle.prescan.specs.Table.{Indexed};
 ghost use Rattle.std.specs.Prelude.{◌≡◌};
+ghost use Rattle.definition.specs.Grammar.{mark};
+ghost use Rattle.definition.specs.Record.{mark_of};
+ghost use Rattle.records.specs.Views.{rec_of};
 
-use console::{MOST, ROOM, UNRESOLVED, front, print, print_hex, print_number};
-use names::Key;
+use console::shown::Hex;
+use console::{ROOM, UNRESOLVED, front};
 use names::generated::gen_unique_name;
 use names::unique::Names;
-use prescan::LARGE_TABLE;
-use records::DUMMY_SP;
-use records::marks::{
-    AR, AS, AW, AY, BI, BL, BN, CA, CT, CX, FT, FX, ID, JT, KC, KI, KW, LI, MB, MI, NE, NL, NN, NU,
-    OB, OC, OE, OT, PR, RE, RF, RO, RT, SS, TA, TC, TE, TF, TL, TS, TU,
-};
+use names::{Key, is_well_known_symbol_expr, valid_prop_name};
+use prescan::module_names::Index;
+use prescan::{LARGE_TABLE, is_array_lit_init, is_array_type};
+use records::marks::Mark;
 use records::tree::Record;
 use records::writer::Writer;
-use std::io;
-use swc_helpers::{DeclMutabilityKind, TsKeywordTypeKind};
-
-// A tenth of the largest power of ten that a counter holds, and the last counter.
-const TENTH: usize = 1000000000000000000;
-
-const LAST: usize = 0xffff_ffff_ffff_ffff;
+use records::{DEEPEST, DUMMY_SP};
+use std::{fmt, io};
+use swc_helpers::{DeclMutabilityKind, TsKeywordTypeKind, types};
 
 // ---- Lines: the record's offset, what was asked, the answer
 
-fn print_label(rt: &impl Print, at: usize, name: &[u8]) -> io::Result<()> {
-    print_number(rt, at)?;
-    print(rt, b" ")?;
-    print(rt, name)?;
-    print(rt, b" ")
+fn yes(answer: bool) -> &'static str {
+    if answer { "yes" } else { "no" }
 }
 
-fn print_bool(rt: &impl Print, at: usize, name: &[u8], answer: bool) -> io::Result<()> {
-    print_label(rt, at, name)?;
-    if answer {
-        print(rt, b"yes\n")
-    } else {
-        print(rt, b"no\n")
+// What may be missing.
+#[derive(Clone, Copy)]
+struct Maybe<T>(Option<T>);
+
+impl<T: fmt::Display> fmt::Display for Maybe<T> {
+    fn fmt<W: fmt::Write>(&self, f: &mut fmt::Formatter<W>) -> fmt::Result {
+        match &self.0 {
+            Some(value) => write!(f, "{value}"),
+            None => write!(f, "none"),
+        }
     }
 }
 
-fn print_bytes(rt: &impl Print, bytes: &[u8]) -> io::Result<()> {
-    print_hex(rt, bytes)?;
-    print(rt, b"\n")
-}
-
-// What was written in front of the position `end`.
-fn print_written(rt: &impl Print, out: &[u8], end: usize) -> io::Result<()> {
-    print_bytes(rt, front(out, end))
-}
-
-// The record at `at`, as the part of the tree that it fills.
-fn print_record(rt: &impl Print, tree: &[u8], at: usize, levels: usize) -> io::Result<()>
-    requires { AcceptedAt levels tree.now at }
-{
-    print_bytes(rt, records::record_at(tree, at, levels))
-}
-
-// ---- Types
-
-fn show_type(rt: &impl Print, tree: &[u8], at: usize, levels: usize) -> io::Result<()>
-    requires { AcceptedAt levels tree.now at }
-{
-    print_bool(
-        rt,
-        at,
-        b"is_array_type",
-        prescan::is_array_type(Record { tree, at, levels }),
-    )?;
-    let mut out = [0u8; ROOM];
-    let end = swc_helpers::ts_readonly(DUMMY_SP, &mut out, 0);
-    print_label(rt, at, b"ts_readonly")?;
-    print_hex(rt, front(&out, end))?;
-    print_record(rt, tree, at, levels)
-}
-
-// ---- Expressions
-
-fn show_expression(rt: &impl Print, tree: &[u8], at: usize, levels: usize) -> io::Result<()>
-    requires { AcceptedAt levels tree.now at }
-{
-    let expr = Record { tree, at, levels };
-    print_bool(
-        rt,
-        at,
-        b"is_array_lit_init",
-        prescan::is_array_lit_init(expr),
-    )?;
-    let symbol = names::is_well_known_symbol_expr(expr, UNRESOLVED);
-    print_bool(rt, at, b"is_well_known_symbol_expr", symbol)
-}
-
-fn show_literal_as(
+// The line of what `write` writes, which may be nothing.
+fn show_made<D: fmt::Display + Drop, F: FnOnce(&mut Writer) -> Option<()>>(
     rt: &impl Print,
-    tree: &[u8],
-    at: usize,
-    levels: usize,
-    kind: DeclMutabilityKind,
+    label: D,
+    write: F,
 ) -> io::Result<()>
-    requires { AcceptedAt levels tree.now at }
+    requires { F.IsAlwaysCallable write }
 {
     let mut out = [0u8; ROOM];
-    let found = swc_helpers::maybe_lit_to_ts_type(tree, at, levels, kind, &mut out, 0);
-    match found {
-        Some(end) => print_written(rt, &out, end),
-        None => print(rt, b"none\n"),
-    }
-}
-
-fn show_literal(rt: &impl Print, tree: &[u8], at: usize, levels: usize) -> io::Result<()>
-    requires { AcceptedAt levels tree.now at }
-{
-    print_label(rt, at, b"maybe_lit_to_ts_type const")?;
-    show_literal_as(rt, tree, at, levels, DeclMutabilityKind::Const)?;
-    print_label(rt, at, b"maybe_lit_to_ts_type mutable")?;
-    show_literal_as(rt, tree, at, levels, DeclMutabilityKind::Mutable)
-}
-
-// The record that stands as the key, or over which a computed key is made.
-fn show_key(rt: &impl Print, tree: &[u8], at: usize, levels: usize) -> io::Result<()>
-    requires { AcceptedAt levels tree.now at }
-{
-    print_label(rt, at, b"valid_prop_name")?;
-    let key = Record { tree, at, levels };
-    let Some(key) = names::valid_prop_name(key, UNRESOLVED) else {
-        return print(rt, b"none\n");
-    };
-    match key {
-        Key::Stands(key) => {
-            print(rt, b"stands ")?;
-            print_bytes(rt, key.part())
-        }
-        Key::Computed(expr) => {
-            print(rt, b"computed ")?;
-            print_bytes(rt, expr.part())
-        }
-    }
-}
-
-// The literal under a minus.
-fn show_minus_as(
-    rt: &impl Print,
-    tree: &[u8],
-    at: usize,
-    levels: usize,
-    kind: DeclMutabilityKind,
-) -> io::Result<()>
-    requires { AcceptedAt levels tree.now at }
-{
-    let mut out = [0u8; ROOM];
-    let found = swc_helpers::minus_lit_to_ts_type(tree, at, levels, kind, &mut out, 0);
-    match found {
-        Some(end) => print_written(rt, &out, end),
-        None => print(rt, b"none\n"),
-    }
-}
-
-fn show_minus(rt: &impl Print, tree: &[u8], at: usize, levels: usize) -> io::Result<()>
-    requires { AcceptedAt levels tree.now at }
-{
-    print_label(rt, at, b"minus_lit_to_ts_type const")?;
-    show_minus_as(rt, tree, at, levels, DeclMutabilityKind::Const)?;
-    print_label(rt, at, b"minus_lit_to_ts_type mutable")?;
-    show_minus_as(rt, tree, at, levels, DeclMutabilityKind::Mutable)
-}
-
-fn show_template_as(
-    rt: &impl Print,
-    tree: &[u8],
-    at: usize,
-    levels: usize,
-    kind: DeclMutabilityKind,
-) -> io::Result<()>
-    requires { AcceptedAt levels tree.now at }
-{
-    let mut out = [0u8; ROOM];
-    let end = swc_helpers::tpl_to_ts_type(tree, at, levels, kind, &mut out, 0);
-    print_written(rt, &out, end)
-}
-
-fn show_template(rt: &impl Print, tree: &[u8], at: usize, levels: usize) -> io::Result<()>
-    requires { AcceptedAt levels tree.now at }
-{
-    print_label(rt, at, b"tpl_to_ts_type const")?;
-    show_template_as(rt, tree, at, levels, DeclMutabilityKind::Const)?;
-    print_label(rt, at, b"tpl_to_ts_type mutable")?;
-    show_template_as(rt, tree, at, levels, DeclMutabilityKind::Mutable)
-}
-
-fn show_call(rt: &impl Print, tree: &[u8], at: usize, levels: usize) -> io::Result<()>
-    requires { AcceptedAt levels tree.now at × (mark_at tree.now at ≡ mark "Ca") }
-{
-    print_label(rt, at, b"object_freeze_call_arg")?;
-    let found = swc_helpers::object_freeze_call_arg(tree, at, levels, UNRESOLVED);
-    match found {
-        Some(arg) => print_record(rt, tree, arg, levels - 1),
-        None => print(rt, b"none\n"),
-    }
-}
-
-// ---- Identifiers: the three questions, and the types that are made of a name
-
-fn show_questions(
-    rt: &impl Print,
-    tree: &[u8],
-    at: usize,
-    levels: usize,
-    index: &[u32],
-) -> io::Result<()>
-    requires accepted_at { AcceptedAt levels tree.now at }
-    requires indexed { Indexed tree.now index.now }
-{
-    let sets = prescan::look_up(tree, index, at, levels);
-    print_bool(rt, at, b"typeof_safe", sets.typeof_safe)?;
-    print_bool(rt, at, b"non_generic_class", sets.non_generic_class)?;
-    print_bool(rt, at, b"array_typed", sets.array_typed)
-}
-
-fn symbol_of(tree: &[u8], at: usize, levels: usize) -> &[u8]
-    requires { AcceptedAt levels tree.now at × (mark_at tree.now at ≡ mark "Id") }
-{
-    records::text::symbol_at(tree, at)
-}
-
-fn show_type_ref(rt: &impl Print, tree: &[u8], at: usize, levels: usize) -> io::Result<()>
-    requires { AcceptedAt levels tree.now at × (mark_at tree.now at ≡ mark "Id") }
-{
-    let mut out = [0u8; ROOM];
-    let end = swc_helpers::type_ref(DUMMY_SP, symbol_of(tree, at, levels), &mut out, 0);
-    print_label(rt, at, b"type_ref")?;
-    print_written(rt, &out, end)
-}
-
-fn show_query(rt: &impl Print, tree: &[u8], at: usize, levels: usize) -> io::Result<()>
-    requires { AcceptedAt levels tree.now at }
-{
-    let mut out = [0u8; ROOM];
-    let end = swc_helpers::ts_type_query(tree, at, levels, DUMMY_SP, &mut out, 0);
-    print_label(rt, at, b"ts_type_query")?;
-    print_written(rt, &out, end)
-}
-
-fn show_reference(rt: &impl Print, tree: &[u8], at: usize, levels: usize) -> io::Result<()>
-    requires { AcceptedAt levels tree.now at }
-{
-    let mut out = [0u8; ROOM];
-    let end = swc_helpers::reference_to(tree, at, levels, DUMMY_SP, &mut out, 0);
-    print_label(rt, at, b"reference_to")?;
-    print_written(rt, &out, end)
-}
-
-// The tuple's element that a spread of the name becomes.
-fn show_rest(rt: &impl Print, tree: &[u8], at: usize, levels: usize) -> io::Result<()>
-    requires { AcceptedAt levels tree.now at }
-{
-    let mut out = [0u8; ROOM];
-    let p = swc_helpers::ts_tuple_element(DUMMY_SP, &mut out, 0);
-    let q = swc_helpers::ts_rest_type(DUMMY_SP, &mut out, p);
-    let end = swc_helpers::ts_type_query(tree, at, levels, DUMMY_SP, &mut out, q);
-    print_label(rt, at, b"ts_rest_type")?;
-    print_written(rt, &out, end)
-}
-
-fn show_identifier(
-    rt: &impl Print,
-    tree: &[u8],
-    at: usize,
-    levels: usize,
-    index: &[u32],
-) -> io::Result<()>
-    requires accepted_at { AcceptedAt levels tree.now at × (mark_at tree.now at ≡ mark "Id") }
-    requires indexed { Indexed tree.now index.now }
-{
-    show_questions(rt, tree, at, levels, index)?;
-    show_type_ref(rt, tree, at, levels)?;
-    show_query(rt, tree, at, levels)?;
-    show_reference(rt, tree, at, levels)?;
-    show_rest(rt, tree, at, levels)
-}
-
-// ---- Trees
-
-fn mark_of(tree: &[u8], at: usize, levels: usize) -> u16
-    requires { AcceptedAt levels tree.now at }
-    ensures { result ≡ mark_at tree.now at }
-{
-    records::mark_at(tree, at)
-}
-
-// The lines of the record at `at`, by its mark.
-fn show_record(
-    rt: &impl Print,
-    tree: &[u8],
-    at: usize,
-    levels: usize,
-    index: &[u32],
-) -> io::Result<()>
-    requires accepted_at { AcceptedAt levels tree.now at }
-    requires indexed { Indexed tree.now index.now }
-{
-    match mark_of(tree, at, levels) {
-        KI | KC => show_key(rt, tree, at, levels),
-        SS | NU | BI => {
-            show_expression(rt, tree, at, levels)?;
-            show_literal(rt, tree, at, levels)?;
-            show_minus(rt, tree, at, levels)?;
-            show_key(rt, tree, at, levels)
-        }
-        BL | NL | RE | JT => {
-            show_expression(rt, tree, at, levels)?;
-            show_literal(rt, tree, at, levels)?;
-            show_minus(rt, tree, at, levels)
-        }
-        ID => {
-            show_expression(rt, tree, at, levels)?;
-            show_identifier(rt, tree, at, levels, index)
-        }
-        TE => {
-            show_expression(rt, tree, at, levels)?;
-            show_template(rt, tree, at, levels)
-        }
-        CA => {
-            show_expression(rt, tree, at, levels)?;
-            show_call(rt, tree, at, levels)
-        }
-        AR | OB | FX | AW | MI | NE | MB | BN | OC | TC | NN | PR | AS | TS | TA | CX | OE => {
-            show_expression(rt, tree, at, levels)
-        }
-        KW | TL | RF | TF | LI | AY | TU | RT | RO | FT | CT | OT => show_type(
-            rt, tree, at, levels,
-        ),
-        _ => Ok(()),
-    }
-}
-
-// The lines of the record at `at` and of all below it.
-fn show_all(rt: &impl Print, tree: &[u8], at: usize, levels: usize, index: &[u32]) -> io::Result<()>
-    requires accepted_at { AcceptedAt levels tree.now at }
-    requires indexed { Indexed tree.now index.now }
-{
-    show_record(rt, tree, at, levels, index)?;
-    let mut n = records::count_at(tree, at);
-    let mut kid = records::body_at(tree, at);
-    while 0 < n {
-        show_all(rt, tree, kid, levels - 1, index)?;
-        kid = records::record_end(tree, kid, levels - 1);
-        n -= 1;
-    }
-    Ok(())
-}
-
-// The lines of the items of a module; it has none itself.
-fn show_items(rt: &impl Print, tree: &[u8], index: &[u32]) -> io::Result<()>
-    requires { AcceptedAt deepest tree.now 0 × Indexed tree.now index.now }
-{
-    let mut n = records::count_at(tree, 0);
-    let mut item = records::body_at(tree, 0);
-    while 0 < n {
-        show_all(rt, tree, item, records::DEEPEST - 1, index)?;
-        item = records::record_end(tree, item, records::DEEPEST - 1);
-        n -= 1;
-    }
-    Ok(())
-}
-
-fn show_tree(rt: &impl Print, tree: &[u8]) -> io::Result<()> {
-    if console::print_check(rt, tree)? {
-        let mut table = [0u32; LARGE_TABLE];
-        let index = prescan::index(tree, &mut table);
-        show_items(rt, tree, index)?;
-    }
-    Ok(())
-}
-
-// `gen_unique_name`, where the counter is raised to this number.
-fn show_name(rt: &impl Print, raised: usize) -> io::Result<()> {
-    if raised == 0 {
-        return Ok(());
-    }
-    let mut out = [0u8; ROOM];
-    let mut names = Names {
-        id_counter: raised - 1,
-    };
     let mut w = Writer {
         out: &mut out,
         at: 0,
     };
-    gen_unique_name(&mut names, &mut w);
+    let made = write(&mut w);
     let end = w.at;
-    print(rt, front(&out, end))
+    println!(rt; "{label} {}", Maybe(made.map(|()| Hex(front(&out, end)))))
 }
 
-// The next tree of the input, of at most 4,096 bytes, with its name; false where there is none.
-fn next_tree(rt: &(impl Input + Print), number: usize) -> io::Result<bool> {
-    let mut buffer = [0u8; ROOM];
-    let Some(length) = console::read_framed(rt, &mut buffer)? else {
-        return Ok(false);
-    };
-    show_name(rt, number)?;
-    print(rt, b" ")?;
-    show_tree(rt, &buffer[..length])?;
-    Ok(true)
+// The two lines of what `write` writes of a record.
+fn show_kinds<F: Fn(&mut Writer, Record, DeclMutabilityKind) -> Option<()>>(
+    rt: &impl Print,
+    record: Record,
+    asked: &str,
+    write: F,
+) -> io::Result<()>
+    requires { F.IsAlwaysCallable write }
+{
+    let at = record.at;
+    show_made(
+        rt,
+        format_args!("{at} {asked} const"),
+        |w| write(w, record, DeclMutabilityKind::Const),
+    )?;
+    show_made(
+        rt,
+        format_args!("{at} {asked} mutable"),
+        |w| write(w, record, DeclMutabilityKind::Mutable),
+    )
 }
 
-// ---- What depends on no tree
+// ---- Types
 
-fn show_keyword(rt: &impl Print, kind: TsKeywordTypeKind, name: &[u8]) -> io::Result<()> {
-    let mut out = [0u8; ROOM];
-    let end = swc_helpers::ts_keyword_type(DUMMY_SP, kind, &mut out, 0);
-    print(rt, name)?;
-    print_written(rt, &out, end)
+fn show_type(rt: &impl Print, ty: Record) -> io::Result<()> {
+    let at = ty.at;
+    println!(rt; "{at} is_array_type {}", yes(is_array_type(ty)))?;
+    show_made(rt, format_args!("{at} ts_readonly"), |w| {
+        types::ts_readonly(w, DUMMY_SP);
+        Some(w.put_record(ty))
+    })
 }
 
-fn show_constants(rt: &impl Print) -> io::Result<()> {
-    show_keyword(rt, TsKeywordTypeKind::TsAnyKeyword, b"any ")?;
-    show_keyword(rt, TsKeywordTypeKind::TsNumberKeyword, b"number ")?;
-    show_keyword(rt, TsKeywordTypeKind::TsBooleanKeyword, b"boolean ")?;
-    show_keyword(rt, TsKeywordTypeKind::TsBigIntKeyword, b"bigint ")?;
-    show_keyword(rt, TsKeywordTypeKind::TsStringKeyword, b"string ")?;
-    show_keyword(rt, TsKeywordTypeKind::TsUndefinedKeyword, b"undefined ")?;
-    show_keyword(rt, TsKeywordTypeKind::TsNullKeyword, b"null ")?;
-    let mut out = [0u8; ROOM];
-    let any = swc_helpers::any_type_ann(DUMMY_SP, &mut out, 0);
-    print(rt, b"any_type_ann ")?;
-    print_written(rt, &out, any)?;
-    let regex = swc_helpers::regex_type(DUMMY_SP, &mut out, 0);
-    print(rt, b"regex_type ")?;
-    print_written(rt, &out, regex)
+// ---- Expressions
+
+fn show_expression(rt: &impl Print, expr: Record) -> io::Result<()> {
+    let at = expr.at;
+    println!(rt; "{at} is_array_lit_init {}", yes(is_array_lit_init(expr)))?;
+    let symbol = is_well_known_symbol_expr(expr, UNRESOLVED);
+    println!(rt; "{at} is_well_known_symbol_expr {}", yes(symbol))
 }
 
-fn show_line_of_name(rt: &impl Print, counter: usize) -> io::Result<()> {
-    show_name(rt, counter)?;
-    print(rt, b"\n")
+// A literal, and a literal under a minus.
+fn show_literal(rt: &impl Print, lit: Record) -> io::Result<()> {
+    show_kinds(rt, lit, "maybe_lit_to_ts_type", types::maybe_lit_to_ts_type)?;
+    show_kinds(rt, lit, "minus_lit_to_ts_type", types::minus_lit_to_ts_type)
 }
 
-// The names around the powers of ten, and the last one.
-fn show_large_names(rt: &impl Print) -> io::Result<()> {
-    let mut power: usize = 1;
-    while power <= TENTH {
-        power = power * 10;
-        show_line_of_name(rt, power - 1)?;
-        show_line_of_name(rt, power)?;
-    }
-    show_line_of_name(rt, LAST)
+fn show_template(rt: &impl Print, te: Record) -> io::Result<()> {
+    show_kinds(rt, te, "tpl_to_ts_type", |w, te, kind| {
+        Some(types::tpl_to_ts_type(w, te, kind))
+    })
 }
 
-// Shows the trees that are in the input, at most so many.
-fn show_trees(rt: &(impl Input + Print)) -> io::Result<()> {
-    let mut number: usize = 1;
-    while number <= MOST {
-        if !next_tree(rt, number)? {
-            return Ok(());
+// The record that stands as the key, or over which a computed key is made.
+fn show_key(rt: &impl Print, key: Record) -> io::Result<()> {
+    let at = key.at;
+    match valid_prop_name(key, UNRESOLVED) {
+        Some(Key::Stands(key)) => println!(rt; "{at} valid_prop_name stands {}", Hex(key.part())),
+        Some(Key::Computed(expr)) => {
+            println!(rt; "{at} valid_prop_name computed {}", Hex(expr.part()))
         }
-        number += 1;
+        None => println!(rt; "{at} valid_prop_name none"),
+    }
+}
+
+fn show_call(rt: &impl Print, call: Record) -> io::Result<()>
+    requires { mark_of (rec_of call) ≡ mark "Ca" }
+{
+    let arg = types::object_freeze_call_arg(call, UNRESOLVED);
+    let arg = Maybe(arg.map(|arg| Hex(arg.part())));
+    println!(rt; "{} object_freeze_call_arg {arg}", call.at)
+}
+
+// ---- Identifiers: the three questions, and the types that are made of a name
+
+fn show_identifier(rt: &impl Print, ident: Record, names: Index) -> io::Result<()>
+    requires { mark_of (rec_of ident) ≡ mark "Id" }
+{
+    let at = ident.at;
+    let sets = names.look_up(ident);
+    println!(rt; "{at} typeof_safe {}", yes(sets.typeof_safe))?;
+    println!(rt; "{at} non_generic_class {}", yes(sets.non_generic_class))?;
+    println!(rt; "{at} array_typed {}", yes(sets.array_typed))?;
+    let symbol = ident.symbol();
+    show_made(rt, format_args!("{at} type_ref"), |w| {
+        Some(types::type_ref(w, DUMMY_SP, symbol))
+    })?;
+    show_made(rt, format_args!("{at} ts_type_query"), |w| {
+        Some(types::ts_type_query(w, DUMMY_SP, ident))
+    })?;
+    show_made(rt, format_args!("{at} reference_to"), |w| {
+        Some(types::reference_to(w, DUMMY_SP, ident))
+    })?;
+    // the tuple's element that a spread of the name becomes
+    show_made(rt, format_args!("{at} ts_rest_type"), |w| {
+        types::ts_tuple_element(w, DUMMY_SP);
+        types::ts_rest_type(w, DUMMY_SP);
+        Some(types::ts_type_query(w, DUMMY_SP, ident))
+    })
+}
+
+// ---- Trees
+
+// The lines of a record, by its mark.
+fn show_record(rt: &impl Print, record: Record, names: Index) -> io::Result<()> {
+    match record.mark() {
+        Mark::Ki | Mark::Kc => show_key(rt, record),
+        Mark::Ss | Mark::Nu | Mark::Bi => {
+            show_expression(rt, record)?;
+            show_literal(rt, record)?;
+            show_key(rt, record)
+        }
+        Mark::Bl | Mark::Nl | Mark::Re | Mark::Jt => {
+            show_expression(rt, record)?;
+            show_literal(rt, record)
+        }
+        Mark::Id => {
+            show_expression(rt, record)?;
+            show_identifier(rt, record, names)
+        }
+        Mark::Te => {
+            show_expression(rt, record)?;
+            show_template(rt, record)
+        }
+        Mark::Ca => {
+            show_expression(rt, record)?;
+            show_call(rt, record)
+        }
+        Mark::Ar
+        | Mark::Ob
+        | Mark::Fx
+        | Mark::Aw
+        | Mark::Mi
+        | Mark::Ne
+        | Mark::Mb
+        | Mark::Bn
+        | Mark::Oc
+        | Mark::Tc
+        | Mark::Nn
+        | Mark::Pr
+        | Mark::As
+        | Mark::Ts
+        | Mark::Ta
+        | Mark::Cx
+        | Mark::Oe => show_expression(rt, record),
+        Mark::Kw
+        | Mark::Tl
+        | Mark::Rf
+        | Mark::Tf
+        | Mark::Li
+        | Mark::Ay
+        | Mark::Tu
+        | Mark::Rt
+        | Mark::Ro
+        | Mark::Ft
+        | Mark::Ct
+        | Mark::Ot => show_type(rt, record),
+        _ => Ok(()),
+    }
+}
+
+// The lines of a record and of all below it.
+fn show_all(rt: &impl Print, record: Record, names: Index) -> io::Result<()> {
+    show_record(rt, record, names)?;
+    for kid in record.children() {
+        show_all(rt, kid, names)?;
     }
     Ok(())
 }
 
+// `gen_unique_name`, where the counter is raised to this number; nothing for 0.
+#[derive(Clone, Copy)]
+struct UniqueName(usize);
+
+impl fmt::Display for UniqueName {
+    fn fmt<W: fmt::Write>(&self, f: &mut fmt::Formatter<W>) -> fmt::Result {
+        let raised = self.0;
+        if raised == 0 {
+            return Ok(());
+        }
+        let mut out = [0u8; ROOM];
+        let mut names = Names {
+            id_counter: raised - 1,
+        };
+        let mut w = Writer {
+            out: &mut out,
+            at: 0,
+        };
+        gen_unique_name(&mut names, &mut w);
+        let end = w.at;
+        for &b in front(&out, end) {
+            f.write_char(char::from(b))?;
+        }
+        Ok(())
+    }
+}
+
+// A tree of the input, of at most 4,096 bytes, with its name.
+fn show_tree(rt: &impl Print, number: usize, tree: &[u8]) -> io::Result<()> {
+    print!(rt; "{} ", UniqueName(number))?;
+    if !console::print_check(rt, tree)? {
+        return Ok(());
+    }
+    let mut table = [0u32; LARGE_TABLE];
+    let entries = prescan::index(tree, &mut table);
+    let root = Record {
+        tree,
+        at: 0,
+        levels: DEEPEST,
+    };
+    show_all(rt, root, Index { tree, entries })
+}
+
+// ---- What depends on no tree
+
+const KEYWORDS: [(&str, TsKeywordTypeKind); 7] = [
+    ("any", TsKeywordTypeKind::TsAnyKeyword),
+    ("number", TsKeywordTypeKind::TsNumberKeyword),
+    ("boolean", TsKeywordTypeKind::TsBooleanKeyword),
+    ("bigint", TsKeywordTypeKind::TsBigIntKeyword),
+    ("string", TsKeywordTypeKind::TsStringKeyword),
+    ("undefined", TsKeywordTypeKind::TsUndefinedKeyword),
+    ("null", TsKeywordTypeKind::TsNullKeyword),
+];
+
+fn show_constants(rt: &impl Print) -> io::Result<()> {
+    for (name, kind) in KEYWORDS {
+        show_made(
+            rt,
+            name,
+            |w| Some(types::ts_keyword_type(w, DUMMY_SP, kind)),
+        )?;
+    }
+    show_made(
+        rt,
+        "any_type_ann",
+        |w| Some(types::any_type_ann(w, DUMMY_SP)),
+    )?;
+    show_made(rt, "regex_type", |w| Some(types::regex_type(w, DUMMY_SP)))
+}
+
+// The names around the powers of ten, and the last one.
+fn show_large_names(rt: &impl Print) -> io::Result<()> {
+    for digits in 1..20 {
+        let power = 10usize.pow(digits);
+        println!(rt; "{}", UniqueName(power - 1))?;
+        println!(rt; "{}", UniqueName(power))?;
+    }
+    println!(rt; "{}", UniqueName(usize::MAX))
+}
+
 fn main(rt: HostRuntime) -> io::Result<()> {
     show_constants(&rt)?;
-    show_trees(&rt)?;
+    let mut buffer = [0u8; ROOM];
+    console::for_each_tree(
+        &rt,
+        &mut buffer,
+        |number, tree| show_tree(&rt, number, tree),
+    )?;
     show_large_names(&rt)
 }

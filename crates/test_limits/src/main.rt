@@ -2,23 +2,18 @@
 // list and one entry more. Each line is the check's answer, but the last: the call's on the longest tree.
 #![tactic(auto)]
 
-use console::{UNRESOLVED, front, print, print_done, print_refusal};
-use records::marks::{AR, IM, MO, OE, OP, PR, XE};
-use records::{ENTRY_SIZE, HEAD_SIZE, Head};
-use std::io;
-
-const LONGEST_TREE: usize = 524288;
-
-const TREE: usize = 524289;
-
-const LONGEST_LIST: usize = 40960;
-
-const LIST: usize = 40970;
+use console::shown::{Answer, Success};
+use console::{LIST_TOO_LONG, LONGEST_LIST, LONGEST_TREE, TREE_TOO_LONG, UNRESOLVED, front};
+use records::marks::Mark;
+use records::writer::Writer;
+use records::{DUMMY_SP, ENTRY_SIZE, HEAD_SIZE};
+use std::{fmt, io};
 
 // More than the longest tree's declarations take.
 const OUTPUT: usize = 524544;
 
-const OV: u16 = 0x766f;
+// The mark of an overload list.
+const OV: &[u8] = b"ov";
 
 // The bytes of an item that fills a tree, and of its text, behind two heads.
 const FILLER: usize = 65534;
@@ -28,118 +23,83 @@ const TEXT: usize = FILLER - 2 * HEAD_SIZE;
 // The text of the last one: behind the Mo and a default export, which have three heads, and seven items.
 const LAST_TEXT: usize = LONGEST_TREE - 3 * HEAD_SIZE - 7 * FILLER - 2 * HEAD_SIZE;
 
-fn put(tree: &mut [u8], p: usize, mark: u16, text: usize, count: usize) -> usize {
-    records::put_head(
-        tree,
-        p,
-        Head {
-            mark,
-            flags: 0,
-            start: 0,
-            end: 0,
-            text,
-            count,
-        },
-    )
-}
-
 // An Im with an Op of n bytes of text.
-fn filler(tree: &mut [u8], p: usize, n: usize) -> usize {
-    let q = put(tree, p, IM, 0, 1);
-    records::advance(put(tree, q, OP, n, 0), n)
+fn filler(w: &mut Writer, n: usize) {
+    w.put_made_front(Mark::Im, 0, DUMMY_SP, 1);
+    w.put_made(Mark::Op, 0, DUMMY_SP, n, 0);
+    w.skip(n);
 }
 
-// `export default [];`
-fn default_export(tree: &mut [u8], p: usize) -> usize {
-    let q = put(tree, p, XE, 0, 1);
-    put(tree, q, AR, 0, 0)
-}
-
-fn four_fillers(tree: &mut [u8], p: usize) -> usize {
-    let mut q = filler(tree, p, TEXT);
-    q = filler(tree, q, TEXT);
-    q = filler(tree, q, TEXT);
-    filler(tree, q, TEXT)
-}
-
-// A Mo of 524,288 bytes: a default export, and eight items whose texts fill it.
+// A Mo of 524,288 bytes: `export default [];`, and eight items whose texts fill it.
 fn fill(tree: &mut [u8]) {
-    let mut p = put(tree, 0, MO, 0, 9);
-    p = default_export(tree, p);
-    p = four_fillers(tree, p);
-    p = filler(tree, p, TEXT);
-    p = filler(tree, p, TEXT);
-    p = filler(tree, p, TEXT);
-    filler(tree, p, LAST_TEXT);
+    let mut w = Writer { out: tree, at: 0 };
+    w.put_made_front(Mark::Mo, 0, DUMMY_SP, 9);
+    w.put_made_front(Mark::Xe, 0, DUMMY_SP, 1);
+    w.put_made_leaf(Mark::Ar, DUMMY_SP, b"");
+    for _ in 0..7 {
+        filler(&mut w, TEXT);
+    }
+    filler(&mut w, LAST_TEXT);
 }
 
 // A Mo of so many levels and two more: an Xe, so many Pr and an Oe.
 fn nest(tree: &mut [u8], levels: usize) {
-    let mut p = put(tree, 0, MO, 0, 1);
-    p = put(tree, p, XE, 0, 1);
+    let mut w = Writer { out: tree, at: 0 };
+    w.put_made_front(Mark::Mo, 0, DUMMY_SP, 1);
+    w.put_made_front(Mark::Xe, 0, DUMMY_SP, 1);
     for _ in 0..levels {
-        p = put(tree, p, PR, 0, 1);
+        w.put_made_front(Mark::Pr, 0, DUMMY_SP, 1);
     }
-    put(tree, p, OE, 0, 0);
+    w.put_made_leaf(Mark::Oe, DUMMY_SP, b"");
 }
 
 // So many entries of an overload list, each from 0 to 0.
 fn entries(list: &mut [u8], count: usize) {
-    let mut p: usize = 0;
+    let mut w = Writer { out: list, at: 0 };
     for _ in 0..count {
-        records::put_text(list, p, &OV.to_le_bytes());
-        p = records::advance(p, ENTRY_SIZE);
+        w.put(OV);
+        w.skip(ENTRY_SIZE - 2);
     }
 }
 
-// The check's answer for the first n bytes of a tree and the first m of a list, behind what they are.
-fn show_check(
-    rt: &impl Print,
-    what: &[u8],
-    tree: &[u8],
-    n: usize,
-    list: &[u8],
-    m: usize,
-) -> io::Result<()> {
-    print(rt, what)?;
-    match grammar::check_tree(front(tree, n), front(list, m)) {
-        Ok(end) => println!(rt; "accepted, {end} bytes"),
-        Err(refused) => print_refusal(rt, refused),
+// The bytes of a tree that the check went over.
+#[derive(Clone, Copy)]
+struct Accepted(usize);
+
+impl fmt::Display for Accepted {
+    fn fmt<W: fmt::Write>(&self, f: &mut fmt::Formatter<W>) -> fmt::Result {
+        write!(f, "accepted, {} bytes", self.0)
     }
+}
+
+// The check's answer for a tree and a list, behind what they are.
+fn show_check(rt: &impl Print, what: &str, tree: &[u8], list: &[u8]) -> io::Result<()> {
+    let answer = grammar::check_tree(tree, list);
+    println!(rt; "{what}: {}", Answer(answer.map(|end| Accepted(end))))
 }
 
 // The call's answer for a tree, with an empty list and no room for diagnostics.
-fn show_call(rt: &impl Print, what: &[u8], tree: &[u8], out: &mut [u8]) -> io::Result<()> {
-    print(rt, what)?;
+fn show_call(rt: &impl Print, what: &str, tree: &[u8], out: &mut [u8]) -> io::Result<()> {
     let mut diagnostics = [0u8; 0];
-    match transform_dts::transform(tree, b"", UNRESOLVED, out, &mut diagnostics) {
-        Ok(done) => {
-            print_done(rt, done.length, done.count)?;
-            print(rt, b"\n")
-        }
-        Err(refused) => print_refusal(rt, refused),
-    }
+    let answer = transform_dts::transform(tree, b"", UNRESOLVED, out, &mut diagnostics);
+    let answer = answer.map(|done| Success {
+        length: done.length,
+        count: done.count,
+    });
+    println!(rt; "{what}: {}", Answer(answer))
 }
 
 fn show_lengths(rt: &impl Print, tree: &[u8], list: &[u8]) -> io::Result<()> {
-    show_check(rt, b"524,288 bytes: ", tree, LONGEST_TREE, list, 0)?;
-    show_check(rt, b"524,289 bytes: ", tree, TREE, list, 0)?;
+    let longest = front(tree, LONGEST_TREE);
+    show_check(rt, "524,288 bytes", longest, b"")?;
+    show_check(rt, "524,289 bytes", tree, b"")?;
     show_check(
         rt,
-        b"40,960 bytes of list: ",
-        tree,
-        LONGEST_TREE,
-        list,
-        LONGEST_LIST,
+        "40,960 bytes of list",
+        longest,
+        front(list, LONGEST_LIST),
     )?;
-    show_check(
-        rt,
-        b"40,970 bytes of list: ",
-        tree,
-        LONGEST_TREE,
-        list,
-        LIST,
-    )
+    show_check(rt, "40,970 bytes of list", longest, list)
 }
 
 fn run(rt: &impl Print, tree: &mut [u8], list: &mut [u8]) -> io::Result<()> {
@@ -147,20 +107,20 @@ fn run(rt: &impl Print, tree: &mut [u8], list: &mut [u8]) -> io::Result<()> {
     fill(tree);
     show_lengths(rt, tree, list)?;
     nest(tree, 61);
-    show_check(rt, b"64 levels: ", tree, 64 * HEAD_SIZE, list, 0)?;
+    show_check(rt, "64 levels", front(tree, 64 * HEAD_SIZE), b"")?;
     nest(tree, 62);
-    show_check(rt, b"65 levels: ", tree, 65 * HEAD_SIZE, list, 0)
+    show_check(rt, "65 levels", front(tree, 65 * HEAD_SIZE), b"")
 }
 
 fn main(rt: HostRuntime) -> io::Result<()> {
-    let mut list = [0u8; LIST];
-    let mut tree = [0u8; TREE];
+    let mut list = [0u8; LIST_TOO_LONG];
+    let mut tree = [0u8; TREE_TOO_LONG];
     run(&rt, tree.as_mut_slice(), &mut list)?;
     let mut out = [0u8; OUTPUT];
     fill(tree.as_mut_slice());
     show_call(
         &rt,
-        b"524,288 bytes through the call: ",
+        "524,288 bytes through the call",
         front(tree.as_slice(), LONGEST_TREE),
         out.as_mut_slice(),
     )

@@ -6,21 +6,12 @@
 // count, four bytes each. Where a length is more than the bytes that follow, any bytes do. `oracle answers` makes the cases.
 #![tactic(auto)]
 
-use console::replay::{fill, holds, is_refusal, number_at, replay};
-use console::{ROOM, front, front_mut, read_bytes};
+use console::replay::{Told, expected, fill, holds, is_answer, number_at, read_numbers, replay};
+use console::{LIST_TOO_LONG, ROOM, TREE_TOO_LONG, front, front_mut, read_bytes};
 use depth_counts::table::{CELLS, COLUMNS, ROWS, Table};
-use grammar::Refused;
 use records::DIAGNOSTIC_SIZE;
 use std::io;
 use transform_dts::Done;
-
-// The longest tree that is accepted and one byte more; the same of the list.
-const TREE: usize = 524289;
-
-const LIST: usize = 40970;
-
-// Twelve numbers of four bytes.
-const NUMBERS: usize = 48;
 
 // A cell: its place and its count.
 const CELL: usize = 8;
@@ -37,100 +28,99 @@ struct Case {
     unresolved: u32,
     out: usize,
     diagnostics: usize,
-    number: usize,
-    first: usize,
-    second: usize,
-    depths: usize,
+    expected: Result<Done, Told>,
+    depths: bool,
     cells: usize,
 }
 
-// The number of four bytes at a place, to count with.
-fn size_at(bytes: &[u8], at: usize) -> usize {
-    number_at(bytes, at) as usize
-}
-
-fn case_of(bytes: &[u8]) -> Case {
-    Case {
-        tree_bytes: size_at(bytes, 0),
-        tree: size_at(bytes, 4),
-        list_bytes: size_at(bytes, 8),
-        list: size_at(bytes, 12),
-        unresolved: number_at(bytes, 16),
-        out: size_at(bytes, 20),
-        diagnostics: size_at(bytes, 24),
-        number: size_at(bytes, 28),
-        first: size_at(bytes, 32),
-        second: size_at(bytes, 36),
-        depths: size_at(bytes, 40),
-        cells: size_at(bytes, 44),
+impl From<[u32; 12]> for Case {
+    fn from(numbers: [u32; 12]) -> Case {
+        let [_, _, _, _, unresolved, ..] = numbers;
+        let [
+            tree_bytes,
+            tree,
+            list_bytes,
+            list,
+            _,
+            out,
+            diagnostics,
+            number,
+            first,
+            second,
+            depths,
+            cells,
+        ] = numbers.map(|n| n as usize);
+        Case {
+            tree_bytes,
+            tree,
+            list_bytes,
+            list,
+            unresolved,
+            out,
+            diagnostics,
+            expected: expected(
+                number,
+                first,
+                Done {
+                    length: first,
+                    count: second,
+                },
+            ),
+            depths: depths != 0,
+            cells,
+        }
     }
 }
 
-// Whether the answer is the one that is expected.
-fn is_answer(answer: Result<Done, Refused>, case: Case) -> bool {
-    match answer {
-        Ok(done) => case.number == 0 && done.length == case.first && done.count == case.second,
-        Err(refused) => is_refusal(refused, case.number, case.first),
+// What the case expects to be written: nothing of a refusal.
+impl Case {
+    fn written(self) -> Done {
+        self.expected.unwrap_or(Done {
+            length: 0,
+            count: 0,
+        })
     }
-}
 
-// The bytes of the output, and of the diagnostics, that the case expects to be written.
-fn written(case: Case) -> usize {
-    if case.number == 0 {
-        return case.first;
+    // The bytes of the diagnostics.
+    fn marked(self) -> usize {
+        self.written().count.saturating_mul(DIAGNOSTIC_SIZE)
     }
-    0
-}
-
-// The bytes of so many diagnostics; of more than a case has room for, one byte too many.
-fn diagnostics_size(count: usize) -> usize {
-    if ROOM < count {
-        return ROOM + 1;
-    }
-    count * DIAGNOSTIC_SIZE
-}
-
-fn marked(case: Case) -> usize {
-    if case.number == 0 {
-        return diagnostics_size(case.second);
-    }
-    0
-}
-
-// The bytes of the cells that the case expects; of more than a table has, one byte too many.
-fn cells_size(case: Case) -> usize {
-    if CELLS < case.cells {
-        return CELLS_ROOM + 1;
-    }
-    case.cells * CELL
 }
 
 // What the table holds before the call.
 fn noise_table() -> Table {
     let mut table = [[0usize; COLUMNS]; ROWS];
-    for i in 0..CELLS {
-        table[i / COLUMNS][i % COLUMNS] = 3 * i + 1;
+    for (i, count) in table.as_flattened_mut().iter_mut().enumerate() {
+        *count = 3 * i + 1;
     }
     table
 }
 
 // The table that the case expects: of a refusal the one that was.
 fn expected_table(case: Case, cells: &[u8]) -> Table {
-    if case.number != 0 {
+    if case.expected.is_err() {
         return noise_table();
     }
     let mut table = [[0usize; COLUMNS]; ROWS];
     for cell in cells.chunks_exact(CELL) {
-        let place = size_at(cell, 0);
-        if place < CELLS {
-            table[place / COLUMNS][place % COLUMNS] = size_at(cell, 4);
+        let place = number_at(cell, 0) as usize;
+        if let Some(count) = table.as_flattened_mut().get_mut(place) {
+            *count = number_at(cell, 4) as usize;
         }
     }
     table
 }
 
-// The call on a case, with the table compared where it has one.
-fn answer_of(
+// What a case expects to be written.
+#[derive(Clone, Copy)]
+struct Wanted<'a> {
+    output: &'a [u8],
+    diagnostics: &'a [u8],
+    cells: &'a [u8],
+}
+
+// Whether the call on a case gives what is expected, and a table then holds the cells.
+fn answers(
     case: Case,
     tree: &[u8],
     list: &[u8],
@@ -138,114 +128,64 @@ fn answer_of(
     out: &mut [u8],
     dia: &mut [u8],
 ) -> bool {
-    if case.depths == 0 {
+    if !case.depths {
         return is_answer(
             transform_dts::transform(tree, list, case.unresolved, out, dia),
-            case,
+            case.expected,
         );
     }
     let mut table = noise_table();
     let answer = depth_counts::depths(tree, list, case.unresolved, out, dia, &mut table);
-    table == expected_table(case, front(cells, cells_size(case))) && is_answer(answer, case)
+    table == expected_table(case, cells) && is_answer(answer, case.expected)
 }
 
-// The same with both buffers compared.
-fn call(
-    case: Case,
-    tree: &[u8],
-    list: &[u8],
-    output: &[u8],
-    diagnostics: &[u8],
-    cells: &[u8],
-    out: &mut [u8],
-    dia: &mut [u8],
-) -> bool {
-    fill(out);
-    fill(dia);
-    answer_of(case, tree, list, cells, out, dia)
-        && holds(out, output, written(case))
-        && holds(dia, diagnostics, marked(case))
-}
-
-// The same with the buffers cut to the lengths of the case.
-fn call_cut(
-    case: Case,
-    tree: &[u8],
-    list: &[u8],
-    output: &[u8],
-    diagnostics: &[u8],
-    cells: &[u8],
-) -> bool {
-    if tree.len() < case.tree {
-        return false;
-    }
-    if list.len() < case.list {
-        return false;
-    }
-    if ROOM < case.out {
-        return false;
-    }
-    if ROOM < case.diagnostics {
-        return false;
-    }
-    let mut out = [0u8; ROOM];
-    let mut dia = [0u8; ROOM];
-    call(
-        case,
-        front(tree, case.tree),
-        front(list, case.list),
-        output,
-        diagnostics,
-        cells,
-        front_mut(&mut out, case.out),
-        front_mut(&mut dia, case.diagnostics),
-    )
-}
-
-// The case whose tree and list were read: what it expects is read, and compared with what the call gives.
-fn compare(
-    rt: &(impl Input + Print),
-    case: Case,
-    tree: &[u8],
-    list: &[u8],
-) -> io::Result<Option<bool>> {
+// The same with both buffers compared, which have the lengths of the case.
+fn gives(case: Case, tree: &[u8], list: &[u8], wanted: Wanted) -> bool {
     let mut output = [0u8; ROOM];
     let mut diagnostics = [0u8; ROOM];
-    let mut cells = [0u8; CELLS_ROOM];
-    if read_bytes(rt, &mut output, written(case))?.is_none() {
-        return Ok(None);
-    }
-    if read_bytes(rt, &mut diagnostics, marked(case))?.is_none() {
-        return Ok(None);
-    }
-    if read_bytes(rt, &mut cells, cells_size(case))?.is_none() {
-        return Ok(None);
-    }
-    Ok(Some(call_cut(case, tree, list, &output, &diagnostics, &cells)))
+    let out = front_mut(&mut output, case.out);
+    let dia = front_mut(&mut diagnostics, case.diagnostics);
+    fill(out);
+    fill(dia);
+    answers(case, tree, list, wanted.cells, out, dia)
+        && holds(out, wanted.output, wanted.output.len())
+        && holds(dia, wanted.diagnostics, wanted.diagnostics.len())
 }
 
 // The next case of the input: whether it gave what the Rust gave; `None` where there is no case.
-fn replay_one(
-    rt: &(impl Input + Print),
-    tree: &mut [u8],
-    list: &mut [u8],
-) -> io::Result<Option<bool>> {
-    let mut numbers = [0u8; NUMBERS];
-    if read_bytes(rt, &mut numbers, NUMBERS)?.is_none() {
+fn replay_one(rt: &impl Input, tree: &mut [u8], list: &mut [u8]) -> io::Result<Option<bool>> {
+    let Some(numbers) = read_numbers(rt)? else {
+        return Ok(None);
+    };
+    let case = Case::from(numbers);
+    let mut output = [0u8; ROOM];
+    let mut diagnostics = [0u8; ROOM];
+    let mut cells = [0u8; CELLS_ROOM];
+    let written = case.written().length;
+    let marked = case.marked();
+    let counted = case.cells.saturating_mul(CELL);
+    if read_bytes(rt, tree, case.tree_bytes)?.is_none()
+        || read_bytes(rt, list, case.list_bytes)?.is_none()
+        || read_bytes(rt, &mut output, written)?.is_none()
+        || read_bytes(rt, &mut diagnostics, marked)?.is_none()
+        || read_bytes(rt, &mut cells, counted)?.is_none()
+    {
         return Ok(None);
     }
-    let case = case_of(&numbers);
-    if read_bytes(rt, tree, case.tree_bytes)?.is_none() {
-        return Ok(None);
-    }
-    if read_bytes(rt, list, case.list_bytes)?.is_none() {
-        return Ok(None);
-    }
-    compare(rt, case, tree, list)
+    let fits = case.tree <= tree.len()
+        && case.list <= list.len()
+        && case.out <= ROOM
+        && case.diagnostics <= ROOM;
+    let wanted = Wanted {
+        output: front(&output, written),
+        diagnostics: front(&diagnostics, marked),
+        cells: front(&cells, counted),
+    };
+    Ok(Some(fits && gives(case, front(tree, case.tree), front(list, case.list), wanted)))
 }
 
 fn main(rt: HostRuntime) -> io::Result<()> {
-    let mut list = [0u8; LIST];
-    let mut tree = [0u8; TREE];
+    let mut list = [0u8; LIST_TOO_LONG];
+    let mut tree = [0u8; TREE_TOO_LONG];
     replay(&rt, || replay_one(&rt, tree.as_mut_slice(), &mut list))
 }

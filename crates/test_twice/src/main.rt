@@ -3,18 +3,50 @@
 // unresolved context.
 #![tactic(auto)]
 
-use console::{FRAMED_ROOM, MOST, UNRESOLVED, front, print, print_done, print_refusal, unwritten};
-use std::io;
+use console::shown::{Answer, Success};
+use console::{FRAMED_ROOM, UNRESOLVED, front, unwritten};
+use std::{fmt, io};
+use transform_dts::Done;
 
-fn show_same(rt: &impl Print, first: &[u8], second: &[u8]) -> io::Result<()> {
-    if first == second {
-        print(rt, b", the same\n")
-    } else {
-        print(rt, b", another\n")
+// What the first call gave, and what the second answered.
+#[derive(Clone, Copy)]
+struct Both {
+    first: Success,
+    second: Answer<Second>,
+}
+
+impl fmt::Display for Both {
+    fn fmt<W: fmt::Write>(&self, f: &mut fmt::Formatter<W>) -> fmt::Result {
+        write!(f, "{}, again {}", self.first, self.second)
     }
 }
 
-fn show_module(rt: &impl Print, tree: &[u8]) -> io::Result<()> {
+// What the second call gave, and whether its output is that of the first.
+#[derive(Clone, Copy)]
+struct Second {
+    done: Success,
+    same: bool,
+}
+
+impl fmt::Display for Second {
+    fn fmt<W: fmt::Write>(&self, f: &mut fmt::Formatter<W>) -> fmt::Result {
+        write!(
+            f,
+            "{}, {}",
+            self.done,
+            if self.same { "the same" } else { "another" }
+        )
+    }
+}
+
+fn success(done: Done) -> Success {
+    Success {
+        length: done.length,
+        count: done.count,
+    }
+}
+
+fn show_module(rt: &impl Print, number: usize, tree: &[u8]) -> io::Result<()> {
     let mut out = unwritten();
     let mut diagnostics = unwritten();
     let mut again = unwritten();
@@ -28,39 +60,23 @@ fn show_module(rt: &impl Print, tree: &[u8]) -> io::Result<()> {
         &mut again,
         &mut others,
     );
-    match both {
-        Err(refused) => print_refusal(rt, refused),
-        Ok(twice) => {
-            let length = twice.first.length;
-            print_done(rt, length, twice.first.count)?;
-            print(rt, b", again ")?;
-            match twice.second {
-                Err(refused) => print_refusal(rt, refused),
-                Ok(second) => {
-                    print_done(rt, second.length, second.count)?;
-                    show_same(rt, front(&out, length), front(&again, second.length))
-                }
-            }
-        }
-    }
-}
-
-// The next module of the input, with its number; false where there is none.
-fn next_module(rt: &(impl Input + Print), number: usize) -> io::Result<bool> {
-    let mut buffer = [0u8; FRAMED_ROOM];
-    let Some(length) = console::read_framed(rt, &mut buffer)? else {
-        return Ok(false);
-    };
-    print!(rt; "{number} ")?;
-    show_module(rt, &buffer[..length])?;
-    Ok(true)
+    let both = both.map(|twice| Both {
+        first: success(twice.first),
+        second: Answer(
+            twice.second.map(|second| Second {
+                done: success(second),
+                same: front(&out, twice.first.length) == front(&again, second.length),
+            }),
+        ),
+    });
+    println!(rt; "{number} {}", Answer(both))
 }
 
 fn main(rt: HostRuntime) -> io::Result<()> {
-    for number in 1..=MOST {
-        if !next_module(&rt, number)? {
-            break;
-        }
-    }
-    Ok(())
+    let mut buffer = [0u8; FRAMED_ROOM];
+    console::for_each_tree(
+        &rt,
+        &mut buffer,
+        |number, tree| show_module(&rt, number, tree),
+    )
 }

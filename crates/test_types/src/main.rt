@@ -4,16 +4,16 @@
 #![tactic(auto)]
 
 ghost use Rattle.std.specs.Prelude.{◌≡◌};
-ghost use Rattle.definition.specs.Check.{deepest};
 ghost use Rattle.definition.specs.Children.{AcceptedAt};
 ghost use Rattle.prescan.specs.Table.{Indexed};
 
-use console::{
-    FRAMED_ROOM, MOST, ROOM, UNRESOLVED, front_mut, print, print_hex, print_number, unwritten,
-};
+use console::shown::Hex;
+use console::{FRAMED_ROOM, ROOM, UNRESOLVED, front_mut, unwritten};
 use prescan::{LARGE_TABLE, Scope};
-use records::marks::XE;
-use std::io;
+use records::DEEPEST;
+use records::marks::Mark;
+use records::tree::Record;
+use std::{fmt, io};
 use typing::{Mode, State, Typed};
 
 // ---- One typing
@@ -30,45 +30,46 @@ fn start() -> State
     }
 }
 
-// The bytes of the type, those of the diagnostics, and the counter.
-fn show_state(rt: &impl Print, s: State) -> io::Result<()> {
-    print_number(rt, s.written)?;
-    print(rt, b" ")?;
-    print_number(rt, s.reported)?;
-    print(rt, b" ")?;
-    print_number(rt, s.counter)?;
-    print(rt, b"\n")
+// What a typing gave: whether there is a type, its bytes, those of the diagnostics, and the counter.
+#[derive(Clone, Copy)]
+struct Answer {
+    word: &'static str,
+    s: State,
 }
 
-fn show_answer(rt: &impl Print, typed: Typed) -> io::Result<State> {
-    match typed {
-        Typed::Some(s) => {
-            print(rt, b"typed ")?;
-            show_state(rt, s)?;
-            Ok(s)
-        }
-        Typed::None(s) => {
-            print(rt, b"untyped ")?;
-            show_state(rt, s)?;
-            Ok(s)
+impl From<Typed> for Answer {
+    fn from(typed: Typed) -> Answer {
+        match typed {
+            Typed::Some(s) => Answer { word: "typed", s },
+            Typed::None(s) => Answer { word: "untyped", s },
         }
     }
 }
 
-fn show_label(rt: &impl Print, at: usize, mode: Mode) -> io::Result<()> {
-    print_number(rt, at)?;
-    print(rt, b" ")?;
-    let as_const = mode.as_const;
-    if as_const {
-        print(rt, b"c")?;
-    } else {
-        print(rt, b"-")?;
+impl fmt::Display for Answer {
+    fn fmt<W: fmt::Write>(&self, f: &mut fmt::Formatter<W>) -> fmt::Result {
+        let s = self.s;
+        write!(
+            f,
+            "{} {} {} {}",
+            self.word, s.written, s.reported, s.counter
+        )
     }
-    let as_readonly = mode.as_readonly;
-    if as_readonly {
-        print(rt, b"r")
-    } else {
-        print(rt, b"-")
+}
+
+// Before an answer: where the expression stands, and its mode.
+#[derive(Clone, Copy)]
+struct Label {
+    at: usize,
+    mode: Mode,
+}
+
+impl fmt::Display for Label {
+    fn fmt<W: fmt::Write>(&self, f: &mut fmt::Formatter<W>) -> fmt::Result {
+        let mode = self.mode;
+        let constant = if mode.as_const { 'c' } else { '-' };
+        let readonly = if mode.as_readonly { 'r' } else { '-' };
+        write!(f, "{} {constant}{readonly}", self.at)
     }
 }
 
@@ -89,182 +90,112 @@ fn type_whole(
 }
 
 // The dry run: there is no room for anything.
-fn dry_run(
-    rt: &impl Print,
-    tree: &[u8],
-    at: usize,
-    levels: usize,
-    index: &[u32],
-    mode: Mode,
-) -> io::Result<State>
-    requires accepted_at { AcceptedAt levels tree.now at }
-    requires indexed { Indexed tree.now index.now }
+fn dry_run(rt: &impl Print, expr: Record, index: &[u32], mode: Mode) -> io::Result<State>
+    requires { Indexed expr.tree.now index.now }
 {
     let mut out = [0u8; 0];
     let mut diagnostics = [0u8; 0];
+    let Record { tree, at, levels } = expr;
     let typed = type_whole(tree, at, levels, index, mode, &mut out, &mut diagnostics);
-    show_label(rt, at, mode)?;
-    print(rt, b" dry ")?;
-    show_answer(rt, typed)
+    let answer = Answer::from(typed);
+    println!(rt; "{} dry {answer}", Label { at, mode })?;
+    Ok(answer.s)
 }
 
 fn run(
     rt: &impl Print,
-    tree: &[u8],
-    at: usize,
-    levels: usize,
+    expr: Record,
     index: &[u32],
     mode: Mode,
     out: &mut [u8],
     diagnostics: &mut [u8],
 ) -> io::Result<()>
-    requires accepted_at { AcceptedAt levels tree.now at }
-    requires indexed { Indexed tree.now index.now }
+    requires { Indexed expr.tree.now index.now }
 {
+    let Record { tree, at, levels } = expr;
     let typed = type_whole(tree, at, levels, index, mode, out, diagnostics);
-    show_label(rt, at, mode)?;
-    print(rt, b" run ")?;
-    show_answer(rt, typed)?;
-    print(rt, b"type=")?;
-    print_hex(rt, out)?;
-    print(rt, b"\ndiagnostics=")?;
-    print_hex(rt, diagnostics)?;
-    print(rt, b"\n")
+    println!(rt; "{} run {}", Label { at, mode }, Answer::from(typed))?;
+    println!(rt; "type={}", Hex(out))?;
+    println!(rt; "diagnostics={}", Hex(diagnostics))
 }
 
-fn show_typing(
-    rt: &impl Print,
-    tree: &[u8],
-    at: usize,
-    levels: usize,
-    index: &[u32],
-    scope: Scope,
-    as_const: bool,
-    as_readonly: bool,
-) -> io::Result<()>
-    requires accepted_at { AcceptedAt levels tree.now at }
-    requires indexed { Indexed tree.now index.now }
+// The dry run, and one with exactly as much room as it asked for.
+fn show_typing(rt: &impl Print, expr: Record, index: &[u32], mode: Mode) -> io::Result<()>
+    requires { Indexed expr.tree.now index.now }
 {
-    let mode = Mode {
-        scope,
-        as_const,
-        as_readonly,
-        frozen: false,
-    };
-    let s = dry_run(rt, tree, at, levels, index, mode)?;
-    let p = s.written;
-    let d = s.reported;
-    if ROOM < p {
-        print(rt, b"too long\n")?;
-        return Ok(());
-    }
-    if ROOM < d {
-        print(rt, b"too long\n")?;
-        return Ok(());
+    let s = dry_run(rt, expr, index, mode)?;
+    if ROOM < s.written || ROOM < s.reported {
+        return println!(rt; "too long");
     }
     let mut out = unwritten();
     let mut diagnostics = unwritten();
     run(
         rt,
-        tree,
-        at,
-        levels,
+        expr,
         index,
         mode,
-        front_mut(&mut out, p),
-        front_mut(&mut diagnostics, d),
+        front_mut(&mut out, s.written),
+        front_mut(&mut diagnostics, s.reported),
     )
 }
 
 // ---- Modules
 
-// The typings of the expression at `at`, in the four modes.
-fn show_typings(
-    rt: &impl Print,
-    tree: &[u8],
-    at: usize,
-    levels: usize,
-    index: &[u32],
-    scope: Scope,
-) -> io::Result<()>
-    requires accepted_at { AcceptedAt levels tree.now at }
-    requires indexed { Indexed tree.now index.now }
+// The typings of an expression, in the four modes.
+fn show_typings(rt: &impl Print, expr: Record, index: &[u32], scope: Scope) -> io::Result<()>
+    requires { Indexed expr.tree.now index.now }
 {
-    show_typing(rt, tree, at, levels, index, scope, false, false)?;
-    show_typing(rt, tree, at, levels, index, scope, false, true)?;
-    show_typing(rt, tree, at, levels, index, scope, true, false)?;
-    show_typing(rt, tree, at, levels, index, scope, true, true)
+    for as_const in [false, true] {
+        for as_readonly in [false, true] {
+            let mode = Mode {
+                scope,
+                as_const,
+                as_readonly,
+                frozen: false,
+            };
+            show_typing(rt, expr, index, mode)?;
+        }
+    }
+    Ok(())
 }
 
 // Those of the expression of an Xe; other items have none.
-fn show_item(
-    rt: &impl Print,
-    tree: &[u8],
-    at: usize,
-    levels: usize,
-    index: &[u32],
-    scope: Scope,
-) -> io::Result<()>
-    requires accepted_at { AcceptedAt levels tree.now at }
-    requires indexed { Indexed tree.now index.now }
+fn show_item(rt: &impl Print, item: Record, index: &[u32], scope: Scope) -> io::Result<()>
+    requires { Indexed item.tree.now index.now }
 {
-    if records::mark_at(tree, at) != XE {
-        return Ok(());
+    match item.mark() {
+        Mark::Xe => show_typings(rt, item.children().first(), index, scope),
+        _ => Ok(()),
     }
-    show_typings(
-        rt,
-        tree,
-        records::body_at(tree, at),
-        levels - 1,
-        index,
-        scope,
-    )
 }
 
-fn show_items(rt: &impl Print, tree: &[u8], index: &[u32]) -> io::Result<()>
-    requires { AcceptedAt deepest tree.now 0 × Indexed tree.now index.now }
-{
+// A module of the input, with its number.
+fn show_module(rt: &impl Print, number: usize, tree: &[u8]) -> io::Result<()> {
+    print!(rt; "{number} ")?;
+    if !console::print_check(rt, tree)? {
+        return Ok(());
+    }
+    let mut table = [0u32; LARGE_TABLE];
+    let index = prescan::index(tree, &mut table);
     let scope = Scope {
         unresolved: UNRESOLVED,
     };
-    let mut n = records::count_at(tree, 0);
-    let mut item = records::body_at(tree, 0);
-    while 0 < n {
-        show_item(rt, tree, item, records::DEEPEST - 1, index, scope)?;
-        item = records::record_end(tree, item, records::DEEPEST - 1);
-        n -= 1;
-    }
-    Ok(())
-}
-
-fn show_module(rt: &impl Print, tree: &[u8]) -> io::Result<()> {
-    if console::print_check(rt, tree)? {
-        let mut table = [0u32; LARGE_TABLE];
-        let index = prescan::index(tree, &mut table);
-        show_items(rt, tree, index)?;
-    }
-    Ok(())
-}
-
-// The next module of the input, with its number; false where there is none.
-fn next_module(rt: &(impl Input + Print), number: usize) -> io::Result<bool> {
-    let mut buffer = [0u8; FRAMED_ROOM];
-    let Some(length) = console::read_framed(rt, &mut buffer)? else {
-        return Ok(false);
+    let root = Record {
+        tree,
+        at: 0,
+        levels: DEEPEST,
     };
-    print_number(rt, number)?;
-    print(rt, b" ")?;
-    show_module(rt, &buffer[..length])?;
-    Ok(true)
+    for item in root.children() {
+        show_item(rt, item, index, scope)?;
+    }
+    Ok(())
 }
 
 fn main(rt: HostRuntime) -> io::Result<()> {
-    let mut number: usize = 1;
-    while number <= MOST {
-        if !next_module(&rt, number)? {
-            return Ok(());
-        }
-        number += 1;
-    }
-    Ok(())
+    let mut buffer = [0u8; FRAMED_ROOM];
+    console::for_each_tree(
+        &rt,
+        &mut buffer,
+        |number, tree| show_module(&rt, number, tree),
+    )
 }

@@ -2,33 +2,26 @@
 // bytes; a refusal of either is a line, as there.
 #![tactic(auto)]
 
-use console::{DIAGNOSTICS_ROOM, OUTPUT_ROOM, UNRESOLVED, print, print_refusal};
+use console::{DIAGNOSTICS_ROOM, OUTPUT_ROOM, Stop, UNRESOLVED};
 use std::io;
 
 // "text into 393,216 bytes".
 const TEXT_ROOM: usize = 393216;
 
-fn show(rt: &impl Print, tree: &[u8]) -> io::Result<()> {
+fn show(rt: &impl Print, tree: &[u8]) -> Result<(), Stop> {
     let mut out = [0u8; TEXT_ROOM];
-    match declaration_text::text(tree, &mut out) {
-        Ok(length) => print(rt, &out[..length]),
-        Err(refused) => print_refusal(rt, refused),
-    }
+    let length = declaration_text::text(tree, &mut out)?;
+    rt.write_all(&out[..length])?;
+    Ok(())
 }
 
-fn declare(rt: &impl Print, tree: &[u8]) -> io::Result<()> {
+fn declare(rt: &impl Print, tree: &[u8]) -> Result<(), Stop> {
     let mut out = [0u8; OUTPUT_ROOM];
     let mut diagnostics = [0u8; DIAGNOSTICS_ROOM];
-    match transform_dts::transform(tree, b"", UNRESOLVED, &mut out, &mut diagnostics) {
-        Ok(done) => show(rt, &out[..done.length]),
-        Err(refused) => print_refusal(rt, refused),
-    }
+    let done = transform_dts::transform(tree, b"", UNRESOLVED, &mut out, &mut diagnostics)?;
+    show(rt, &out[..done.length])
 }
 
 fn main(rt: HostRuntime) -> io::Result<()> {
-    let mut buffer = [0u8; console::TREE_ROOM];
-    if let Some(length) = console::read_tree(&rt, &mut buffer)? {
-        declare(&rt, &buffer[..length])?;
-    }
-    Ok(())
+    console::run(&rt, |tree| declare(&rt, tree))
 }

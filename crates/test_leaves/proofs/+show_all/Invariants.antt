@@ -1,13 +1,11 @@
--- `test_leaves::show_all` is safe and ends: each child of an accepted record is accepted, with one level less.
-use Prim.Native.Nat.{◌-◌}
-use Rattle.definition.specs.Children.{AllAccepted}
+-- `test_leaves::show_all` ends: the children of a record have one level less.
+use Rattle.std.proofs.Common.{◌≡◌, ◌+◌}
 use Rattle.test_leaves.proofs.+show_all.Given as goal
 
 abbrev pub decreases-show_all : goal.decreases-show_all
-decreases-show_all g l = l.levels
+decreases-show_all g l = l.record.levels
 
-abbrev pub invariant-loop-n : goal.invariant-loop-n
-invariant-loop-n g l = AllAccepted (l.levels - 1) l.tree l.n l.kid
-
-abbrev pub decreases-loop-n : goal.decreases-loop-n
-decreases-loop-n g l = l.n
+abbrev pub invariant-loop-kid : goal.invariant-loop-kid
+invariant-loop-kid g l =
+    (goal.iterator-loop-kid g).can_next l.kid-iterator ×
+    (goal.iterator-loop-kid g).is_finite l.kid-iterator × (l.kid-iterator.levels + 1 ≡ l.record.levels)

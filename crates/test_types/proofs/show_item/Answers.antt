@@ -1,23 +1,12 @@
--- `test_types::show_item` is safe: the expression of an Xe is accepted.
-use mathlib.Core.Path.{refl, sym, ◌∙◌}
+-- `test_types::show_item` is safe: an Xe has its expression, which stands in the same tree.
+use mathlib.Core.Path.{sym, ap, ◌∙◌}
 use native.Mathlib.Omega.{arith}
-use Rattle.definition.specs.Grammar.{mark, grammar, known, slots, place, expression}
-use Rattle.definition.proofs.Children.{itself, some_left}
-use Rattle.definition.proofs.Kids.{fixed, placed, first_in}
+use Rattle.records.specs.Marks.{number_of}
+use Rattle.records.proofs.Records.{enough}
 use Rattle.test_types.proofs.show_item.Goals as goal
 
-pub mark_at-requires : goal.mark_at-requires
-mark_at-requires g c = (itself c.args.levels c.args.tree.now c.args.at c.requires.accepted_at).room
-
-pub body_at-requires : goal.body_at-requires
-body_at-requires g c = (itself c.args.levels c.args.tree.now c.args.at c.requires.accepted_at).room
-
-pub overflow_sub-levels : goal.overflow_sub-levels
-overflow_sub-levels g c = omega (arith, some_left c.args.levels c.args.tree.now c.args.at c.requires.accepted_at)
+pub first-requires : goal.first-requires
+first-requires g c = omega (arith, c.children.ensures.many, enough c.args.item (sym c.mark.ensures ∙ ap number_of c.in-Xe.is))
 
 pub show_typings-requires : goal.show_typings-requires
-unfolding grammar known slots place fixed
-show_typings-requires g c = record {
-  accepted_at = (placed (first_in c.args.levels c.args.tree.now c.args.at c.requires.accepted_at (mark "Xe") (sym c.mark_at.ensures.0 ∙ c.if-mark_at-ne-XE.false) refl expression refl) c.body_at.ensures).accepted;
-  indexed = c.requires.indexed;
-}
+show_typings-requires g c = rw (c.first.ensures.tree, c.children.ensures.tree) c.requires

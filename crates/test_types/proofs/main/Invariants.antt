@@ -1,6 +1,0 @@
--- `test_types::main` is safe and ends: each turn raises the module's number.
-use Prim.Native.Nat.{◌-◌}
-use Rattle.test_types.proofs.main.Given as goal
-
-abbrev pub decreases-loop-number : goal.decreases-loop-number
-decreases-loop-number l = 65537 - l.number
