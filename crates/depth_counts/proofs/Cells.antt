@@ -3,19 +3,18 @@ use mathlib.Core.Path.{◌≡◌, refl, sym, ap, ◌∙◌, subst}
 use mathlib.Core.List.{List, [], ◌∷◌, ◌++◌}
 use mathlib.Core.Bool.{Bool, true, false, cond, ◌&&◌, ◌||◌}
 use Prim.Native.Nat.{ℕ, zero, suc, ◌+◌, ◌*◌, ◌-◌, ◌<◌, ◌≤◌}
-use native.Mathlib.Numerals.{add-one}
 use native.Mathlib.Omega.{arith}
 use lib.Dec.{eqb}
-use lib.ListN.{length, get_or, set, length-set, drop, drop_of_length-le}
-use lib.Seq.{get_or-set_same, get_or-set_other, drop-cons}
+use lib.ListN.{length, get_or, set, length-set, length-append, take, drop}
+use lib.Seq.{get_or-set_same, get_or-set_other}
 use borrow.Author.Tests.{eqb-true, eq-eqb, ne_eqb}
 use Rattle.definition.specs.Tree.{le2, le4, u16_at}
 use Rattle.definition.specs.Grammar.{mark, member}
 use Rattle.definition.specs.Record.{Diag, diagnostic_marks, diag_bytes, diags_bytes}
 use Rattle.definition.specs.Marked.{Kinds}
-use Rattle.definition.specs.Depths.{columns, all_at, count_of, sum, total}
+use Rattle.definition.specs.Depths.{columns, all_at, count_of}
 use Rattle.definition.proofs.Tests.{by_eq}
-use Rattle.definition.proofs.Places.{At, at_left, at_right, le2-at}
+use Rattle.definition.proofs.Places.{At, at_left, at_right, part_at, part_length, le2-at}
 use Rattle.definition.proofs.Calls.{length-diags_bytes}
 use Rattle.depth_counts.specs.Tables.{rows, Shape, cell, Small, AddsOne, Adds, diags_at, Holds}
 
@@ -73,48 +72,83 @@ apart q r h k = rw (row-mark q h, row-mark r k) (by_eq q r
 
 -- ---- diagnostics that are counted one after the other
 
--- of the n diagnostics from `at` on k are left, from p on: what is counted and what is left are as much as before
-pub record Marking (g : List ℕ) (at n depth : ℕ) (t u : List (List ℕ)) (p k : ℕ) : Type 0 where
+-- of the n diagnostics from `at` on those that stand in `left` are left, k of them, from p on, `size` bytes each: what is counted and what is left are
+-- as much as before
+pub record Marking (g : List ℕ) (at n depth : ℕ) (t u : List (List ℕ)) (size : ℕ) (left : List ℕ) : Type 0 where
+  pub p : ℕ
+  pub k : ℕ
+  pub each : size ≡ 10
+  pub many : length left ≡ 10 * k
+  pub stands : At g p left
   pub room : p + 10 * k ≡ at + 10 * n
   pub small : Small u p
   pub kinds : Kinds (diags_at g p k)
-  pub sum : (r d : ℕ) → r < rows → d < columns → cell t r d + count_of (get_or diagnostic_marks r 0) d (all_at depth (diags_at g at n))
+  pub same : (r d : ℕ) → r < rows → d < columns → cell t r d + count_of (get_or diagnostic_marks r 0) d (all_at depth (diags_at g at n))
       ≡ cell u r d + count_of (get_or diagnostic_marks r 0) d (all_at depth (diags_at g p k))
 
 module _ (g : List ℕ) (at n depth : ℕ) {t : List (List ℕ)} where
-  pub marking_start : Small t at → Kinds (diags_at g at n) → Marking g at n depth t t at n
-  marking_start s k = record { room = refl; small = s; kinds = k; sum = λ r d h l. refl }
+  pub marking_start : at + 10 * n ≤ length g → Small t at → Kinds (diags_at g at n) → {size : ℕ} {left : List ℕ} → size ≡ 10 → left ≡ take (10 * n) (drop at g) → Marking g at n depth t t size left
+  marking_start h s k {size} {left} e f = record {
+    p = at;
+    k = n;
+    each = e;
+    many = ap length f ∙ part_length g at (10 * n) h;
+    stands = rw f (part_at g at (10 * n) h);
+    room = refl;
+    small = s;
+    kinds = k;
+    same = λ r d h l. refl;
+  }
 
-  module _ {u : List (List ℕ)} {p k : ℕ} (l : Marking g at n depth t u p k) where
-    some_left : 0 < k → k ≡ suc (k - 1)
-    some_left h = omega arith
+  module _ {u : List (List ℕ)} {size : ℕ} {left : List ℕ} (l : Marking g at n depth t u size left) where
+    -- one that the iterator gives
+    module _ (x others : List ℕ) (e : left ≡ x ++ others) (f : length x ≡ size) where
+      some_left : l.k ≡ suc (l.k - 1)
+      some_left = let w = l.many in let y = l.each in omega (arith, w, y, f, ap length e, length-append x others)
 
-    pub marking_mark : 0 < k → member (u16_at g p) diagnostic_marks ≡ true
-    unfolding diags_at
-    marking_mark h = (subst (λ (j : ℕ). Kinds (diags_at g p j)) (some_left h) l.kinds).0
+      own : At g l.p (x ++ others)
+      own = rw (← e) l.stands
 
-    pub marking_turn : 0 < k → {row : ℕ} {v : List (List ℕ)} → row < rows → get_or diagnostic_marks row 0 ≡ u16_at g p → AddsOne u v row depth → Marking g at n depth t v (p + 10) (k - 1)
-    unfolding diags_at all_at count_of
-    marking_turn h {row} {v} hr e w = record {
-      room = omega (arith, l.room);
-      small = record { shape = w.shape; cells = λ r d hr' hd. omega (arith, w.cells r d hr' hd, l.small.cells r d hr' hd, one_most (eqb row r && eqb depth d)) };
-      kinds = (subst (λ (j : ℕ). Kinds (diags_at g p j)) (some_left h) l.kinds).1;
-      sum = λ r d hr' hd.
-          l.sum r d hr' hd
-          ∙ (ap (λ (j : ℕ). cell u r d + count_of (get_or diagnostic_marks r 0) d (all_at depth (diags_at g p j))) (some_left h)
-          ∙ (ap (λ (b : Bool). cell u r d + (cond (b && eqb depth d) 1 0 + count_of (get_or diagnostic_marks r 0) d (all_at depth (diags_at g (p + 10) (k - 1)))))
-          (ap (λ (m : ℕ). eqb m (get_or diagnostic_marks r 0)) (sym e) ∙ apart row r hr hr')
-          ∙ omega (arith, w.cells r d hr' hd)));
-    }
+      pub marking_read : u16_at x 0 ≡ u16_at g l.p
+      marking_read =
+          let a = at_left g l.p x others own in
+          let z : l.p + 0 ≡ l.p = omega arith in
+          let b : get_or g (l.p + 0) 0 ≡ get_or x 0 0 = a.same 0 (let y = l.each in omega (arith, f, y)) in
+          let c : get_or g (l.p + 1) 0 ≡ get_or x 1 0 = a.same 1 (let y = l.each in omega (arith, f, y)) in
+          let d : get_or g l.p 0 ≡ get_or x 0 0 = rw z at b in
+          omega (arith, c, d)
 
-    pub marking_done : k ≤ 0 → Adds t u (all_at depth (diags_at g at n))
+      pub marking_mark : member (u16_at x 0) diagnostic_marks ≡ true
+      unfolding diags_at
+      marking_mark = rw marking_read (subst (λ (j : ℕ). Kinds (diags_at g l.p j)) some_left l.kinds).0
+
+      pub marking_turn : {row : ℕ} {v : List (List ℕ)} → row < rows → get_or diagnostic_marks row 0 ≡ u16_at x 0 → AddsOne u v row depth → {next : ℕ} → next ≡ size → Marking g at n depth t v next others
+      unfolding diags_at all_at count_of
+      marking_turn {row} {v} hr m w q = record {
+        p = l.p + 10;
+        k = l.k - 1;
+        each = q ∙ l.each;
+        many = (let a = l.many in let y = l.each in omega (arith, a, y, f, ap length e, length-append x others));
+        stands = subst (λ (j : ℕ). At g j others) (let y = l.each in omega (arith, f, y)) (at_right g l.p x others own);
+        room = (let a = l.room in omega (arith, a, some_left));
+        small = record { shape = w.shape; cells = λ r d hr' hd. omega (arith, w.cells r d hr' hd, l.small.cells r d hr' hd, one_most (eqb row r && eqb depth d)) };
+        kinds = (subst (λ (j : ℕ). Kinds (diags_at g l.p j)) some_left l.kinds).1;
+        same = λ r d hr' hd.
+            l.same r d hr' hd
+            ∙ (ap (λ (j : ℕ). cell u r d + count_of (get_or diagnostic_marks r 0) d (all_at depth (diags_at g l.p j))) some_left
+            ∙ (ap (λ (b : Bool). cell u r d + (cond (b && eqb depth d) 1 0 + count_of (get_or diagnostic_marks r 0) d (all_at depth (diags_at g (l.p + 10) (l.k - 1)))))
+            (ap (λ (m : ℕ). eqb m (get_or diagnostic_marks r 0)) (sym (m ∙ marking_read)) ∙ apart row r hr hr')
+            ∙ omega (arith, w.cells r d hr' hd)));
+      }
+
+    pub marking_done : length left < size → Adds t u (all_at depth (diags_at g at n))
     unfolding diags_at all_at count_of
     marking_done h = record {
       shape = l.small.shape;
       cells = λ r d hr hd.
-          let z : k ≡ 0 = omega arith in
-          let e = ap (λ (j : ℕ). count_of (get_or diagnostic_marks r 0) d (all_at depth (diags_at g p j))) z in
-          omega (arith, e, l.sum r d hr hd);
+          let z : l.k ≡ 0 = (let a = l.many in let y = l.each in omega (arith, a, y, h)) in
+          let e = ap (λ (j : ℕ). count_of (get_or diagnostic_marks r 0) d (all_at depth (diags_at g l.p j))) z in
+          omega (arith, e, l.same r d hr hd);
     }
 
 -- ---- what stands in the buffer
@@ -171,22 +205,3 @@ module _ (g : List ℕ) (p : ℕ) (ds : List Diag) (k : Kinds ds) (h : Holds g p
 
   pub held-room : p + 10 * length ds ≤ length g
   held-room = omega (arith, h.fits, length-diags_bytes ds)
-
--- ---- sums
-
--- those from the place i on: the first of them and the others
-pub sum_more : (l : List ℕ) (i : ℕ) → i < length l → sum (drop i l) ≡ get_or l i 0 + sum (drop (i + 1) l)
-unfolding sum
-sum_more l i h = rw (add-one i, drop-cons l i 0 h) refl
-
-pub sum-none : (l : List ℕ) (i : ℕ) → length l ≤ i → sum (drop i l) ≡ 0
-unfolding sum
-sum-none l i h = rw (drop_of_length-le l h) refl
-
-pub total-more : (t : List (List ℕ)) (i : ℕ) → i < length t → total (drop i t) ≡ sum (get_or t i []) + total (drop (i + 1) t)
-unfolding total
-total-more t i h = rw (add-one i, drop-cons t i [] h) refl
-
-pub total-none : (t : List (List ℕ)) (i : ℕ) → length t ≤ i → total (drop i t) ≡ 0
-unfolding total
-total-none t i h = rw (drop_of_length-le t h) refl

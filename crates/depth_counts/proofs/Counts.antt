@@ -1,6 +1,6 @@
 -- What the counts of a success say, as they are written for C: row by row, d1 first and depth 0 first.
 use mathlib.Core.Path.{◌≡◌, refl, sym, ◌∙◌}
-use mathlib.Core.List.{List, [], ◌∷◌, ◌++◌}
+use mathlib.Core.List.{List, [], ◌∷◌}
 use Prim.Native.Nat.{ℕ, ◌+◌, ◌*◌, ◌<◌}
 use native.Mathlib.Omega.{arith}
 use lib.ListN.{get_or}
@@ -13,18 +13,13 @@ use Rattle.definition.proofs.Calls.{call-done}
 use Rattle.definition.proofs.Depths.{total-is}
 use Rattle.depth_counts.specs.Tables.{rows}
 use Rattle.depth_counts.proofs.Whole.{table-shape, table-cell}
-use Rattle.depth_counts.proofs.Rows.{wide, row-cell}
+use Rattle.depth_counts.proofs.Rows.{sum-join, wide, row-cell}
 
 -- each is "the number of diagnostic records of that row and depth"
 pub count_at_lem : (xs : List Placed) (r d : ℕ) → r < rows → d < columns → get_or (in_one (table_of xs)) (columns * r + d) 0 ≡ count_of (get_or diagnostic_marks r 0) d xs
 count_at_lem xs r d hr hd =
     let s = table-shape xs in
     row-cell (table_of xs) (wide (table_of xs) s) r d (omega (arith, s.tall)) hd ∙ table-cell xs r d hr hd
-
-sum-join : (a b : List ℕ) → sum (a ++ b) ≡ sum a + sum b
-unfolding sum
-sum-join [] b = omega arith
-sum-join (x ∷ a) b = omega (arith, sum-join a b)
 
 sum_in_one : (t : List (List ℕ)) → sum (in_one t) ≡ total t
 unfolding in_one total sum

@@ -1,10 +1,12 @@
 -- The table row by row in one list.
-use mathlib.Core.Path.{◌≡◌, sym, ap, ◌∙◌}
+use mathlib.Core.Path.{◌≡◌, refl, sym, ap, ◌∙◌}
 use mathlib.Core.List.{List, [], ◌∷◌, ◌++◌}
 use Prim.Native.Nat.{ℕ, zero, suc, ◌+◌, ◌*◌, ◌/◌, ◌%◌, ◌<◌, ◌≤◌}
 use native.Mathlib.Omega.{arith}
 use lib.ListN.{length, get_or, set, length-set, length-append, get_or-append}
 use lib.Seq.{ext_get_or, get_or-append-add, get_or-set_same, get_or-set_other}
+use Rattle.std.specs.List as Std
+use Rattle.std.specs.List.{fold, flat_map}
 use Rattle.definition.specs.Depths.{columns, sum, total, in_one}
 use Rattle.depth_counts.specs.Tables.{rows, Shape, cell}
 use Rattle.definition.proofs.Tests.{by_eq}
@@ -25,6 +27,27 @@ total_most (x ∷ t) (suc r) = omega (arith, total_most t r)
 
 pub cell_most : (t : List (List ℕ)) (r d : ℕ) → cell t r d ≤ total t
 cell_most t r d = omega (arith, sum_most (get_or t r []) d, total_most t r)
+
+-- ---- the total
+
+pub sum-join : (a b : List ℕ) → sum (a ++ b) ≡ sum a + sum b
+unfolding sum
+sum-join [] b = omega arith
+sum-join (x ∷ a) b = omega (arith, sum-join a b)
+
+fold-sum : (a : ℕ) (l : List ℕ) → fold (λ a x. a + x) a l ≡ a + sum l
+unfolding sum
+fold-sum a [] = omega arith
+fold-sum a (x ∷ l) = omega (arith, fold-sum (a + x) l)
+
+flat_sum : (t : List (List ℕ)) → sum (flat_map (λ x. x) t) ≡ total t
+unfolding sum total
+flat_sum [] = refl
+flat_sum (x ∷ t) = omega (arith, sum-join x (flat_map (λ x. x) t), flat_sum t)
+
+-- is the sum of the counts row after row
+pub flat_total : (t : List (List ℕ)) → Std.sum (flat_map (λ x. x) t) ≡ total t
+flat_total t = omega (arith, fold-sum 0 (flat_map (λ x. x) t), flat_sum t)
 
 -- ---- where the counts stand
 

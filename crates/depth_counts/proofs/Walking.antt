@@ -6,36 +6,31 @@ use Prim.Native.Nat.{ℕ, suc, ◌+◌, ◌*◌, ◌-◌, ◌/◌, ◌<◌, ◌�
 use native.Mathlib.Omega.{arith}
 use lib.Dec.{eqb}
 use lib.ListN.{length, get_or, length-append}
-use Rattle.definition.specs.Tree.{Rec, Recs, nil, end_at, tree_at}
-use Rattle.definition.specs.Children.{AcceptedAt, AllAccepted}
+use Rattle.definition.specs.Tree.{Rec, Recs, nil, end_at}
 use Rattle.definition.specs.Record.{kids_of, Diag, diagnostic_marks, diags_bytes, Out}
 use Rattle.definition.specs.Marked.{Kinds}
 use Rattle.definition.specs.Items.{transform_module_items}
-use Rattle.definition.specs.Depths.{Placed, columns, all_at, what_of, items_placed, item_placed, count_of}
+use Rattle.definition.specs.Depths.{Placed, all_at, what_of, items_placed, count_of}
 use Rattle.definition.proofs.Calls.{length-diags_bytes}
-use Rattle.definition.proofs.Children.{read_all_more}
 use Rattle.definition.proofs.Places.{At, at_left, at_right}
-use Rattle.definition.proofs.Walk.{Left, left-first, left-turn, left-done}
 use Rattle.definition.proofs.Depths.{what-all, what_append, length-what}
 use Rattle.definition.proofs.Counting.{expr_to_ts_type-within}
 use Rattle.definition.proofs.CountingItems.{item-within}
-use Rattle.prescan.specs.declared.Scope.{Scope}
-use Rattle.typing.specs.declared.State.{State}
-use Rattle.typing.specs.declared.Counted.{Counted}
-use Rattle.typing.specs.Did.{ids_of}
-use Rattle.typing.specs.Below.{MakesCounted}
-use Rattle.typing.proofs.Counter.{records-within}
-use Rattle.typing.proofs.Steps.{diags_append}
 use Rattle.records.specs.declared.tree.Record.{Record}
 use Rattle.records.specs.declared.tree.Records.{Records}
-use Rattle.records.specs.Views.{rec_of, recs_of, ChildrenOf}
-use Rattle.records.proofs.Views.{all_here}
-use Rattle.prescan.specs.Table.{Indexed}
-use Rattle.classes.specs.Typings.{typing_of, ReadyAll}
-use Rattle.items.specs.Steps.{records_at, item_of, items_of}
+use Rattle.records.specs.Views.{rec_of, recs_of, ChildrenOf, FirstOf, RestOf}
+use Rattle.records.proofs.Records.{recs_none, recs_step}
+use Rattle.records.proofs.Views.{accepted}
+use Rattle.output.specs.declared.Output.{Output}
+use Rattle.output.specs.Outputs.{MakesCounted}
+use Rattle.output.proofs.Counter.{records-within}
+use Rattle.output.proofs.Steps.{diags_append}
+use Rattle.typing.specs.Values.{ids_in, typing_in}
+use Rattle.items.specs.InScope.{item_in, items_in}
+use Rattle.depth_counts.specs.declared.walk.Walk.{Walk}
 use Rattle.depth_counts.specs.Tables.{Shape, Small, Adds, diags_at, Holds}
-use Rattle.depth_counts.specs.Walks.{Spaced, Flat, IsBlock, Counts}
-use Rattle.depth_counts.proofs.Cells.{one_most, held-kinds, held-adds, held-room}
+use Rattle.depth_counts.specs.Walks.{Spaced, Flat, IsBlock, SpaceOf, item_from, items_from, Ready, ReadyAll, Counts}
+use Rattle.depth_counts.proofs.Cells.{one_most, held-kinds, held-adds}
 
 length-all : (d : ℕ) (xs : List Diag) → length (all_at d xs) ≡ length xs
 unfolding all_at
@@ -44,23 +39,27 @@ length-all d (x ∷ xs) = ap suc (length-all d xs)
 
 -- ---- a dry run
 
-module _ {o o' g g' : List ℕ} (s : State) {made : Counted} (x : Out Recs) (w : MakesCounted o o' g g' s made x) {diag : List ℕ} (h : Holds diag s.reported x.1) (short : length diag < 2 ^ 64) where
-  dry_reported : made.s.reported ≡ s.reported + 10 * length x.1
-  dry_reported = omega (arith, w.step.ran.atd, h.fits, length-diags_bytes x.1)
+-- from where the walk a stands to `end`
+module _ (a : Walk) {o o' : Output} {made : ℕ} {x : Out Recs} (w : MakesCounted o o' made x) (e : o.diagnostics.now.at ≡ a.at) {end : ℕ} (f : end ≡ o'.diagnostics.now.at) (h : Holds a.diagnostics.now a.at x.1) (short : length a.diagnostics.now < 2 ^ 64) where
+  dry_end : end ≡ a.at + 10 * length x.1
+  dry_end = omega (arith, w.made.step.diagnostics.position, e, f, h.fits, length-diags_bytes x.1)
 
-  module _ (k : Kinds x.1) {n : ℕ} (e : n ≡ (made.s.reported - s.reported) / 10) where
+  module _ (k : Kinds x.1) {n : ℕ} (m : n ≡ (end - a.at) / 10) where
     many : n ≡ length x.1
-    many = omega (arith, dry_reported)
+    many = omega (arith, dry_end)
 
-    pub dry_asked : (depth : ℕ) → depth < columns → {t : List (List ℕ)} → Small t s.reported
-        → ((s.reported + 10 * n ≤ length diag) × (depth < columns)) × (Small t s.reported × Kinds (diags_at diag s.reported n))
-    dry_asked depth hd z = ((omega (arith, many, held-room diag s.reported x.1 k h), hd), (z, rw many (held-kinds diag s.reported x.1 k h)))
+    pub dry_asked : Small a.table a.at → Small a.table a.at × Kinds (diags_at a.diagnostics.now a.at n)
+    dry_asked z = (z, rw many (held-kinds a.diagnostics.now a.at x.1 k h))
 
-    pub dry_done : (depth : ℕ) {t u : List (List ℕ)} → Adds t u (all_at depth (diags_at diag s.reported n)) → Counts t u s made.s (all_at depth x.1) x.2
-    dry_done depth {t} {u} a = record {
-      adds = held-adds diag s.reported x.1 k h depth (subst (λ (j : ℕ). Adds t u (all_at depth (diags_at diag s.reported j))) many a);
-      reported = omega (arith, dry_reported, length-all depth x.1);
-      counter = w.step.counter;
+    pub dry_done : (depth : ℕ) {u : List (List ℕ)} → Adds a.table u (all_at depth (diags_at a.diagnostics.now a.at n))
+        → Counts a (record { list = a.list; scope = a.scope; diagnostics = a.diagnostics; at = end; table = u; id_counter = o'.names.id_counter }) (all_at depth x.1) x.2
+    dry_done depth {u} g = record {
+      adds = held-adds a.diagnostics.now a.at x.1 k h depth (subst (λ (j : ℕ). Adds a.table u (all_at depth (diags_at a.diagnostics.now a.at j))) many g);
+      place = omega (arith, dry_end, length-all depth x.1);
+      counter = w.made.step.counter;
+      list = refl;
+      scope = refl;
+      diagnostics = refl;
     }
 
 -- ---- counts one after the other
@@ -92,10 +91,10 @@ small-after xs s a e = record {
 }
 
 -- nothing is counted
-pub counts-none : {t : List (List ℕ)} (s : State) → Shape t → Counts t t s s [] s.counter
-counts-none s z = record { adds = adds_none z; reported = omega arith; counter = refl }
+pub counts-none : (w : Walk) → Shape w.table → Counts w w [] w.id_counter
+counts-none w z = record { adds = adds_none z; place = omega arith; counter = refl; list = refl; scope = refl; diagnostics = refl }
 
-pub counts-as : {t u : List (List ℕ)} {s r : State} {xs ys : List Placed} {n m : ℕ} → Counts t u s r xs n → xs ≡ ys → n ≡ m → Counts t u s r ys m
+pub counts-as : {w v : Walk} {xs ys : List Placed} {n m : ℕ} → Counts w v xs n → xs ≡ ys → n ≡ m → Counts w v ys m
 counts-as c e f = rw (← e, ← f) c
 
 -- ---- the buffer one after the other
@@ -114,133 +113,142 @@ holds-rest {g} {p} {q} xs ys h e =
     let a = at_right g p (diags_bytes (what_of xs)) (diags_bytes (what_of ys)) (split xs ys h) in
     subst (λ (k : ℕ). Holds g k (what_of ys)) (omega (arith, e, bytes_of xs)) (record { fits = a.fits; same = a.same })
 
--- ---- the children of an Nb that was found from an Ns on
-
-items_tree : {most : ℕ} {space block : Record} {items : Records} → IsBlock most space block → ChildrenOf block items → {tree : List ℕ} → space.tree.now ≡ tree → items.tree.now ≡ tree
-items_tree i k e = rw (k.tree, i.tree) e
-
-pub block_ready : {most : ℕ} {space block : Record} {items : Records} → IsBlock most space block → ChildrenOf block items → {tree : List ℕ} → space.tree.now ≡ tree
-    → {n : ℕ} → n ≤ space.at → {index : List ℕ} → Indexed tree index → ReadyAll items.levels tree items.count items.at n index
-block_ready {items = items} i k e h x = record {
-  accepted = subst (λ (s : List ℕ). AllAccepted items.levels s items.count items.at) (items_tree i k e) (all_here items);
-  low = omega (arith, h, i.place, k.behind);
-  indexed = x;
-}
-
 -- ---- one item
 
-module _ (list tree : List ℕ) (scope : Scope) where
-  abbrev pub placed_of : Bool → Rec → ℕ → ℕ → List Placed
-  placed_of top r d n = item_placed list scope.unresolved (typing_of tree scope) r top d n
+module _ (w : Walk) (r : Rec) (top : Bool) (d : ℕ) where
+  -- one that is no Ns
+  pub plain-holds : Flat r → {g : List ℕ} {p : ℕ} → Holds g p (what_of (item_from w r top d)) → Holds g p (item_in w.list.now w.scope top r w.id_counter).1
+  plain-holds f {g} {p} h =
+      subst (Holds g p)
+      (ap what_of (f.placed w.list.now w.scope.unresolved (typing_in w.scope) top d w.id_counter) ∙ what-all d (item_in w.list.now w.scope top r w.id_counter).1)
+      h
 
-  abbrev pub placed_of_all : Bool → Recs → ℕ → ℕ → List Placed
-  placed_of_all top rs d n = items_placed list scope.unresolved (typing_of tree scope) rs top d n
+  pub plain-counts : Flat r → {v : Walk} {n : ℕ} → Counts w v (all_at d (item_in w.list.now w.scope top r w.id_counter).1) n → Counts w v (item_from w r top d) n
+  plain-counts f c = counts-as c (sym (f.placed w.list.now w.scope.unresolved (typing_in w.scope) top d w.id_counter)) refl
 
-  module _ (r : Rec) (top : Bool) (d n : ℕ) where
-    -- one that is no Ns
-    pub plain-holds : Flat r → {g : List ℕ} {p : ℕ} → Holds g p (what_of (placed_of top r d n)) → Holds g p (item_of list tree scope top r n).1
-    plain-holds f {g} {p} h = subst (Holds g p) (ap what_of (f.placed list scope.unresolved (typing_of tree scope) top d n) ∙ what-all d (item_of list tree scope top r n).1) h
+  -- an Ns without items
+  pub empty_counts : Spaced r nil → Shape w.table → Counts w w (item_from w r top d) (item_in w.list.now w.scope top r w.id_counter).2
+  unfolding items_placed transform_module_items
+  empty_counts f z =
+      counts-as (counts-none w z) (sym (f.placed w.list.now w.scope.unresolved (typing_in w.scope) top d w.id_counter))
+      (sym (f.counter w.list.now w.scope.unresolved (typing_in w.scope) top w.id_counter))
 
-    pub plain-counts : Flat r → {t u : List (List ℕ)} {s q : State} {m : ℕ} → Counts t u s q (all_at d (item_of list tree scope top r n).1) m → Counts t u s q (placed_of top r d n) m
-    plain-counts f c = counts-as c (sym (f.placed list scope.unresolved (typing_of tree scope) top d n)) refl
+  -- an Ns with items
+  module _ {block : Record} {items : Records} (f : Spaced r (kids_of (rec_of block))) (k : ChildrenOf block items) {deeper : ℕ} (z : deeper ≡ d + 1) where
+    its_placed : item_from w r top d ≡ items_from w (recs_of items) false deeper
+    its_placed =
+        f.placed w.list.now w.scope.unresolved (typing_in w.scope) top d w.id_counter
+        ∙ (ap (λ (ks : Recs). items_from w ks false (suc d)) (sym k.are) ∙ ap (items_from w (recs_of items) false) (omega arith))
 
-    -- an Ns without items
-    pub empty_counts : Spaced r nil → {t : List (List ℕ)} (s : State) → s.counter ≡ n → Shape t → Counts t t s s (placed_of top r d n) (item_of list tree scope top r n).2
-    unfolding items_placed transform_module_items
-    empty_counts f s e z =
-        counts-as (counts-none s z) (sym (f.placed list scope.unresolved (typing_of tree scope) top d n)) (e ∙ sym (f.counter list scope.unresolved (typing_of tree scope) top n))
+    pub block-holds : {g : List ℕ} {p : ℕ} → Holds g p (what_of (item_from w r top d)) → Holds g p (what_of (items_from w (recs_of items) false deeper))
+    block-holds {g} {p} h = subst (λ (xs : List Placed). Holds g p (what_of xs)) its_placed h
 
-    -- an Ns with items
-    module _ {most : ℕ} {space block : Record} {items : Records} (f : Spaced r (kids_of (rec_of block))) (i : IsBlock most space block) (k : ChildrenOf block items) (same : space.tree.now ≡ tree) {d' : ℕ} (z : d' ≡ d + 1) where
-      its_items : kids_of (rec_of block) ≡ records_at items.levels tree items.count items.at
-      unfolding recs_of
-      its_items = sym k.are ∙ ap (λ (s : List ℕ). records_at items.levels s items.count items.at) (items_tree i k same)
+    pub block-counts : {v : Walk} → Counts w v (items_from w (recs_of items) false deeper) (items_in w.list.now w.scope false (recs_of items) w.id_counter).2
+        → Counts w v (item_from w r top d) (item_in w.list.now w.scope top r w.id_counter).2
+    block-counts c =
+        counts-as c (sym its_placed)
+        (ap (λ (ks : Recs). (items_in w.list.now w.scope false ks w.id_counter).2) k.are ∙ sym (f.counter w.list.now w.scope.unresolved (typing_in w.scope) top w.id_counter))
 
-      its_placed : placed_of top r d n ≡ placed_of_all false (records_at items.levels tree items.count items.at) d' n
-      its_placed =
-          f.placed list scope.unresolved (typing_of tree scope) top d n
-          ∙ (ap (λ (ks : Recs). placed_of_all false ks (suc d) n) its_items ∙ ap (λ (e : ℕ). placed_of_all false (records_at items.levels tree items.count items.at) e n) (omega arith))
-
-      pub block-holds : {g : List ℕ} {p : ℕ} → Holds g p (what_of (placed_of top r d n)) → Holds g p (what_of (placed_of_all false (records_at items.levels tree items.count items.at) d' n))
-      block-holds {g} {p} h = subst (λ (xs : List Placed). Holds g p (what_of xs)) its_placed h
-
-      pub block-counts : {t u : List (List ℕ)} {s q : State}
-          → Counts t u s q (placed_of_all false (records_at items.levels tree items.count items.at) d' n) (items_of list tree scope false (records_at items.levels tree items.count items.at) n).2
-          → Counts t u s q (placed_of top r d n) (item_of list tree scope top r n).2
-      block-counts c =
-          counts-as c (sym its_placed)
-          (ap (λ (ks : Recs). (items_of list tree scope false ks n).2) (sym its_items) ∙ sym (f.counter list scope.unresolved (typing_of tree scope) top n))
+-- the items of the Nb that was found in an item have two levels less
+pub block_ready : {w : Walk} {item space block : Record} {items : Records} {d deeper : ℕ} → Ready w item d → SpaceOf item space → IsBlock (space.levels - 1) space block → ChildrenOf block items → deeper ≡ d + 1
+    → ReadyAll w items deeper
+block_ready q s i k z = record {
+  low = omega (arith, q.low, s.place, i.place, k.behind);
+  same = q.same ∙ sym (k.tree ∙ (i.tree ∙ s.tree));
+  levels = omega (arith, q.levels, s.levels, i.levels, k.levels, k.left);
+}
 
 -- ---- the items one after the other
 
--- k are left from c on, and those before them are counted
-pub record Walking (list tree : List ℕ) (scope : Scope) (top : Bool) (levels depth : ℕ) (total : List Placed) (last : ℕ) (g : List ℕ) (t u : List (List ℕ)) (s q : State) (k c : ℕ) : Type 0 where
+-- those of k are left, and those before them are counted
+pub record Walking (top : Bool) (depth levels : ℕ) (total : List Placed) (last : ℕ) (a b : Walk) (k : Records) : Type 0 where
   pub done : List Placed
-  pub counts : Counts t u s q done q.counter
-  pub small : Small u q.reported
-  pub low : q.counter ≤ c
-  pub holds : Holds g q.reported (what_of (placed_of_all list tree scope top (records_at levels tree k c) depth q.counter))
-  pub left : Left {A = List Placed × ℕ} (λ (ks : Recs). (done ++ placed_of_all list tree scope top ks depth q.counter, (items_of list tree scope top ks q.counter).2)) (total, last) levels tree k c
+  pub counts : Counts a b done b.id_counter
+  pub small : Small b.table b.at
+  pub ready : ReadyAll b k depth
+  pub level : k.levels ≡ levels
+  pub holds : Holds b.diagnostics.now b.at (what_of (items_from b (recs_of k) top depth))
+  pub placed : done ++ items_from b (recs_of k) top depth ≡ total
+  pub counter : (items_in b.list.now b.scope top (recs_of k) b.id_counter).2 ≡ last
 
-module _ (list tree : List ℕ) (scope : Scope) (top : Bool) (levels depth : ℕ) where
-  pub walking_start : {n at : ℕ} (s : State) {index : List ℕ} → ReadyAll levels tree n at s.counter index → {t : List (List ℕ)} → Small t s.reported
-      → {g : List ℕ} → Holds g s.reported (what_of (placed_of_all list tree scope top (records_at levels tree n at) depth s.counter))
-      → Walking list tree scope top levels depth (placed_of_all list tree scope top (records_at levels tree n at) depth s.counter) (items_of list tree scope top (records_at levels tree n at) s.counter).2 g t t s s n at
-  walking_start s a z h = record {
-    done = [];
-    counts = counts-none s z.shape;
-    small = z;
-    low = a.low;
-    holds = h;
-    left = record { kids = a.accepted; same = refl };
-  }
+pub walking_start : (top : Bool) (depth : ℕ) (a : Walk) (k : Records) → ReadyAll a k depth → Small a.table a.at → Holds a.diagnostics.now a.at (what_of (items_from a (recs_of k) top depth))
+    → Walking top depth k.levels (items_from a (recs_of k) top depth) (items_in a.list.now a.scope top (recs_of k) a.id_counter).2 a a k
+walking_start top depth a k r z h = record {
+  done = [];
+  counts = counts-none a z.shape;
+  small = z;
+  ready = r;
+  level = refl;
+  holds = h;
+  placed = refl;
+  counter = refl;
+}
 
-  module _ {total : List Placed} {last : ℕ} {g : List ℕ} {t u : List (List ℕ)} {s q : State} {k c : ℕ} (l : Walking list tree scope top levels depth total last g t u s q k c) where
-    pub walking_first : 0 < k → AcceptedAt levels tree c
-    walking_first h = left-first l.left h
+module _ {top : Bool} {depth levels : ℕ} {total : List Placed} {last : ℕ} {a b : Walk} {k : Records} (i : Walking top depth levels total last a b k) where
+  module _ {x : Record} {l : Records} (n : (0 < k.count) × FirstOf k x × RestOf k l) where
+    abbrev its_counter : ℕ
+    its_counter = (item_in b.list.now b.scope top (rec_of x) b.id_counter).2
 
-    first-split : 0 < k → placed_of_all list tree scope top (records_at levels tree k c) depth q.counter
-        ≡ placed_of list tree scope top (tree_at levels tree c) depth q.counter
-        ++ placed_of_all list tree scope top (records_at levels tree (k - 1) (end_at levels tree c)) depth (item_of list tree scope top (tree_at levels tree c) q.counter).2
+    abbrev others_placed : List Placed
+    others_placed = items_placed b.list.now b.scope.unresolved (typing_in b.scope) (recs_of l) top depth its_counter
+
+    first-split : items_from b (recs_of k) top depth ≡ item_from b (rec_of x) top depth ++ others_placed
     unfolding items_placed
-    first-split h = ap (λ (ks : Recs). placed_of_all list tree scope top ks depth q.counter) (read_all_more (tree_at levels tree) (end_at levels tree) k c h)
+    first-split = ap (λ (ks : Recs). items_from b ks top depth) (recs_step n.0 n.1 n.2)
 
-    split-holds : 0 < k → Holds g q.reported (what_of (placed_of list tree scope top (tree_at levels tree c) depth q.counter
-        ++ placed_of_all list tree scope top (records_at levels tree (k - 1) (end_at levels tree c)) depth (item_of list tree scope top (tree_at levels tree c) q.counter).2))
-    split-holds h = subst (λ (xs : List Placed). Holds g q.reported (what_of xs)) (first-split h) l.holds
+    split-holds : Holds b.diagnostics.now b.at (what_of (item_from b (rec_of x) top depth ++ others_placed))
+    split-holds = subst (λ (xs : List Placed). Holds b.diagnostics.now b.at (what_of xs)) first-split i.holds
 
-    pub walking_holds : 0 < k → Holds g q.reported (what_of (placed_of list tree scope top (tree_at levels tree c) depth q.counter))
-    walking_holds h = holds-first (placed_of list tree scope top (tree_at levels tree c) depth q.counter) _ (split-holds h)
+    pub walking_ready : Ready b x depth
+    walking_ready = record {
+      low = omega (arith, i.ready.low, n.1.place);
+      same = i.ready.same ∙ sym n.1.tree;
+      levels = omega (arith, i.ready.levels, n.1.levels);
+    }
 
-    pub walking_turn : 0 < k → {v : List (List ℕ)} {q' : State}
-        → Counts u v q q' (placed_of list tree scope top (tree_at levels tree c) depth q.counter) (item_of list tree scope top (tree_at levels tree c) q.counter).2
-        → {d : ℕ} → d ≡ end_at levels tree c → Walking list tree scope top levels depth total last g t v s q' (k - 1) d
-    unfolding items_placed transform_module_items
-    walking_turn h {v} {q'} w {d} e =
-        let r : Rec = tree_at levels tree c in
-        let xs : List Placed = placed_of list tree scope top r depth q.counter in
-        let rs : Recs = records_at levels tree (k - 1) (end_at levels tree c) in
-        rw e (record {
-          done = l.done ++ xs;
-          counts = record {
-            adds = adds_then l.done xs l.counts.adds w.adds;
-            reported = omega (arith, w.reported, l.counts.reported, length-append l.done xs);
-            counter = refl;
-          };
-          small = small-after xs l.small w.adds w.reported;
-          low = omega (arith, w.counter, (item-within (typing_of tree scope) (expr_to_ts_type-within (ids_of tree) scope.unresolved) list scope.unresolved r top q.counter).high, l.low, records-within levels tree c (walking_first h));
-          holds = subst (λ (n : ℕ). Holds g q'.reported (what_of (placed_of_all list tree scope top rs depth n))) (sym w.counter) (holds-rest xs _ (split-holds h) w.reported);
-          left = left-turn l.left h _
-              (λ rs. λ i. (
-                (sym (append_assoc l.done xs (placed_of_all list tree scope top rs depth (item_of list tree scope top r q.counter).2))
-                    ∙ ap (λ (n : ℕ). (l.done ++ xs) ++ placed_of_all list tree scope top rs depth n) (sym w.counter)) i,
-                ap (λ (n : ℕ). (items_of list tree scope top rs n).2) (sym w.counter) i,
-              ))
-              refl;
-        })
+    pub walking_holds : Holds b.diagnostics.now b.at (what_of (item_from b (rec_of x) top depth))
+    walking_holds = holds-first (item_from b (rec_of x) top depth) others_placed split-holds
 
-    pub walking_done : k ≤ 0 → Counts t u s q total last
-    unfolding items_placed transform_module_items
-    walking_done h =
-        let e = left-done l.left h in
-        counts-as l.counts (sym (ap (λ (z : List Placed × ℕ). z.0) e ∙ append-nil l.done)) (sym (ap (λ (z : List Placed × ℕ). z.1) e))
+    module _ {c : Walk} (w : Counts b c (item_from b (rec_of x) top depth) its_counter) where
+      moved : items_from c (recs_of l) top depth ≡ others_placed
+      moved = rw (w.list, w.scope, w.counter) refl
+
+      low : c.id_counter ≤ l.at
+      unfolding rec_of ids_in
+      low =
+          let p : end_at x.levels x.tree.now x.at ≡ l.at = rw (n.1.levels, n.1.tree, n.1.place) (sym n.2.place) in
+          omega (arith, w.counter, (item-within (typing_in b.scope) (expr_to_ts_type-within (ids_in b.scope) b.scope.unresolved) b.list.now b.scope.unresolved (rec_of x) top b.id_counter).high, i.ready.low, n.1.place, p, records-within x.levels x.tree.now x.at (accepted x))
+
+      pub walking_turn : Walking top depth levels total last a c l
+      unfolding transform_module_items
+      walking_turn = record {
+        done = i.done ++ item_from b (rec_of x) top depth;
+        counts = record {
+          adds = adds_then i.done (item_from b (rec_of x) top depth) i.counts.adds w.adds;
+          place = omega (arith, w.place, i.counts.place, length-append i.done (item_from b (rec_of x) top depth));
+          counter = refl;
+          list = w.list ∙ i.counts.list;
+          scope = w.scope ∙ i.counts.scope;
+          diagnostics = w.diagnostics ∙ i.counts.diagnostics;
+        };
+        small = small-after (item_from b (rec_of x) top depth) i.small w.adds w.place;
+        ready = record {
+          low = low;
+          same = rw (w.scope, n.2.tree) i.ready.same;
+          levels = omega (arith, i.ready.levels, n.2.levels);
+        };
+        level = n.2.levels ∙ i.level;
+        holds = rw (w.diagnostics, moved) (holds-rest (item_from b (rec_of x) top depth) others_placed split-holds w.place);
+        placed =
+            ap (λ (ys : List Placed). (i.done ++ item_from b (rec_of x) top depth) ++ ys) moved
+            ∙ (append_assoc i.done (item_from b (rec_of x) top depth) others_placed ∙ (ap (λ (ys : List Placed). i.done ++ ys) (sym first-split) ∙ i.placed));
+        counter = rw (w.list, w.scope, w.counter) (sym (ap (λ (ks : Recs). (items_in b.list.now b.scope top ks b.id_counter).2) (recs_step n.0 n.1 n.2)) ∙ i.counter);
+      }
+
+  pub walking_done : k.count ≡ 0 → Counts a b total last
+  unfolding items_placed transform_module_items
+  walking_done h =
+      let e = recs_none k h in
+      counts-as i.counts
+      (sym (append-nil i.done) ∙ (ap (λ (ks : Recs). i.done ++ items_from b ks top depth) (sym e) ∙ i.placed))
+      (ap (λ (ks : Recs). (items_in b.list.now b.scope top ks b.id_counter).2) (sym e) ∙ i.counter)

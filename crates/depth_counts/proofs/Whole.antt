@@ -2,7 +2,7 @@
 use mathlib.Core.Path.{◌≡◌, refl, sym, ap, ◌∙◌, subst}
 use mathlib.Core.List.{List, [], ◌∷◌}
 use mathlib.Core.Bool.{true}
-use Prim.Native.Nat.{ℕ, zero, suc, ◌+◌, ◌-◌, ◌<◌, ◌≤◌}
+use Prim.Native.Nat.{ℕ, zero, suc, ◌+◌, ◌<◌, ◌≤◌}
 use native.Mathlib.Omega.{arith}
 use mir.Syntax.{w8}
 use mir.Val
@@ -10,31 +10,31 @@ use lib.ListN.{length, get_or, replicate, length-replicate, get_or-replicate, dr
 use lib.Seq.{ext_get_or}
 use Rattle.std.specs.declared.result.Result.{Result}
 use Rattle.std.specs.declared.result.Result.TheVariants.{Ok, Err}
-use Rattle.definition.specs.Tree.{Recs, count_at, body_at, tree_at}
+use Rattle.definition.specs.Tree.{tree_at}
 use Rattle.definition.specs.Check.{longest_tree, deepest}
 use Rattle.definition.specs.Children.{AcceptedAt}
 use Rattle.definition.specs.Record.{Diag, diagnostic_marks, diags_bytes}
 use Rattle.definition.specs.Transform.{transform, done, over, call}
 use Rattle.definition.specs.Transform as Transform
-use Rattle.definition.specs.Depths.{Placed, what_of, columns, count_of, row_of, rows_of, table_of, total, placed, counts_by, call_depths}
+use Rattle.definition.specs.Depths.{Placed, what_of, columns, count_of, row_of, rows_of, table_of, total, items_placed, placed, counts_by, call_depths}
 use Rattle.definition.proofs.Accepted.{accepted-tree}
 use Rattle.definition.proofs.Calls.{call-done}
-use Rattle.definition.proofs.Children.{root-accepted, children}
-use Rattle.definition.proofs.Kids.{kids_are}
+use Rattle.definition.proofs.Children.{root-accepted}
 use Rattle.definition.proofs.CountingItems.{diagnostics_of_bytes}
 use Rattle.definition.proofs.Depths.{without-depths, total-is}
 use Rattle.records.proofs.Whole.{slice_bytes}
-use Rattle.prescan.specs.Table.{Indexed}
-use Rattle.typing.specs.Did.{ids_of}
-use Rattle.classes.specs.Typings.{ReadyAll}
-use Rattle.items.specs.Steps.{records_at}
+use Rattle.records.specs.declared.tree.Record.{Record}
+use Rattle.records.specs.declared.tree.Records.{Records}
+use Rattle.records.specs.Views.{rec_of, recs_of, ChildrenOf}
+use Rattle.prescan.specs.declared.module_names.Scope.{Scope}
+use Rattle.typing.specs.Values.{ids_in, typing_in}
 use Rattle.grammar.specs.declared.Refused.{Refused}
 use Rattle.transform_dts.specs.declared.Done.{Done}
 use Rattle.transform_dts.specs.Answers.{transformed, answered, Gives}
-use Rattle.transform_dts.proofs.Module.{scope_of}
+use Rattle.depth_counts.specs.declared.walk.Walk.{Walk}
 use Rattle.depth_counts.specs.Tables.{rows, Shape, cell, Small, Adds, Holds}
 use Rattle.depth_counts.specs.Answers.{GivesCounted}
-use Rattle.depth_counts.proofs.Walking.{placed_of_all}
+use Rattle.depth_counts.specs.Walks.{ReadyAll}
 
 -- ---- the table
 
@@ -90,17 +90,18 @@ table-shape xs = record {
 
 -- ---- the module
 
-module _ (tree : List ℕ) (a : AcceptedAt deepest tree 0) {n first : ℕ} (e : n ≡ count_at tree 0) (f : first ≡ body_at tree 0) where
-  pub module_ready : {index : List ℕ} → Indexed tree index → ReadyAll (deepest - 1) tree n first 0 index
-  module_ready i = record { accepted = rw (e, f) (children deepest tree 0 a); low = omega arith; indexed = i }
+-- k are the items of the Mo r, which is the whole of the tree whose names the scope has
+module _ {r : Record} (scope : Scope) (same : scope.names.tree ≡ r.tree) (p : r.at ≡ 0) (l : r.levels ≡ deepest) {k : Records} (c : ChildrenOf r k) where
+  pub module_ready : {w : Walk} → w.id_counter ≡ 0 → w.scope ≡ scope → ReadyAll w k 0
+  module_ready e s = record { low = omega (arith, e); same = rw s (same ∙ sym c.tree); levels = omega (arith, l, c.levels) }
 
-  module _ (list : List ℕ) (ctx : ℕ) where
-    pub module_placed : placed list ctx (tree_at deepest tree 0) ≡ placed_of_all list tree (scope_of ctx) true (records_at (deepest - 1) tree n first) 0 0
-    unfolding placed ids_of
-    module_placed = rw (e, f) (ap (λ (ks : Recs). placed_of_all list tree (scope_of ctx) true ks 0 0) (kids_are deepest tree 0 a))
+  module _ (list : List ℕ) where
+    pub module_placed : placed list scope.unresolved (tree_at deepest r.tree.now 0) ≡ items_placed list scope.unresolved (typing_in scope) (recs_of k) true 0 0
+    unfolding placed ids_in rec_of
+    module_placed = rw (c.are, ap (λ x. x.now) same, l, p) refl
 
-    pub module_holds : {g : List ℕ} → Holds g 0 (transform list ctx (tree_at deepest tree 0)).1 → Holds g 0 (what_of (placed_of_all list tree (scope_of ctx) true (records_at (deepest - 1) tree n first) 0 0))
-    module_holds {g} h = subst (Holds g 0) (sym (without-depths list ctx (tree_at deepest tree 0)) ∙ ap what_of module_placed) h
+    pub module_holds : {g : List ℕ} → Holds g 0 (transform list scope.unresolved (tree_at deepest r.tree.now 0)).1 → Holds g 0 (what_of (items_placed list scope.unresolved (typing_in scope) (recs_of k) true 0 0))
+    module_holds {g} h = subst (Holds g 0) (sym (without-depths list scope.unresolved (tree_at deepest r.tree.now 0)) ∙ ap what_of module_placed) h
 
 -- ---- a table without counts
 

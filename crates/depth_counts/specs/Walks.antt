@@ -6,8 +6,10 @@ use Rattle.definition.specs.Record.{mark_of, kids_of, kid, Typing}
 use Rattle.definition.specs.Items.{transform_module_items, transform_module_item, transform_ts_ns_body}
 use Rattle.definition.specs.Depths.{Placed, all_at, items_placed, item_placed, body_placed}
 use Rattle.records.specs.declared.tree.Record.{Record}
+use Rattle.records.specs.declared.tree.Records.{Records}
 use Rattle.records.specs.Views.{rec_of}
-use Rattle.typing.specs.declared.State.{State}
+use Rattle.typing.specs.Values.{typing_in}
+use Rattle.depth_counts.specs.declared.walk.Walk.{Walk}
 use Rattle.depth_counts.specs.Tables.{Adds}
 
 -- the diagnostics of a body are those of the items ks
@@ -48,8 +50,32 @@ pub record SpaceOf (item space : Record) : Type 0 where
 abbrev pub FoundSpace : Record → Option Record → Type 0
 FoundSpace item found = MatchOption found (Flat (rec_of item)) (λ space. SpaceOf item space)
 
--- the diagnostics xs were counted, from where s stood to where r stands, and the name counter became n
-pub record Counts (t u : List (List ℕ)) (s r : State) (xs : List Placed) (n : ℕ) : Type 0 where
-  pub adds : Adds t u xs
-  pub reported : r.reported ≡ s.reported + 10 * length xs
-  pub counter : r.counter ≡ n
+-- ---- where a walk stands
+
+-- the diagnostics of an item there, which d Ns records hold, and of items
+abbrev pub item_from : Walk → Rec → Bool → ℕ → List Placed
+item_from w r top d = item_placed w.list.now w.scope.unresolved (typing_in w.scope) r top d w.id_counter
+
+abbrev pub items_from : Walk → Recs → Bool → ℕ → List Placed
+items_from w rs top d = items_placed w.list.now w.scope.unresolved (typing_in w.scope) rs top d w.id_counter
+
+-- no more names were made than bytes stand before r, the names of the scope are those of its tree, and an Ns takes two of its levels
+pub record Ready (w : Walk) (r : Record) (d : ℕ) : Type 0 where
+  pub low : w.id_counter ≤ r.at
+  pub same : w.scope.names.tree ≡ r.tree
+  pub levels : r.levels + 2 * d ≤ 63
+
+-- the same of several records
+pub record ReadyAll (w : Walk) (rs : Records) (d : ℕ) : Type 0 where
+  pub low : w.id_counter ≤ rs.at
+  pub same : w.scope.names.tree ≡ rs.tree
+  pub levels : rs.levels + 2 * d ≤ 63
+
+-- the diagnostics xs were counted and the walk stands behind them, and the name counter became n
+pub record Counts (w w' : Walk) (xs : List Placed) (n : ℕ) : Type 0 where
+  pub adds : Adds w.table w'.table xs
+  pub place : w'.at ≡ w.at + 10 * length xs
+  pub counter : w'.id_counter ≡ n
+  pub list : w'.list ≡ w.list
+  pub scope : w'.scope ≡ w.scope
+  pub diagnostics : w'.diagnostics ≡ w.diagnostics

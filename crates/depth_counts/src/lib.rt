@@ -13,55 +13,49 @@ ghost use Rattle.depth_counts.specs.Tables.{Holds};
 ghost use Rattle.depth_counts.specs.Answers.{GivesCounted};
 
 use crate::table::{COLUMNS, ROWS, Table};
-use crate::walk::count_items;
+use crate::walk::Walk;
 use grammar::Refused;
-use prescan::{DECLARATION_SIZE, LARGE_TABLE, MIDDLE_TABLE, Scope};
+use prescan::module_names::{Index, Scope};
+use prescan::{DECLARATION_SIZE, LARGE_TABLE, MIDDLE_TABLE};
 use records::DEEPEST;
+use records::tree::Record;
 use transform_dts::Done;
-use typing::State;
 
 pub mod table;
 mod walk;
 
 // The counts of an accepted tree, whose diagnostics stand in a buffer; `names` is a table for its index.
-fn with_names(
-    tree: &[u8],
-    names: &mut [u32],
-    list: &[u8],
+fn with_names<'a>(
+    tree: &'a [u8],
+    names: &'a mut [u32],
+    list: &'a [u8],
     unresolved: u32,
-    diagnostics: &[u8],
+    diagnostics: &'a [u8],
 ) -> Table
     requires accepted_at { AcceptedAt deepest tree.now 0 × Holds diagnostics.now 0 (transformed list.now unresolved tree.now).1 }
     requires tree_len_bound { length tree.now ≤ declaration_size * (length names.old / 2) }
     requires tree_len_bound_2 { length tree.now < farthest }
     ensures { result ≡ table_of (placed list.now unresolved (tree_at deepest tree.now 0)) }
 {
-    let index = prescan::index(tree, names);
-    let first = records::body_at(tree, 0);
-    let n = records::count_at(tree, 0);
-    let scope = Scope { unresolved };
-    let start = State {
-        written: 0,
-        reported: 0,
-        counter: 0,
-        fits: true,
-    };
-    let mut table = [[0usize; COLUMNS]; ROWS];
-    count_items(
+    let entries = prescan::index(tree, names);
+    let mo = Record {
         tree,
-        first,
-        n,
-        DEEPEST - 1,
-        0,
-        index,
-        scope,
+        at: 0,
+        levels: DEEPEST,
+    };
+    let mut walk = Walk {
         list,
-        true,
+        scope: Scope {
+            names: Index { tree, entries },
+            unresolved,
+        },
         diagnostics,
-        &mut table,
-        start,
-    );
-    table
+        at: 0,
+        table: [[0; COLUMNS]; ROWS],
+        id_counter: 0,
+    };
+    walk.count_items(mo.children(), 0, true);
+    walk.table
 }
 
 // The same, with a new table of N numbers for the index.

@@ -32,42 +32,16 @@ fn row_of(mark: u16) -> usize
     }
 }
 
-// One more in a row and a column.
-fn add(table: &mut Table, row: usize, depth: usize)
-    requires { Shape table.old × (row < rows) × (depth < columns) × (cell table.old row depth < 18446744073709551615) }
-    ensures { AddsOne table.old table.new row depth }
-{
-    table[row][depth] += 1;
-}
-
 // The n diagnostics that stand in a buffer from `at` on, all at one depth.
 pub fn count_marks(diagnostics: &[u8], at: usize, n: usize, depth: usize, table: &mut Table)
     requires n_in_bounds { (at + 10 * n ≤ length diagnostics.now) × (depth < columns) }
     requires small { Small table.old at × Kinds (diags_at diagnostics.now at n) }
     ensures { Adds table.old table.new (all_at depth (diags_at diagnostics.now at n)) }
 {
-    let mut k = n;
-    let mut p = at;
-    while 0 < k {
-        let row = row_of(u16_at(diagnostics, p));
-        add(table, row, depth);
-        p += DIAGNOSTIC_SIZE;
-        k -= 1;
+    let these = &diagnostics[at..at + n * DIAGNOSTIC_SIZE];
+    for diagnostic in these.chunks_exact(DIAGNOSTIC_SIZE) {
+        table[row_of(u16_at(diagnostic, 0))][depth] += 1;
     }
-}
-
-// The sum of a row.
-fn row_total(row: [usize; COLUMNS]) -> usize
-    requires { Depths.sum row < 18446744073709551616 }
-    ensures { result ≡ Depths.sum row }
-{
-    let mut sum = 0;
-    let mut depth = 0;
-    while depth < COLUMNS {
-        sum += row[depth];
-        depth += 1;
-    }
-    sum
 }
 
 // "Below it goes a total": the sum of the counts.
@@ -75,13 +49,7 @@ pub fn total(table: Table) -> usize
     requires { Depths.total table < 18446744073709551616 }
     ensures { result ≡ Depths.total table }
 {
-    let mut sum = 0;
-    let mut row = 0;
-    while row < ROWS {
-        sum += row_total(table[row]);
-        row += 1;
-    }
-    sum
+    table.as_flattened().iter().sum()
 }
 
 // The table row by row: "d1 first, depth 0 first".
@@ -90,10 +58,8 @@ pub fn in_one(table: Table) -> [u32; CELLS]
     ensures { result ≡ Depths.in_one table }
 {
     let mut counts = [0u32; CELLS];
-    let mut i = 0;
-    while i < CELLS {
+    for i in 0..CELLS {
         counts[i] = table[i / COLUMNS][i % COLUMNS] as u32;
-        i += 1;
     }
     counts
 }

@@ -1,24 +1,20 @@
 // The walk over the items of a module: an Ns is gone into, every other item is transformed once more, without buffers, to know how many diagnostics
 // are its own.
-ghost use Rattle.std.specs.Prelude.{◌≡◌, ◌+◌, ◌*◌, ◌-◌, ◌<◌, ◌≤◌};
-ghost use Rattle.definition.specs.Tree.{tree_at};
+ghost use Rattle.std.specs.Prelude.{◌≡◌, ◌-◌};
 ghost use Rattle.definition.specs.Grammar.{mark};
 ghost use Rattle.definition.specs.Record.{mark_of, kids_of, kid};
-ghost use Rattle.definition.specs.Depths.{columns, all_at, what_of, items_placed, item_placed};
 ghost use Rattle.records.specs.Views.{rec_of};
-ghost use Rattle.typing.specs.Did.{Ready};
-ghost use Rattle.classes.specs.Typings.{typing_of, ReadyAll};
-ghost use Rattle.items.specs.Steps.{records_at, item_of, items_of};
-ghost use Rattle.depth_counts.specs.Tables.{Small, Holds};
-ghost use Rattle.depth_counts.specs.Walks.{FoundBody, FoundSpace, Counts};
+ghost use Rattle.depth_counts.specs.Walks.{FoundBody, FoundSpace};
 
 use crate::table::{Table, count_marks};
-use items::transform_module_item;
-use prescan::Scope;
+use items::module::transform_module_item;
+use names::unique::Names;
+use output::Output;
+use prescan::module_names::Scope;
+use records::DIAGNOSTIC_SIZE;
 use records::marks::Mark;
-use records::tree::Record;
-use records::{DIAGNOSTIC_SIZE, record_end};
-use typing::State;
+use records::tree::{Record, Records};
+use records::writer::Writer;
 
 // The Nb in a namespace's body: of an Nd the innermost.
 fn block_of<'t>(body: Record<'t>) -> Option<Record<'t>>
@@ -56,149 +52,89 @@ fn space_of<'t>(item: Record<'t>) -> Option<Record<'t>>
     }
 }
 
-// An item that is no Ns: a dry run says how many diagnostics are its own.
-fn count_plain(
-    tree: &[u8],
-    at: usize,
-    levels: usize,
-    depth: usize,
-    index: &[u32],
-    scope: Scope,
-    list: &[u8],
-    top: bool,
-    diagnostics: &[u8],
-    table: &mut Table,
-    s: State,
-) -> State
-    requires ready { Ready levels tree.now at s.counter index.now × (depth < columns) }
-    requires small { Small table.old s.reported }
-    requires holds { Holds diagnostics.now s.reported (item_of list.now tree.now scope top (tree_at levels tree.now at) s.counter).1 }
-    ensures { Counts table.old table.new s result
-        (all_at depth (item_of list.now tree.now scope top (tree_at levels tree.now at) s.counter).1)
-        (item_of list.now tree.now scope top (tree_at levels tree.now at) s.counter).2 }
-{
-    let mut out = [0u8; 1];
-    let mut dry = [0u8; 1];
-    let made = transform_module_item(
-        tree,
-        at,
-        levels,
-        index,
-        scope,
-        list,
-        top,
-        &mut out[..0],
-        &mut dry[..0],
-        s,
-    );
-    let next = made.s;
-    let n = (next.reported - s.reported) / DIAGNOSTIC_SIZE;
-    count_marks(diagnostics, s.reported, n, depth, table);
-    next
+// A walk: the list of the module, the names in scope, its diagnostics and how many bytes of them are counted, the table of the counts, and the counter
+// that names are made of.
+#[derive(Drop)]
+pub struct Walk<'a> {
+    pub list: &'a [u8],
+    pub scope: Scope<'a>,
+    pub diagnostics: &'a [u8],
+    pub at: usize,
+    pub table: Table,
+    pub id_counter: usize,
 }
 
-// The n items from `at` on, which `depth` Ns records hold.
-#[cycle(counted_items)]
-pub fn count_items(
-    tree: &[u8],
-    at: usize,
-    n: usize,
-    levels: usize,
-    depth: usize,
-    index: &[u32],
-    scope: Scope,
-    list: &[u8],
-    top: bool,
-    diagnostics: &[u8],
-    table: &mut Table,
-    s: State,
-) -> State
-    requires ready_all { ReadyAll levels tree.now n at s.counter index.now × (levels + 2 * depth ≤ 63) }
-    requires small { Small table.old s.reported }
-    requires holds { Holds diagnostics.now s.reported
-        (what_of (items_placed list.now scope.unresolved (typing_of tree.now scope) (records_at levels tree.now n at) top depth s.counter)) }
-    ensures { Counts table.old table.new s result
-        (items_placed list.now scope.unresolved (typing_of tree.now scope) (records_at levels tree.now n at) top depth s.counter)
-        (items_of list.now tree.now scope top (records_at levels tree.now n at) s.counter).2 }
-{
-    let mut next = s;
-    let mut k = n;
-    let mut item = at;
-    while 0 < k {
-        next = count_item(
-            tree,
-            item,
-            levels,
-            depth,
-            index,
-            scope,
-            list,
-            top,
-            diagnostics,
-            table,
-            next,
-        );
-        item = record_end(tree, item, levels);
-        k -= 1;
+impl<'a> Walk<'a> {
+    ghost use Rattle.definition.specs.Depths.{all_at, what_of};
+    ghost use Rattle.records.specs.Views.{recs_of};
+    ghost use Rattle.items.specs.InScope.{item_in, items_in};
+    ghost use Rattle.depth_counts.specs.Tables.{Small, Holds};
+    ghost use Rattle.depth_counts.specs.Walks.{item_from, items_from, Ready, ReadyAll, Counts};
+
+    // An item that is no Ns: a dry run says how many diagnostics are its own.
+    fn count_plain(&mut self, item: Record, depth: usize, top: bool)
+        requires ready { Ready self.old item depth }
+        requires small { Small self.old.table self.old.at }
+        requires holds { Holds self.old.diagnostics.now self.old.at
+            (item_in self.old.list.now self.old.scope top (rec_of item) self.old.id_counter).1 }
+        ensures { Counts self.old self.new
+            (all_at depth (item_in self.old.list.now self.old.scope top (rec_of item.entry) self.old.id_counter).1)
+            (item_in self.old.list.now self.old.scope top (rec_of item.entry) self.old.id_counter).2 }
+    {
+        let mut out = Writer {
+            out: &mut [],
+            at: 0,
+        };
+        let mut marks = Writer {
+            out: &mut [],
+            at: self.at,
+        };
+        let mut o = Output {
+            out: &mut out,
+            diagnostics: &mut marks,
+            names: Names {
+                id_counter: self.id_counter,
+            },
+            fits: true,
+        };
+        transform_module_item(&mut o, item, self.scope, self.list, top);
+        self.id_counter = o.names.id_counter;
+        let end = marks.at;
+        let n = (end - self.at) / DIAGNOSTIC_SIZE;
+        count_marks(self.diagnostics, self.at, n, depth, &mut self.table);
+        self.at = end;
     }
-    next
-}
 
-// One of them.
-#[cycle(counted_items)]
-fn count_item(
-    tree: &[u8],
-    at: usize,
-    levels: usize,
-    depth: usize,
-    index: &[u32],
-    scope: Scope,
-    list: &[u8],
-    top: bool,
-    diagnostics: &[u8],
-    table: &mut Table,
-    s: State,
-) -> State
-    requires ready { Ready levels tree.now at s.counter index.now × (levels + 2 * depth ≤ 63) }
-    requires small { Small table.old s.reported }
-    requires holds { Holds diagnostics.now s.reported
-        (what_of (item_placed list.now scope.unresolved (typing_of tree.now scope) (tree_at levels tree.now at) top depth s.counter)) }
-    ensures { Counts table.old table.new s result
-        (item_placed list.now scope.unresolved (typing_of tree.now scope) (tree_at levels tree.now at) top depth s.counter)
-        (item_of list.now tree.now scope top (tree_at levels tree.now at) s.counter).2 }
-{
-    let item = Record { tree, at, levels };
-    let Some(space) = space_of(item) else {
-        return count_plain(
-            tree,
-            at,
-            levels,
-            depth,
-            index,
-            scope,
-            list,
-            top,
-            diagnostics,
-            table,
-            s,
-        );
-    };
-    let Some(block) = block_in(space) else {
-        return s;
-    };
-    let items = block.children();
-    count_items(
-        tree,
-        items.at,
-        items.count,
-        items.levels,
-        depth + 1,
-        index,
-        scope,
-        list,
-        false,
-        diagnostics,
-        table,
-        s,
-    )
+    // The items, which `depth` Ns records hold.
+    #[cycle(counted_items)]
+    pub fn count_items(&mut self, items: Records, depth: usize, top: bool)
+        requires ready { ReadyAll self.old items depth }
+        requires small { Small self.old.table self.old.at }
+        requires holds { Holds self.old.diagnostics.now self.old.at (what_of (items_from self.old (recs_of items) top depth)) }
+        ensures { Counts self.old self.new (items_from self.old (recs_of items.entry) top depth)
+            (items_in self.old.list.now self.old.scope top (recs_of items.entry) self.old.id_counter).2 }
+    {
+        for item in items {
+            self.count_item(item, depth, top);
+        }
+    }
+
+    // One of them.
+    #[cycle(counted_items)]
+    fn count_item(&mut self, item: Record, depth: usize, top: bool)
+        requires ready { Ready self.old item depth }
+        requires small { Small self.old.table self.old.at }
+        requires holds { Holds self.old.diagnostics.now self.old.at (what_of (item_from self.old (rec_of item) top depth)) }
+        ensures { Counts self.old self.new (item_from self.old (rec_of item.entry) top depth)
+            (item_in self.old.list.now self.old.scope top (rec_of item.entry) self.old.id_counter).2 }
+    {
+        let Some(space) = space_of(item) else {
+            self.count_plain(item, depth, top);
+            return;
+        };
+        let Some(block) = block_in(space) else {
+            return;
+        };
+        self.count_items(block.children(), depth + 1, false);
+    }
 }

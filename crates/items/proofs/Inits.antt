@@ -18,14 +18,6 @@ use Rattle.records.specs.Marks.{number_of}
 use Rattle.records.specs.Views.{rec_of, recs_of, FirstOf, RestOf, ChildIs}
 use Rattle.records.proofs.Records.{recs_none, recs_step, enough}
 use Rattle.records.proofs.SameMarks.{marked}
-use Rattle.parts.proofs.Each.{each_anywhere}
-
--- a test of the code tells the mark
-pub told : {m x n : ℕ} → m ≡ x → m ≡ n → x ≡ n
-told e f = sym e ∙ f
-
-pub told-not : {m x n : ℕ} → m ≡ x → (m ≡ n → ⊥) → x ≡ n → ⊥
-told-not e f q = f (e ∙ q)
 
 -- ---- the arms of `valid_enum_init_expr`
 
@@ -156,18 +148,7 @@ module _ (r : Rec) (n : ℕ) where
   unfolding enum_init
   init_gone e f = rw (e, f)
 
--- ---- a member, or another child of an En
-
-module _ (levels : ℕ) (s : List ℕ) (at n : ℕ) where
-  pub member-other : (mark_at s at ≡ mark "Em" → ⊥) → tree_at levels s at ≡ (enum_member (tree_at levels s at) n).0
-  unfolding enum_member
-  member-other m = rw (not-mark levels s at (mark "Em") m)
-
-  pub member_is : mark_at s at ≡ mark "Em" → (second enum_init (tree_at levels s at) n).0 ≡ (enum_member (tree_at levels s at) n).0
-  unfolding enum_member
-  member_is m = rw (is-mark levels s at (mark "Em") m)
-
--- ---- the members, one after the other
+-- ---- the members
 
 -- they leave no diagnostic, and the counter as it is
 pub member-silent : (r : Rec) (n : ℕ) → enum_member r n ≡ pure (enum_member r n).0 n
@@ -177,17 +158,3 @@ member-silent r n = go (is "Em" r)
     go : (b : Bool) → if_m b (second enum_init r) (pure r) n ≡ pure (if_m b (second enum_init r) (pure r) n).0 n
     go true = refl
     go false = refl
-
-member-counter : (r : Rec) (n : ℕ) → (enum_member r n).2 ≡ n
-member-counter r n = ap (λ (o : Out Rec). o.2) (member-silent r n)
-
-abbrev pub members_of : Recs → ℕ → Recs
-members_of ks n = (each (λ i. enum_member) 0 ks n).0
-
--- the first of them, behind the counter m
-pub members-cons : {m n : ℕ} → m ≡ n → (r : Rec) (rs : Recs) → members_of (cons r rs) n ≡ cons (enum_member r m).0 (members_of rs n)
-unfolding each
-members-cons {n = n} e r rs =
-    rw e
-    (ap (λ (m : ℕ). cons (enum_member r n).0 (each (λ i. enum_member) 1 rs m).0) (member-counter r n)
-    ∙ ap (λ (o : Out Recs). cons (enum_member r n).0 o.0) (each_anywhere enum_member 1 0 rs n))

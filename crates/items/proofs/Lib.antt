@@ -1,8 +1,10 @@
 pub mod Inits
-pub mod Declarators
-pub mod Declarations
-pub mod Exports
-pub mod ItemKinds
-pub mod Statements
-pub mod Namespaces
-pub mod Items
+pub mod Framed
+pub mod Mapped
+pub mod MemberInits
+pub mod VarTypes
+pub mod DeclParts
+pub mod DefaultParts
+pub mod ItemArms
+pub mod Bodies
+pub mod ItemCounts

@@ -16,7 +16,6 @@ ghost use Rattle.prescan.specs.Table.{declaration_size, RoomFor, FilledWith, Ind
 
 pub mod module_names;
 
-use crate::module_names::Index;
 use index::Names;
 pub use index::Sets;
 use records::flags::{CONST, has_flag};
@@ -40,12 +39,6 @@ const FUNCTION: Sets = Sets {
     non_generic_class: false,
     array_typed: false,
 };
-
-// In which scope the names stand: the unresolved context.
-#[derive(Clone, Copy)]
-pub struct Scope {
-    pub unresolved: u32,
-}
 
 // The arm of `is_array_type` for `TsTypeRef`, at the name: `Array` or `ReadonlyArray` in any context, "only its symbol counts".
 fn refers_to_array(name: Record) -> bool
@@ -202,21 +195,4 @@ pub fn index<'a>(tree: &[u8], table: &'a mut [u32]) -> &'a [u32]
         enter_item(item, &mut names);
     }
     names.into_entries()
-}
-
-// `prescan_module_ids`: the sets to which the items of the module add the name of the Id at `id`, its context and its symbol.
-pub fn look_up(tree: &[u8], index: &[u32], id: usize, levels: usize) -> Sets
-    requires accepted_at { AcceptedAt levels tree.now id }
-    requires indexed { Indexed tree.now index.now }
-    ensures { (q : Question) → has q result ≡ asked q (kids_of (tree_at deepest tree.now 0)) (text_at tree.now id) }
-{
-    let names = Index {
-        tree,
-        entries: index,
-    };
-    names.look_up(Record {
-        tree,
-        at: id,
-        levels,
-    })
 }

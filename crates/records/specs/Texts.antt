@@ -7,16 +7,6 @@ use Rattle.definition.specs.Record.{same_text, is, context_of, symbol_of}
 abbrev pub is_global_name : ℕ → List ℕ → Rec → Bool
 is_global_name unresolved name r = is "Id" r && (same_text (symbol_of r) name && eqb (context_of r) unresolved)
 
--- the first i bytes of two texts are equal
-pub record SameFront (a b : List ℕ) (i : ℕ) : Type 0 where
-  pub left : i ≤ length a
-  pub right : i ≤ length b
-  pub same : (k : ℕ) → k < i → get_or a k 0 ≡ get_or b k 0
-
 -- the four from i on are bytes
 abbrev pub FourBytes : List ℕ → ℕ → Type 0
 FourBytes s i = (get_or s i 0 < 256) × (get_or s (i + 1) 0 < 256) × (get_or s (i + 2) 0 < 256) × (get_or s (i + 3) 0 < 256)
-
--- those of two texts are equal
-abbrev pub SameFour : List ℕ → List ℕ → ℕ → Type 0
-SameFour a b i = (get_or a i 0 ≡ get_or b i 0) × (get_or a (i + 1) 0 ≡ get_or b (i + 1) 0) × (get_or a (i + 2) 0 ≡ get_or b (i + 2) 0) × (get_or a (i + 3) 0 ≡ get_or b (i + 3) 0)

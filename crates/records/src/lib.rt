@@ -16,7 +16,6 @@ use crate::marks::Mark;
 
 pub mod diagnostics;
 pub mod flags;
-pub mod made;
 pub mod marks;
 pub mod text;
 pub mod tree;
@@ -247,13 +246,6 @@ impl Head {
     }
 }
 
-// A head, as far as there is room, and the position behind it.
-pub fn put_head(out: &mut [u8], p: usize, h: Head) -> usize
-    ensures { Put out.old out.new p (field_bytes h) result }
-{
-    put_text(out, p, &h.bytes())
-}
-
 // The bytes of a text or of a part of the tree, as far as there is room, and the position behind them.
 pub fn put_text(out: &mut [u8], p: usize, text: &[u8]) -> usize
     ensures { Put out.old out.new p text.now result }
@@ -269,23 +261,4 @@ pub fn put_text(out: &mut [u8], p: usize, text: &[u8]) -> usize
     let room = out.len() - p;
     out[p..].copy_from_slice(&text[..room]);
     end
-}
-
-// The record at `at` of the tree, copied whole as far as there is room, and the position behind it.
-pub fn put_record(tree: &[u8], at: usize, levels: usize, out: &mut [u8], p: usize) -> usize
-    requires { Whole levels tree.now at }
-    ensures { Put out.old out.new p (part_at levels tree.now at) result }
-{
-    let part = record_at(tree, at, levels);
-    put_text(out, p, part)
-}
-
-// A diagnostic with one of the marks `d1` to `d5` at a range, as far as there is room, and the position behind it.
-pub fn put_diagnostic(diagnostics: &mut [u8], d: usize, mark: u16, start: u32, end: u32) -> usize
-    ensures { Put diagnostics.old diagnostics.new d (diag_bytes (diag_of mark start end)) result }
-{
-    let [m0, m1] = mark.to_le_bytes();
-    let [s0, s1, s2, s3] = start.to_le_bytes();
-    let [e0, e1, e2, e3] = end.to_le_bytes();
-    put_text(diagnostics, d, &[m0, m1, s0, s1, s2, s3, e0, e1, e2, e3])
 }

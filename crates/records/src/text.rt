@@ -1,54 +1,18 @@
 // Texts: whether two are equal, and the context and the symbol of an Id.
-ghost use Rattle.std.specs.Prelude.{◌≡◌, ◌+◌, ◌<◌, ◌≤◌, length, drop, true};
+ghost use Rattle.std.specs.Prelude.{◌≡◌, ◌≤◌, length, drop};
 ghost use Rattle.definition.specs.Tree.{length_at, body_at, text_at, u32_at, tree_at};
 ghost use Rattle.definition.specs.Children.{AcceptedAt};
 ghost use Rattle.definition.specs.Record.{same_text};
-ghost use Rattle.records.specs.Texts.{is_global_name, SameFour, SameFront};
+ghost use Rattle.records.specs.Texts.{is_global_name};
 
 use crate::marks::ID;
 use crate::{CONTEXT_SIZE, mark_at, text_at, u32_at};
-
-// Whether the four bytes of two texts at i are equal, compared as one number.
-fn same_four(a: &[u8], b: &[u8], i: usize) -> bool
-    requires { (i + 4 ≤ length a.now) × (i + 4 ≤ length b.now) }
-    ensures { result ≡ true → SameFour a.now b.now i }
-{
-    u32_at(a, i) == u32_at(b, i)
-}
-
-// A place up to which two texts are equal, found four bytes at a time: less than four bytes further on they differ, or one of them ends.
-pub fn same_front(a: &[u8], b: &[u8]) -> usize
-    ensures { SameFront a.now b.now result }
-{
-    let mut i: usize = 0;
-    while 4 <= a.len() - i {
-        if b.len() - i < 4 {
-            return i;
-        }
-        if same_four(a, b, i) {
-            i += 4;
-        } else {
-            return i;
-        }
-    }
-    i
-}
 
 // Whether two texts are equal.
 pub fn same_text(a: &[u8], b: &[u8]) -> bool
     ensures { result ≡ same_text a.now b.now }
 {
-    if a.len() != b.len() {
-        return false;
-    }
-    let mut i = same_front(a, b);
-    while i < a.len() {
-        if a[i] != b[i] {
-            return false;
-        }
-        i += 1;
-    }
-    true
+    a == b
 }
 
 // The symbol of the Id at `at`, as the part of the tree that it fills.

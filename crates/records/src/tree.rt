@@ -1,15 +1,16 @@
 // A record of an accepted tree, and records that stand one after the other: "a struct holding the tree and an offset". What their contracts say is
 // said of the tree that is read there, `rec_of` and `recs_of` of specs/Views.antt.
-ghost use Rattle.std.specs.Prelude.{◌≡◌, ◌+◌, ◌-◌, ◌<◌, ◌≤◌, length};
-ghost use Rattle.definition.specs.Tree.{encode, tree_at};
+ghost use Rattle.std.specs.Prelude.{◌≡◌, true, ◌+◌, ◌-◌, ◌<◌, ◌≤◌, length};
+ghost use Rattle.definition.specs.Tree.{head_size, length_at, text_at, encode, tree_at};
 ghost use Rattle.definition.specs.Children.{AcceptedAt, IsAcceptedAt, AreAcceptedAt};
+ghost use Rattle.definition.specs.Transform.{texts_fit};
 
 use crate::flags::Flags;
 use crate::marks::Mark;
 use crate::text::{context_at, is_global, symbol_at};
 use crate::{
-    Head, Range, body_at, count_at, flags_at, mark_at, put_text, range_at, read_head, record_at,
-    record_end, text_at,
+    Head, Range, body_at, count_at, flags_at, mark_at, range_at, read_head, record_at, record_end,
+    text_at,
 };
 
 // The record at an offset of a tree, with `levels` levels left for it and what it holds.
@@ -31,12 +32,22 @@ pub struct Records<'t> {
     pub ghost accepted: { AreAcceptedAt levels tree.now count at },
 }
 
-// The part of the tree that the record at `at` fills is its encoding.
+// The part of the tree that the record at `at` fills is its encoding, and its texts fit the two bytes of their lengths.
 fn encoded_at(tree: &[u8], at: usize, levels: usize) -> &[u8]
     requires { AcceptedAt levels tree.now at }
-    ensures { result.now ≡ encode (tree_at levels tree.now at) }
+    ensures part { result.now ≡ encode (tree_at levels tree.now at) }
+    ensures fits { texts_fit (tree_at levels tree.now at) ≡ true }
 {
     record_at(tree, at, levels)
+}
+
+// The text of the record at `at` is as short as its head can say.
+fn short_text_at(tree: &[u8], at: usize) -> &[u8]
+    requires { at + head_size + length_at tree.now at ≤ length tree.now }
+    ensures text { result.now ≡ text_at tree.now at }
+    ensures short { length (text_at tree.now at) < 65536 }
+{
+    text_at(tree, at)
 }
 
 impl<'t> Record<'t> {
@@ -44,7 +55,6 @@ impl<'t> Record<'t> {
     ghost use Rattle.definition.specs.Grammar.{mark};
     ghost use Rattle.definition.specs.Record.{head_of, kids_of, mark_of, text_of, symbol_of, context_of};
     ghost use Rattle.records.specs.Texts.{is_global_name};
-    ghost use Rattle.records.specs.Wrote.{Put};
     ghost use Rattle.records.specs.Fields.{fields_of, range_of};
     ghost use Rattle.records.specs.Marks.{number_of};
     ghost use Rattle.records.specs.Views.{rec_of, recs_of, ChildrenOf};
@@ -76,25 +86,20 @@ impl<'t> Record<'t> {
         range_at(self.tree, self.at)
     }
 
-    // Its text, as the part of the tree that it fills.
+    // Its text, as the part of the tree that it fills: "text length (2)".
     pub fn text(self) -> &'t [u8]
-        ensures { result.now ≡ text_of (rec_of self.entry) }
+        ensures text { result.now ≡ text_of (rec_of self.entry) }
+        ensures short { length (text_of (rec_of self.entry)) < 65536 }
     {
-        text_at(self.tree, self.at)
+        short_text_at(self.tree, self.at)
     }
 
-    // "A record read is handed back as the part of the tree it fills."
+    // "A record read is handed back as the part of the tree it fills." Its texts fit the two bytes of their lengths.
     pub fn part(self) -> &'t [u8]
-        ensures { result.now ≡ encode (rec_of self.entry) }
+        ensures part { result.now ≡ encode (rec_of self.entry) }
+        ensures fits { texts_fit (rec_of self.entry) ≡ true }
     {
         encoded_at(self.tree, self.at, self.levels)
-    }
-
-    // It as it stands, as far as there is room, and the position behind it.
-    pub fn put(self, out: &mut [u8], p: usize) -> usize
-        ensures { Put out.old out.new p (encode (rec_of self.entry)) result }
-    {
-        put_text(out, p, self.part())
     }
 
     // The symbol of an Id.

@@ -1,13 +1,6 @@
 // Where bytes are written: a buffer that is lent, and a position in it. What does not fit is dropped and the position goes on, so that a run
 // without room says how much room it takes.
-ghost use Rattle.std.specs.Prelude.{◌≡◌, [], ◌∷◌, ◌++◌, ◌+◌, ◌<◌, ◌^◌};
-ghost use Rattle.definition.specs.Tree.{rec, nil, le4, head_bytes, encode};
-ghost use Rattle.definition.specs.Grammar.{mark};
-ghost use Rattle.definition.specs.Record.{absent, ident};
-ghost use Rattle.records.specs.Fields.{field_bytes, span, made_head, made_fields};
-ghost use Rattle.records.specs.Marks.{number_of};
-ghost use Rattle.records.specs.Views.{rec_of};
-ghost use Rattle.records.specs.Writers.{Writes, Skips, Fronts};
+ghost use Rattle.std.specs.Prelude.{◌<◌, ◌^◌, length};
 
 use crate::flags::Flags;
 use crate::marks::Mark;
@@ -18,9 +11,21 @@ use crate::{CONTEXT_SIZE, DUMMY_SP, Head, Range, put_text};
 pub struct Writer<'o> {
     pub out: &'o mut [u8],
     pub at: usize,
+    // as every buffer and every place
+    pub ghost size: { length out.now < 2 ^ 64 },
+    pub ghost place: { at < 2 ^ 64 },
 }
 
 impl<'o> Writer<'o> {
+    ghost use Rattle.std.specs.Prelude.{◌≡◌, [], ◌∷◌, ◌++◌, ◌+◌};
+    ghost use Rattle.definition.specs.Tree.{rec, nil, le4, head_bytes, encode};
+    ghost use Rattle.definition.specs.Grammar.{mark};
+    ghost use Rattle.definition.specs.Record.{absent, ident};
+    ghost use Rattle.records.specs.Fields.{field_bytes, span, made_head, made_fields};
+    ghost use Rattle.records.specs.Marks.{number_of};
+    ghost use Rattle.records.specs.Views.{rec_of};
+    ghost use Rattle.records.specs.Writers.{Writes, Skips, Fronts};
+
     // The bytes of a text, or of a part of the tree.
     pub fn put(&mut self, bytes: &[u8])
         ensures { Writes self.old self.new bytes.now }

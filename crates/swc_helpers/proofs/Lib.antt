@@ -1,6 +1,4 @@
 pub mod Made
-pub mod Answers
-pub mod ByPlace
 pub mod Turned
 mod TurnedSign
 pub mod LitKinds

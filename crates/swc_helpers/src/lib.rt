@@ -4,15 +4,8 @@
 ghost use Rattle.std.specs.Prelude.{◌≡◌};
 ghost use Rattle.swc_helpers.specs.Found.{is_const};
 
-pub mod by_place;
 pub mod lit;
 pub mod types;
-
-pub use by_place::{
-    any_type_ann, maybe_lit_to_ts_type, minus_lit_to_ts_type, object_freeze_call_arg, reference_to,
-    regex_type, some_keyword, tpl_to_ts_type, ts_keyword_type, ts_readonly, ts_rest_type,
-    ts_tuple_element, ts_type_query, type_ref,
-};
 
 // The keywords of `TsKeywordTypeKind` that types are made of.
 #[derive(Clone, Copy)]

@@ -4,67 +4,50 @@
 #![tactic(auto)]
 
 ghost use Rattle.std.specs.Prelude.{◌≡◌};
-ghost use Rattle.definition.specs.Children.{AcceptedAt};
-ghost use Rattle.prescan.specs.Table.{Indexed};
 
 use console::shown::Hex;
 use console::{FRAMED_ROOM, ROOM, UNRESOLVED, front_mut, unwritten};
-use prescan::{LARGE_TABLE, Scope};
+use names::unique::Names;
+use output::Output;
+use prescan::LARGE_TABLE;
+use prescan::module_names::{Index, Scope};
 use records::DEEPEST;
 use records::marks::Mark;
 use records::tree::Record;
+use records::writer::Writer;
 use std::{fmt, io};
-use typing::{Mode, State, Typed};
+use typing::exprs::{Mode, expr_to_ts_type};
 
 // ---- One typing
 
-// Where every typing begins.
-fn start() -> State
-    ensures { result.counter ≡ 0 }
-{
-    State {
-        written: 0,
-        reported: 0,
-        counter: 0,
-        fits: true,
-    }
-}
-
-// What a typing gave: whether there is a type, its bytes, those of the diagnostics, and the counter.
+// What a typing gave: whether there is a type, how long it and the diagnostics are, and the counter.
 #[derive(Clone, Copy)]
 struct Answer {
-    word: &'static str,
-    s: State,
-}
-
-impl From<Typed> for Answer {
-    fn from(typed: Typed) -> Answer {
-        match typed {
-            Typed::Some(s) => Answer { word: "typed", s },
-            Typed::None(s) => Answer { word: "untyped", s },
-        }
-    }
+    is_typed: bool,
+    written: usize,
+    reported: usize,
+    id_counter: usize,
 }
 
 impl fmt::Display for Answer {
     fn fmt<W: fmt::Write>(&self, f: &mut fmt::Formatter<W>) -> fmt::Result {
-        let s = self.s;
+        let word = if self.is_typed { "typed" } else { "untyped" };
         write!(
             f,
-            "{} {} {} {}",
-            self.word, s.written, s.reported, s.counter
+            "{word} {} {} {}",
+            self.written, self.reported, self.id_counter
         )
     }
 }
 
 // Before an answer: where the expression stands, and its mode.
 #[derive(Clone, Copy)]
-struct Label {
+struct Label<'t> {
     at: usize,
-    mode: Mode,
+    mode: Mode<'t>,
 }
 
-impl fmt::Display for Label {
+impl fmt::Display for Label<'_> {
     fn fmt<W: fmt::Write>(&self, f: &mut fmt::Formatter<W>) -> fmt::Result {
         let mode = self.mode;
         let constant = if mode.as_const { 'c' } else { '-' };
@@ -73,58 +56,68 @@ impl fmt::Display for Label {
     }
 }
 
-// A typing into the whole of the two buffers.
-fn type_whole(
-    tree: &[u8],
-    at: usize,
-    levels: usize,
-    index: &[u32],
+// A typing from the front of both buffers, with no name made before it.
+fn type_from_front<'o>(
+    expr: Record,
     mode: Mode,
-    out: &mut [u8],
-    diagnostics: &mut [u8],
-) -> Typed
-    requires accepted_at { AcceptedAt levels tree.now at }
-    requires indexed { Indexed tree.now index.now }
+    out: &'o mut [u8],
+    diagnostics: &'o mut [u8],
+) -> Answer
+    requires { mode.scope.names.tree ≡ expr.tree }
 {
-    typing::expr_to_ts_type(tree, at, levels, index, mode, out, diagnostics, start())
+    let mut types = Writer { out, at: 0 };
+    let mut marks = Writer {
+        out: diagnostics,
+        at: 0,
+    };
+    let mut o = Output {
+        out: &mut types,
+        diagnostics: &mut marks,
+        names: Names { id_counter: 0 },
+        fits: true,
+    };
+    let typed = expr_to_ts_type(&mut o, expr, mode);
+    let id_counter = o.names.id_counter;
+    Answer {
+        is_typed: typed.is_some(),
+        written: types.at,
+        reported: marks.at,
+        id_counter,
+    }
 }
 
 // The dry run: there is no room for anything.
-fn dry_run(rt: &impl Print, expr: Record, index: &[u32], mode: Mode) -> io::Result<State>
-    requires { Indexed expr.tree.now index.now }
+fn dry_run(rt: &impl Print, expr: Record, mode: Mode) -> io::Result<Answer>
+    requires { mode.scope.names.tree ≡ expr.tree }
 {
     let mut out = [0u8; 0];
     let mut diagnostics = [0u8; 0];
-    let Record { tree, at, levels } = expr;
-    let typed = type_whole(tree, at, levels, index, mode, &mut out, &mut diagnostics);
-    let answer = Answer::from(typed);
-    println!(rt; "{} dry {answer}", Label { at, mode })?;
-    Ok(answer.s)
+    let answer = type_from_front(expr, mode, &mut out, &mut diagnostics);
+    println!(rt; "{} dry {answer}", Label { at: expr.at, mode })?;
+    Ok(answer)
 }
 
 fn run(
     rt: &impl Print,
     expr: Record,
-    index: &[u32],
     mode: Mode,
     out: &mut [u8],
     diagnostics: &mut [u8],
 ) -> io::Result<()>
-    requires { Indexed expr.tree.now index.now }
+    requires { mode.scope.names.tree ≡ expr.tree }
 {
-    let Record { tree, at, levels } = expr;
-    let typed = type_whole(tree, at, levels, index, mode, out, diagnostics);
-    println!(rt; "{} run {}", Label { at, mode }, Answer::from(typed))?;
+    let answer = type_from_front(expr, mode, out, diagnostics);
+    println!(rt; "{} run {answer}", Label { at: expr.at, mode })?;
     println!(rt; "type={}", Hex(out))?;
     println!(rt; "diagnostics={}", Hex(diagnostics))
 }
 
 // The dry run, and one with exactly as much room as it asked for.
-fn show_typing(rt: &impl Print, expr: Record, index: &[u32], mode: Mode) -> io::Result<()>
-    requires { Indexed expr.tree.now index.now }
+fn show_typing(rt: &impl Print, expr: Record, mode: Mode) -> io::Result<()>
+    requires { mode.scope.names.tree ≡ expr.tree }
 {
-    let s = dry_run(rt, expr, index, mode)?;
-    if ROOM < s.written || ROOM < s.reported {
+    let dry = dry_run(rt, expr, mode)?;
+    if ROOM < dry.written || ROOM < dry.reported {
         return println!(rt; "too long");
     }
     let mut out = unwritten();
@@ -132,18 +125,17 @@ fn show_typing(rt: &impl Print, expr: Record, index: &[u32], mode: Mode) -> io::
     run(
         rt,
         expr,
-        index,
         mode,
-        front_mut(&mut out, s.written),
-        front_mut(&mut diagnostics, s.reported),
+        front_mut(&mut out, dry.written),
+        front_mut(&mut diagnostics, dry.reported),
     )
 }
 
 // ---- Modules
 
 // The typings of an expression, in the four modes.
-fn show_typings(rt: &impl Print, expr: Record, index: &[u32], scope: Scope) -> io::Result<()>
-    requires { Indexed expr.tree.now index.now }
+fn show_typings(rt: &impl Print, expr: Record, scope: Scope) -> io::Result<()>
+    requires { scope.names.tree ≡ expr.tree }
 {
     for as_const in [false, true] {
         for as_readonly in [false, true] {
@@ -153,18 +145,18 @@ fn show_typings(rt: &impl Print, expr: Record, index: &[u32], scope: Scope) -> i
                 as_readonly,
                 frozen: false,
             };
-            show_typing(rt, expr, index, mode)?;
+            show_typing(rt, expr, mode)?;
         }
     }
     Ok(())
 }
 
 // Those of the expression of an Xe; other items have none.
-fn show_item(rt: &impl Print, item: Record, index: &[u32], scope: Scope) -> io::Result<()>
-    requires { Indexed item.tree.now index.now }
+fn show_item(rt: &impl Print, item: Record, scope: Scope) -> io::Result<()>
+    requires { scope.names.tree ≡ item.tree }
 {
     match item.mark() {
-        Mark::Xe => show_typings(rt, item.children().first(), index, scope),
+        Mark::Xe => show_typings(rt, item.children().first(), scope),
         _ => Ok(()),
     }
 }
@@ -176,8 +168,9 @@ fn show_module(rt: &impl Print, number: usize, tree: &[u8]) -> io::Result<()> {
         return Ok(());
     }
     let mut table = [0u32; LARGE_TABLE];
-    let index = prescan::index(tree, &mut table);
+    let entries = prescan::index(tree, &mut table);
     let scope = Scope {
+        names: Index { tree, entries },
         unresolved: UNRESOLVED,
     };
     let root = Record {
@@ -186,7 +179,7 @@ fn show_module(rt: &impl Print, number: usize, tree: &[u8]) -> io::Result<()> {
         levels: DEEPEST,
     };
     for item in root.children() {
-        show_item(rt, item, index, scope)?;
+        show_item(rt, item, scope)?;
     }
     Ok(())
 }

@@ -3,12 +3,14 @@
 
 ghost use Rattle.std.specs.Prelude.{◌≡◌, [], ◌∷◌, ◌<◌, Some};
 ghost use Rattle.definition.specs.Text.{token, own, outside, hex_digit, is_escaped, last_byte, escaped_byte, escaped, string_token, minus, integer_token, decimal_token};
+ghost use Rattle.definition.specs.Names.{decimal};
 ghost use Rattle.definition.specs.Numerals.{bits_of, whole_of};
 ghost use Rattle.records.specs.Wrote.{Put};
 ghost use Rattle.text_tokens.specs.Writes.{Writes, begun_of, seen_of_token, space_if, behind_of, cleared_of};
 
 use crate::numerals::{bits_of, is_negative, whole_of};
-use names::unique::put_decimal;
+use names::generated::put_decimal;
+use records::writer::Writer;
 use records::{advance, put, put_text};
 
 pub mod numerals;
@@ -131,7 +133,7 @@ impl State {
             Some(n) => {
                 let p = self.put_space(out);
                 let q = put_minus(is_negative(bits), out, p);
-                let e = put_decimal(n, out, q);
+                let e = put_digits(n, out, q);
                 self.behind(e, b'0' + (n % 10) as u8)
             }
             None => State {
@@ -140,6 +142,15 @@ impl State {
             },
         }
     }
+}
+
+// The decimal of n, and the position behind it.
+fn put_digits(n: usize, out: &mut [u8], p: usize) -> usize
+    ensures { Put out.old out.new p (decimal n) result }
+{
+    let mut w = Writer { out, at: p };
+    put_decimal(&mut w, n);
+    w.at
 }
 
 // The first place, where a number outside the forms stands at `at`.

@@ -16,9 +16,9 @@ use Rattle.definition.proofs.Calls.{length-diags_bytes}
 use Rattle.records.specs.Wrote.{sat, Wrote}
 use Rattle.records.proofs.Wrote.{wrote_exact}
 use Rattle.grammar.specs.declared.Refusal.TheVariants.{OutputFull, DiagnosticsFull}
-use Rattle.typing.specs.declared.State.{State}
-use Rattle.parts.specs.Makes.{Makes}
-use Rattle.transform_dts.specs.Answers.{start, Gives}
+use Rattle.transform_dts.specs.declared.Run.{Run}
+use Rattle.transform_dts.specs.Answers.{Gives}
+use Rattle.transform_dts.specs.Runs.{Runs}
 
 -- ---- what was written
 
@@ -43,22 +43,22 @@ filled E out o1 {o2} p z q l m w =
 
 -- ---- the answer
 
-module _ {o1 g1 : List ℕ} {r : State} {x : Out Rec} (dry : Makes [] o1 [] g1 start r x) (out diags : List ℕ) where
+module _ {o1 g1 : List ℕ} {r : Run} {x : Out Rec} (dry : Runs [] o1 [] g1 r x) (out diags : List ℕ) where
   -- a dry run says how long the output and the diagnostics are, and whether every text fits; it has no room to write in
   output-size : r.written ≡ sat 0 (length (encode x.0))
-  output-size = dry.step.ran.atp
+  output-size = dry.ran.atp
 
   diags_size : r.reported ≡ sat 0 (length (diags_bytes x.1))
-  diags_size = dry.step.ran.atd
+  diags_size = dry.ran.atd
 
   texts : texts_fit x.0 ≡ r.fits
-  texts = sym dry.step.fits
+  texts = sym dry.fits
 
   out-kept : o1 ++ out ≡ out
-  out-kept = front-none o1 out dry.step.ran.out.same
+  out-kept = front-none o1 out dry.ran.out.same
 
   diags_kept : g1 ++ diags ≡ diags
-  diags_kept = front-none g1 diags dry.step.ran.dia.same
+  diags_kept = front-none g1 diags dry.ran.dia.same
 
   -- 9, "output longer than its buffer": a text that no head can hold (reading 20), or too many bytes
   pub text_too_long : r.fits ≡ false → Gives (written x.0 x.1 out diags) (Err (record { refusal = OutputFull; place = 0 })) (o1 ++ out) (g1 ++ diags)
@@ -85,8 +85,8 @@ module _ {o1 g1 : List ℕ} {r : State} {x : Out Rec} (dry : Makes [] o1 [] g1 s
           (record { answer = refl; output = out-kept; diagnostics = diags_kept })
 
       -- "Success returns bytes written and the diagnostic count; bytes beyond them are untouched"
-      pub done-is : r.reported ≤ length diags → length diags < 2 ^ 63 → {o2 g2 : List ℕ} {s : State}
-          → Makes (take r.written (o1 ++ out)) o2 (take r.reported (g1 ++ diags)) g2 start s x
+      pub done-is : r.reported ≤ length diags → length diags < 2 ^ 63 → {o2 g2 : List ℕ} {s : Run}
+          → Runs (take r.written (o1 ++ out)) o2 (take r.reported (g1 ++ diags)) g2 s x
           → Gives (written x.0 x.1 out diags) (Ok (record { length = r.written; count = r.reported / 10 })) (o2 ++ drop r.written (o1 ++ out)) (g2 ++ drop r.reported (g1 ++ diags))
       unfolding written
       done-is m short' w =
@@ -95,6 +95,6 @@ module _ {o1 g1 : List ℕ} {r : State} {x : Out Rec} (dry : Makes [] o1 [] g1 s
           rw (texts, f, output-fits, le-leb (length (diags_bytes x.1)) (length diags) (omega (arith, diags_size)))
           (record {
             answer = λ i. done (n i) (k i);
-            output = filled (encode x.0) out o1 r.written dry.step.ran.out.same output-size l short w.step.ran.out;
-            diagnostics = filled (diags_bytes x.1) diags g1 r.reported dry.step.ran.dia.same diags_size m short' w.step.ran.dia;
+            output = filled (encode x.0) out o1 r.written dry.ran.out.same output-size l short w.ran.out;
+            diagnostics = filled (diags_bytes x.1) diags g1 r.reported dry.ran.dia.same diags_size m short' w.ran.dia;
           })

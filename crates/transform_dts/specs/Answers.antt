@@ -1,19 +1,14 @@
 -- The call's answers in the terms of document 01.
-use Rattle.std.specs.Prelude.{ℕ, ◌≡◌, true, List, Ok, Err}
+use Rattle.std.specs.Prelude.{ℕ, ◌≡◌, List, Ok, Err}
 use Rattle.std.specs.declared.result.Result as Code
 use Rattle.definition.specs.Tree.{Rec, tree_at}
 use Rattle.definition.specs.Check.{deepest}
 use Rattle.definition.specs.Record.{Out}
 use Rattle.definition.specs.Transform.{done, refused, Result, transform, written}
 use Rattle.definition.specs.Transform as Transform
-use Rattle.typing.specs.declared.State.{State}
 use Rattle.grammar.specs.Answers.{number}
 use Rattle.grammar.specs.declared.Refused.{Refused}
 use Rattle.transform_dts.specs.declared.Done.{Done}
-
--- where a run begins
-abbrev pub start : State
-start = record { written = 0; reported = 0; counter = 0; fits = true }
 
 -- the transform of the tree that stands in a list of bytes
 abbrev pub transformed : List ℕ → ℕ → List ℕ → Out Rec

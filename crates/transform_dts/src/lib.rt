@@ -4,16 +4,23 @@
 ghost use Rattle.std.specs.Prelude.{◌≡◌, ◌*◌, ◌/◌, ◌<◌, ◌≤◌, length};
 ghost use Rattle.definition.specs.Check.{longest_tree, deepest};
 ghost use Rattle.definition.specs.Children.{AcceptedAt};
-ghost use Rattle.definition.specs.Transform.{call};
+ghost use Rattle.definition.specs.Transform.{transform, call};
+ghost use Rattle.records.specs.Views.{rec_of};
 ghost use Rattle.index.specs.Index.{farthest};
-ghost use Rattle.prescan.specs.Table.{declaration_size, Indexed};
-ghost use Rattle.parts.specs.Makes.{Makes};
-ghost use Rattle.transform_dts.specs.Answers.{start, transformed, written_of, Gives};
+ghost use Rattle.prescan.specs.Table.{declaration_size};
+ghost use Rattle.output.specs.Outputs.{Makes};
+ghost use Rattle.transform_dts.specs.Answers.{written_of, Gives};
+ghost use Rattle.transform_dts.specs.Runs.{made_of, IsModule, Runs};
 
 use grammar::{Refusal, Refused};
-use prescan::{DECLARATION_SIZE, LARGE_TABLE, MIDDLE_TABLE, Scope};
+use items::module::transform_module_items;
+use names::unique::Names;
+use output::Output;
+use prescan::module_names::{Index, Scope};
+use prescan::{DECLARATION_SIZE, LARGE_TABLE, MIDDLE_TABLE};
+use records::tree::Record;
+use records::writer::Writer;
 use records::{DEEPEST, DIAGNOSTIC_SIZE};
-use typing::State;
 
 pub mod twice;
 
@@ -27,74 +34,74 @@ pub struct Done {
 // The length of the table of names of a small tree.
 const SMALL_TABLE: usize = 128;
 
-// Where a run begins.
-fn begin() -> State
-    ensures { result ≡ start }
+// How long the output and the diagnostics of a run are, and whether every text fits the two bytes of its length.
+#[derive(Clone, Copy)]
+struct Run {
+    written: usize,
+    reported: usize,
+    fits: bool,
+}
+
+// `Program::Module`: the Mo of an accepted tree; its front follows the items, with their number.
+fn transform_module(o: &mut Output, mo: Record, scope: Scope, list: &[u8])
+    requires { IsModule mo scope × (o.old.names.id_counter ≡ 0) }
+    ensures made { Makes o.old o.new (transform list.now scope.entry.unresolved (rec_of mo.entry)) }
+    ensures out { o.new.out.ghost_name ≡ o.old.out.ghost_name }
+    ensures out_buffer { o.new.out.now.out.ghost_name ≡ o.old.out.now.out.ghost_name }
+    ensures diagnostics { o.new.diagnostics.ghost_name ≡ o.old.diagnostics.ghost_name }
+    ensures diagnostics_buffer { o.new.diagnostics.now.out.ghost_name ≡ o.old.diagnostics.now.out.ghost_name }
 {
-    State {
-        written: 0,
-        reported: 0,
-        counter: 0,
+    let start = o.start();
+    o.skip_front(mo);
+    let count = transform_module_items(o, mo.children(), scope, list, true);
+    o.put_front_at(start, mo, count);
+}
+
+// A run over it, from the front of both buffers.
+fn module_run<'o>(
+    mo: Record,
+    scope: Scope,
+    list: &[u8],
+    out: &'o mut [u8],
+    diagnostics: &'o mut [u8],
+) -> Run
+    requires { IsModule mo scope }
+    ensures { Runs out.old out.new diagnostics.old diagnostics.new result
+        (transform list.now scope.entry.unresolved (rec_of mo.entry)) }
+{
+    let mut declarations = Writer { out, at: 0 };
+    let mut marks = Writer {
+        out: diagnostics,
+        at: 0,
+    };
+    let mut o = Output {
+        out: &mut declarations,
+        diagnostics: &mut marks,
+        names: Names { id_counter: 0 },
         fits: true,
+    };
+    transform_module(&mut o, mo, scope, list);
+    let fits = o.fits;
+    Run {
+        written: declarations.at,
+        reported: marks.at,
+        fits,
     }
 }
 
-// `Program::Module`: a run over the Mo of an accepted tree; its front follows the items, with their number.
-fn transform_module(
-    tree: &[u8],
-    index: &[u32],
-    list: &[u8],
-    unresolved: u32,
-    out: &mut [u8],
-    diagnostics: &mut [u8],
-) -> State
-    requires { AcceptedAt deepest tree.now 0 × Indexed tree.now index.now }
-    ensures { Makes out.old out.new diagnostics.old diagnostics.new start result
-        (transformed list.now unresolved tree.now) }
-{
-    let head = records::read_head(tree, 0);
-    let first = records::body_at(tree, 0);
-    let scope = Scope { unresolved };
-    let mut items = begin();
-    items.written = records::advance(0, parts::front_size(tree, 0));
-    let made = items::transform_module_items(
-        tree,
-        first,
-        head.count,
-        DEEPEST - 1,
-        index,
-        scope,
-        list,
-        true,
-        out,
-        diagnostics,
-        items,
-    );
-    parts::put_front(tree, 0, DEEPEST, head.flags, made.count, out, begin());
-    made.s
-}
-
-// The call on an accepted tree, with its index: refusals 9 and 10 by the dry run, then the run, on exactly the room that it takes.
+// The call on an accepted tree: refusals 9 and 10 by the dry run, then the run, on exactly the room that it takes.
 fn dry_run_and_run(
-    tree: &[u8],
-    index: &[u32],
+    mo: Record,
+    scope: Scope,
     list: &[u8],
-    unresolved: u32,
     out: &mut [u8],
     diagnostics: &mut [u8],
 ) -> Result<Done, Refused>
-    requires { AcceptedAt deepest tree.now 0 × Indexed tree.now index.now }
-    ensures { Gives (written_of list.now unresolved tree.now out.old diagnostics.old)
+    requires { IsModule mo scope }
+    ensures { Gives (made_of (transform list.now scope.entry.unresolved (rec_of mo.entry)) out.old diagnostics.old)
         result out.new diagnostics.new }
 {
-    let dry = transform_module(
-        tree,
-        index,
-        list,
-        unresolved,
-        &mut out[..0],
-        &mut diagnostics[..0],
-    );
+    let dry = module_run(mo, scope, list, &mut out[..0], &mut diagnostics[..0]);
     if !dry.fits {
         return Err(Refused {
             refusal: Refusal::OutputFull,
@@ -113,11 +120,10 @@ fn dry_run_and_run(
             place: 0,
         });
     }
-    transform_module(
-        tree,
-        index,
+    module_run(
+        mo,
+        scope,
         list,
-        unresolved,
         &mut out[..dry.written],
         &mut diagnostics[..dry.reported],
     );
@@ -142,8 +148,17 @@ fn with_table(
     ensures { Gives (written_of list.now unresolved tree.now out.old diagnostics.old)
         result out.new diagnostics.new }
 {
-    let index = prescan::index(tree, table);
-    dry_run_and_run(tree, index, list, unresolved, out, diagnostics)
+    let entries = prescan::index(tree, table);
+    let mo = Record {
+        tree,
+        at: 0,
+        levels: DEEPEST,
+    };
+    let scope = Scope {
+        names: Index { tree, entries },
+        unresolved,
+    };
+    dry_run_and_run(mo, scope, list, out, diagnostics)
 }
 
 // The same, with a new table of N numbers.

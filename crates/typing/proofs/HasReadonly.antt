@@ -8,12 +8,18 @@ use Prim.Native.Nat.{ℕ, ◌≤◌, ◌<◌}
 use native.Mathlib.Omega.{arith}
 use Rattle.definition.specs.Tree.{Head, Rec, Recs, rec, nil, cons, count}
 use Rattle.definition.specs.Grammar.{mark, marks, member, expression, grammar, known, slots, place}
-use Rattle.definition.specs.Record.{kids_of, mark_of, is_no, ranged, kid, given, present, Out, pure, if_m}
+use Rattle.definition.specs.Record.{head_of, kids_of, mark_of, is_no, ranged, kid, given, present, Out, pure, if_m}
 use Rattle.definition.specs.Helpers.{lit_kind, object_freeze_call_arg}
 use Rattle.definition.specs.Prescan.{PrescannedModuleIds}
 use Rattle.definition.specs.Typing.{
+  Frozen,
+  f_type_lit,
+  f_array,
+  f_same,
+  f_other,
   frozen_kind,
   plain_members,
+  readonly_members,
   readonly_of_by,
   readonly_of,
   tuple_of,
@@ -44,7 +50,7 @@ use Rattle.definition.specs.Typing.{
 }
 use Rattle.definition.proofs.Kids.{fixed, first_in}
 use Rattle.records.specs.declared.marks.Mark.{Mark}
-use Rattle.records.specs.declared.marks.Mark.TheVariants.{Ar, Ob, Fx, Aw, Ca, Tc, Ts}
+use Rattle.records.specs.declared.marks.Mark.TheVariants.{Ar, Ob, Fx, Aw, Ca, Tc, Ts, Ay, Tu, Ro, Ft, Ct}
 use Rattle.records.specs.declared.tree.Record.{Record}
 use Rattle.records.specs.Marks.{number_of}
 use Rattle.records.specs.Views.{rec_of, ChildIs}
@@ -52,8 +58,8 @@ use Rattle.records.proofs.Records.{enough}
 use Rattle.records.proofs.SameMarks.{marked}
 use Rattle.records.proofs.Views.{accepted, mark_here, count_here}
 use Rattle.typing.specs.Parts.{type_has_readonly, has_readonly_by, has_readonly, first_has_readonly}
-use Rattle.typing.proofs.Frozen.{readonly_stays, lit-none, tpl_none, ident-none, minus-none, new_none, plain-props}
-use Rattle.typing.proofs.LeafArms.{is_leaf}
+use Rattle.typing.proofs.ReadonlyLaws.{readonly_stays, lit-none, tpl_none, ident-none, minus-none, new_none, plain-props}
+use Rattle.typing.proofs.LeafSteps.{is_leaf}
 
 -- ---- the types that an expression may have
 
@@ -208,3 +214,29 @@ module _ (r : Record) where
 
   pub has_none : is_leaf (expr_kind (mark_of (rec_of r))) ≡ true → has_readonly (rec_of r) ≡ false
   has_none e = has_eta (rec_of r) ∙ leaf-by (expr_kind (mark_of (rec_of r))) (kids_of (rec_of r)) _ e
+
+-- ---- of a type, by its mark as the code asks
+
+module _ (t : Rec) where
+  has-kind : (k : Frozen) → frozen_kind (mark_of t) ≡ k → type_has_readonly t ≡ given (readonly_of_by k t) false (λ r. true)
+  has-kind k e = ap (λ (k : Frozen). given (readonly_of_by k t) false (λ r. true)) e
+
+  pub has_lit : mark_of t ≡ mark "Li" → type_has_readonly t ≡ plain_members (kids_of t)
+  unfolding readonly_of_by frozen_kind
+  has_lit e = has-kind f_type_lit (rw e) ∙ go (plain_members (kids_of t))
+    where
+      go : (b : Bool) → given (cond b (some (rec (head_of t) (readonly_members (kids_of t)))) none) false (λ r. true) ≡ b
+      go true = refl
+      go false = refl
+
+  pub has_known : {m : Mark} → number_of m ≡ mark_of t → (m ≡ Ay) ⊎ ((m ≡ Tu) ⊎ ((m ≡ Ro) ⊎ ((m ≡ Ft) ⊎ (m ≡ Ct)))) → type_has_readonly t ≡ true
+  unfolding readonly_of_by frozen_kind
+  has_known {m} n (inl e) = has-kind f_array (rw (marked m n e))
+  has_known {m} n (inr (inl e)) = has-kind f_array (rw (marked m n e))
+  has_known {m} n (inr (inr (inl e))) = has-kind f_same (rw (marked m n e))
+  has_known {m} n (inr (inr (inr (inl e)))) = has-kind f_same (rw (marked m n e))
+  has_known {m} n (inr (inr (inr (inr e)))) = has-kind f_same (rw (marked m n e))
+
+  pub has_other : frozen_kind (mark_of t) ≡ f_other → type_has_readonly t ≡ false
+  unfolding readonly_of_by
+  has_other e = has-kind f_other e

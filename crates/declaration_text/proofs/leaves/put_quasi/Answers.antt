@@ -11,4 +11,4 @@ pub returns-in-None : goal.returns-in-None
 returns-in-None c = rw c.in-None.is (writes-none _ _ (omega (arith, c.well_formed)))
 
 pub returns-in-Some : goal.returns-in-Some
-returns-in-Some c = rw c.in-Some.is (writes_as c.put_own_escaped.ensures (ap (λ (t : List ℕ). own (escaped t) ∷ []) c.text.ensures))
+returns-in-Some c = rw c.in-Some.is (writes_as c.put_own_escaped.ensures (ap (λ (t : List ℕ). own (escaped t) ∷ []) c.text.ensures.text))

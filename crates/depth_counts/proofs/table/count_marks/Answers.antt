@@ -1,32 +1,24 @@
--- `depth_counts::table::count_marks` meets its contract: the diagnostics before p are counted.
-use mathlib.Core.Path.{◌∙◌}
-use native.Mathlib.Omega.{arith}
-use Rattle.depth_counts.proofs.Cells.{marking_start, marking_mark, marking_turn, marking_done}
+-- `depth_counts::table::count_marks` meets its contract: the diagnostics that the iterator gave are counted.
+use Rattle.std.proofs.Common.{refl, arith, ap, ◌∙◌, take, drop}
+use Rattle.std.specs.Slice.Iter.{chunks_exact_rest, chunks_exact_size}
+use Rattle.depth_counts.proofs.Cells.{added, marking_start, marking_mark, marking_turn, marking_done}
 use Rattle.depth_counts.proofs.table.count_marks.Goals as goal
 
-pub loop-k-init : goal.loop-k-init
-loop-k-init c = marking_start _ _ _ _ c.requires.small.0 c.requires.small.1
+pub loop-diagnostic-init : goal.loop-diagnostic-init
+loop-diagnostic-init c =
+    let i = c.into_iter-diagnostic-iterator.ensures.into_iter_gives in
+    marking_start _ _ _ _ c.requires.n_in_bounds.0 c.requires.small.0 c.requires.small.1 (ap chunks_exact_size i ∙ c.chunks_exact-diagnostic-items.ensures.size) (ap chunks_exact_rest i ∙ (c.chunks_exact-diagnostic-items.ensures.rest ∙ ap (λ k. take k (drop c.args.at c.args.diagnostics.now)) (omega arith)))
 
-pub u16_at-requires : goal.u16_at-requires
-u16_at-requires c = omega (arith, c.loop-k.invariant.room, c.requires.n_in_bounds.0)
+pub row_of-requires : goal.row_of-requires
+row_of-requires c =
+    let s = c.in-Some.ensures.steps in
+    rw c.u16_at.ensures.0 (marking_mark _ _ _ _ c.loop-diagnostic.invariant _ _ s.1.0 s.1.1)
 
-pub row_of-row-requires : goal.row_of-row-requires
-row_of-row-requires c = rw c.u16_at.ensures.0 (marking_mark _ _ _ _ c.loop-k.invariant c.loop-k-test.true)
-
-pub add-requires : goal.add-requires
-add-requires c = (c.loop-k.invariant.small.shape, c.row_of-row.ensures.0, c.requires.n_in_bounds.1, omega (arith, c.loop-k.invariant.small.cells _ _ c.row_of-row.ensures.0 c.requires.n_in_bounds.1, c.loop-k.invariant.room, c.requires.n_in_bounds.0))
-
-pub overflow_add-p : goal.overflow_add-p
-overflow_add-p c = omega (arith, c.loop-k.invariant.room, c.requires.n_in_bounds.0)
-
-pub overflow_sub-k : goal.overflow_sub-k
-overflow_sub-k c = omega arith
-
-pub loop-k-smaller : goal.loop-k-smaller
-loop-k-smaller c = omega arith
-
-pub loop-k-preserved : goal.loop-k-preserved
-loop-k-preserved c = marking_turn _ _ _ _ c.loop-k.invariant c.loop-k-test.true c.row_of-row.ensures.0 (c.row_of-row.ensures.1 ∙ c.u16_at.ensures.0) c.add.ensures
+pub loop-diagnostic-preserved : goal.loop-diagnostic-preserved
+loop-diagnostic-preserved c =
+    let s = c.in-Some.ensures.steps in
+    let r = c.row_of.ensures in
+    marking_turn _ _ _ _ c.loop-diagnostic.invariant _ _ s.1.0 s.1.1 r.0 (r.1 ∙ c.u16_at.ensures.0) (added _ _ _ c.loop-diagnostic.invariant.small.shape r.0 c.requires.n_in_bounds.1 refl) s.0
 
 pub returns : goal.returns
-returns c = marking_done _ _ _ _ c.loop-k.invariant c.loop-k-test.false
+returns c = let s = c.in-None.ensures.steps in marking_done _ _ _ _ c.loop-diagnostic.invariant s.1.0

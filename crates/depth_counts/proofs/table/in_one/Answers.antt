@@ -11,12 +11,6 @@ loop-i-init c = λ s. record { size = refl; within = omega arith; same = λ j h.
 pub overflow_cast-counts : goal.overflow_cast-counts
 overflow_cast-counts c = omega (arith, cell_most c.args.table (c.loop-i.i / 32) (c.loop-i.i % 32), c.requires.1)
 
-pub overflow_add-i : goal.overflow_add-i
-overflow_add-i c = omega arith
-
-pub loop-i-smaller : goal.loop-i-smaller
-loop-i-smaller c = omega arith
-
 pub loop-i-preserved : goal.loop-i-preserved
 loop-i-preserved c = λ s. copying_turn _ s (c.loop-i.invariant s) c.loop-i-test.true refl
 

@@ -30,7 +30,7 @@ returns-then-eq c =
     elim c.if-is_global.branch [
       | then-is_global w ↦
           c.is_well_known.ensures
-          ∙ rw (c.text.ensures) (sym (member_by c.args.unresolved c.args.expr e x y
+          ∙ rw (c.text.ensures.text) (sym (member_by c.args.unresolved c.args.expr e x y
           ∙ rw (sym c.is_global.ensures ∙ w.if-is_global.true, sym (tested _ w.mark-then-is_global.ensures Ki) ∙ (sym w.eq.ensures ∙ (sym w.value-is ∙ c.if-eq.true)))))
       | else-is_global w ↦ absurd (cc (w.value-is, c.if-eq.true))
     ]

@@ -18,5 +18,5 @@ returns c =
     writes_as
     (writes_then (omega arith) c.put_made_front.ensures c.put_made_leaf.ensures)
     (encode_one _ _ refl
-    ∙ ap (λ (t : List ℕ). encode (ts_lit_type dummy_sp (rec (fresh "Ss" 0 t) nil))) (c.text.ensures ∙ ap text_of k.1.is)
+    ∙ ap (λ (t : List ℕ). encode (ts_lit_type dummy_sp (rec (fresh "Ss" 0 t) nil))) (c.text.ensures.text ∙ ap text_of k.1.is)
     ∙ ap encode (a_literal _ (is_const c.args.kind) k.0))

@@ -3,7 +3,7 @@ use Rattle.std.proofs.Common.{sym, ◌∙◌, arith}
 use Rattle.records.specs.declared.marks.Mark.TheVariants.{Ar, Ob, Fx, Aw, Ca, Tc, Ts, As}
 use Rattle.records.proofs.Records.{from_children, from_rest, child_is}
 use Rattle.records.proofs.SameMarks.{marked, not_marked}
-use Rattle.typing.proofs.LeafArms.{leaf_but}
+use Rattle.typing.proofs.LeafSteps.{leaf_but}
 use Rattle.typing.proofs.HasReadonly.{has_made, asserted, has_first, typed, has_as, has_none}
 use Rattle.typing.proofs.readonly.+has_readonly.Goals as goal
 

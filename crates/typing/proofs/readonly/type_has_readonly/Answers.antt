@@ -4,7 +4,7 @@ use Rattle.definition.specs.Typing.{frozen_kind}
 use Rattle.records.specs.declared.marks.Mark.TheVariants.{Li, Ay, Tu, Ro, Ft, Ct}
 use Rattle.records.specs.Views.{rec_of}
 use Rattle.records.proofs.SameMarks.{marked, not_marked}
-use Rattle.typing.proofs.ReadonlyOf.{has_lit, has_known, has_other}
+use Rattle.typing.proofs.HasReadonly.{has_lit, has_known, has_other}
 use Rattle.typing.proofs.readonly.type_has_readonly.Goals as goal
 
 pub returns-in-Li : goal.returns-in-Li

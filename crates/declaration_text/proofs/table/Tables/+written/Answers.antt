@@ -25,7 +25,7 @@ pub child-returns : goal.child-returns
 child-returns t c = writes_as c.write.ensures (child-tokens c.args.r c.in-Some.ensures (c.has_mark.ensures))
 
 pub number-returns-then-count-eq0 : goal.number-returns-then-count-eq0
-number-returns-then-count-eq0 t c = writes_as c.put_number.ensures (number-alone c.args.r (omega (arith, c.count.ensures, c.if-count-eq0.true)) c.text.ensures)
+number-returns-then-count-eq0 t c = writes_as c.put_number.ensures (number-alone c.args.r (omega (arith, c.count.ensures, c.if-count-eq0.true)) c.text.ensures.text)
 
 pub number-returns : goal.number-returns
 number-returns t c = writes_as c.child.ensures (number-spelt c.args.r (omega (arith, c.count.ensures, c.if-count-eq0.false)))
@@ -111,7 +111,7 @@ put_piece-returns-in-Template t c = writes_as c.template.ensures (template_of_le
 
 pub put_piece-returns-in-Text : goal.put_piece-returns-in-Text
 unfolding what_tokens
-put_piece-returns-in-Text t c = writes_as c.put_token-in-Text.ensures (ap (λ (x : List ℕ). token x ∷ []) c.text.ensures ∙ (piece-says _ _ _ _ _ _ c.holds.ensures c.if-not-holds.false c.in-Text.is))
+put_piece-returns-in-Text t c = writes_as c.put_token-in-Text.ensures (ap (λ (x : List ℕ). token x ∷ []) c.text.ensures.text ∙ (piece-says _ _ _ _ _ _ c.holds.ensures c.if-not-holds.false c.in-Text.is))
 
 pub put_piece-returns-in-Symbol : goal.put_piece-returns-in-Symbol
 unfolding what_tokens
@@ -119,7 +119,7 @@ put_piece-returns-in-Symbol t c = writes_as c.put_symbol.ensures (piece-says _ _
 
 pub put_piece-returns-in-String : goal.put_piece-returns-in-String
 unfolding what_tokens
-put_piece-returns-in-String t c = writes_as c.put_string.ensures (ap (λ (x : List ℕ). token (string_token x) ∷ []) c.text-in-String.ensures ∙ (piece-says _ _ _ _ _ _ c.holds.ensures c.if-not-holds.false c.in-String.is))
+put_piece-returns-in-String t c = writes_as c.put_string.ensures (ap (λ (x : List ℕ). token (string_token x) ∷ []) c.text-in-String.ensures.text ∙ (piece-says _ _ _ _ _ _ c.holds.ensures c.if-not-holds.false c.in-String.is))
 
 pub put_piece-returns-in-Number : goal.put_piece-returns-in-Number
 unfolding what_tokens
@@ -127,12 +127,12 @@ put_piece-returns-in-Number t c = writes_as c.number.ensures (piece-says _ _ _ _
 
 pub put_piece-returns-in-Integer : goal.put_piece-returns-in-Integer
 unfolding what_tokens
-put_piece-returns-in-Integer t c = writes_as c.put_integer.ensures (ap (λ (x : List ℕ). token (integer_token x) ∷ []) c.text-in-Integer.ensures ∙ (piece-says _ _ _ _ _ _ c.holds.ensures c.if-not-holds.false c.in-Integer.is))
+put_piece-returns-in-Integer t c = writes_as c.put_integer.ensures (ap (λ (x : List ℕ). token (integer_token x) ∷ []) c.text-in-Integer.ensures.text ∙ (piece-says _ _ _ _ _ _ c.holds.ensures c.if-not-holds.false c.in-Integer.is))
 
 -- ---- a record
 
 pub write-returns-then-is_plain : goal.write-returns-then-is_plain
-write-returns-then-is_plain t c = writes_as c.put_token.ensures (plain-token _ _ (c.is_plain.ensures c.if-is_plain.true) c.text.ensures)
+write-returns-then-is_plain t c = writes_as c.put_token.ensures (plain-token _ _ (c.is_plain.ensures c.if-is_plain.true) c.text.ensures.text)
 
 pub write-returns-then-is_name : goal.write-returns-then-is_name
 write-returns-then-is_name t c = writes_as c.put_symbol.ensures (name-token _ _ (c.is_name.ensures c.if-is_name.true))

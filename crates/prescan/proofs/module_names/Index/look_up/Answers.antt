@@ -9,9 +9,9 @@ pub bounds-self-p : goal.bounds-self-p
 bounds-self-p c = omega (arith, hit-within c.in-Ok.ensures.0 c.in-Ok.ensures.1)
 
 pub returns-in-Ok : goal.returns-in-Ok
-returns-in-Ok c q = rw (c.of.ensures, has-sets_of _ q, sym c.text.ensures) (look_hit c.args.self.indexed c.in-Ok.ensures.0 q c.in-Ok.ensures.1)
+returns-in-Ok c q = rw (c.of.ensures, has-sets_of _ q, sym c.text.ensures.text) (look_hit c.args.self.indexed c.in-Ok.ensures.0 q c.in-Ok.ensures.1)
 
 pub returns-in-Err : goal.returns-in-Err
 returns-in-Err c q =
     has-nothing c.default.ensures.0 c.default.ensures.1.0 c.default.ensures.1.1 q ∙
-    rw (sym c.text.ensures) (sym (look-miss c.args.self.indexed c.in-Err.ensures.0 q c.in-Err.ensures.1))
+    rw (sym c.text.ensures.text) (sym (look-miss c.args.self.indexed c.in-Err.ensures.0 q c.in-Err.ensures.1))
