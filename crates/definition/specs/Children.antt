@@ -24,8 +24,12 @@ child_at levels s at i = end_of_all (end_at (levels - 1) s) i (body_at s at)
 
 -- the slots at which records of every mark may stand, in any number: a record that is accepted at some slots is accepted here
 -- (`is_accepted` of proofs/Anywhere.antt)
+-- printed by tools/grammar-tables: anywhere
+
 unfoldable pub anywhere : List Part
 anywhere = many "Mo Op No Im St Ed Xd Xe Fd Cd Vd Us En Ns In Ty Vr Em Nb Nd Fu Pa Pp Cl Co Me Cp Dm Ix Ps Om Pb Po Bd Ag Rs Pe Pi Ki Kc Ss Nu Bi Bl Nl Re Jt Id Ar Ob Fx Cx Aw Te Mi Ca Ne Mb Bn Oc Tc Nn Pr As Ts Ta Oe Sp Kv Sh Pq Qu Tm Kw Tl Rf Tf Li Ay Tu Rt Ro Ft Ct Ot" ∷ []
+
+-- end of what is printed
 
 unfoldable pub is_fine : Checked → Bool
 is_fine (fine e) = true

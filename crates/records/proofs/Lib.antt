@@ -9,6 +9,7 @@ mod SetFlags
 pub mod Accepted
 pub mod Views
 pub mod Records
+pub mod Fronts
 pub mod Iterates
 pub mod Writers
 pub mod SameMarks

@@ -8,11 +8,15 @@ use denote.Enum.Bare.{sameb, same_true}
 use borrow.Author.Tests.{eq-eqb, ne_eqb, eqb-true, eqb-false, not-true, not-false}
 use Rattle.definition.specs.Grammar.{grammar, known, place}
 use Rattle.records.specs.declared.marks.Mark.{Mark}
+-- printed by tools/grammar-tables: marks
 use Rattle.records.specs.declared.marks.Mark.TheVariants.{Mo, Op, No, Im, St, Ed, Xd, Xe, Fd, Cd, Vd, Us, En, Ns, In, Ty, Vr, Em, Nb, Nd, Fu, Pa, Pp, Cl, Co, Me, Cp, Dm, Ix, Ps, Om, Pb, Po, Bd, Ag, Rs, Pe, Pi, Ki, Kc, Ss, Nu, Bi, Bl, Nl, Re, Jt, Id, Ar, Ob, Fx, Cx, Aw, Te, Mi, Ca, Ne, Mb, Bn, Oc, Tc, Nn, Pr, As, Ts, Ta, Oe, Sp, Kv, Sh, Pq, Qu, Tm, Kw, Tl, Rf, Tf, Li, Ay, Tu, Rt, Ro, Ft, Ct, Ot}
+-- end of what is printed
 use Rattle.records.specs.contracts.marks.Mark.{the_type}
 use Rattle.records.specs.Marks.{number_of}
 
 -- a mark's place in the code's enum is its row in the grammar
+-- printed by tools/grammar-tables: rows
+
 pub row_is : (m : Mark) → tag_of the_type m ≡ place known (number_of m)
 unfolding grammar known place
 row_is Mo = refl
@@ -100,6 +104,8 @@ row_is Ro = refl
 row_is Ft = refl
 row_is Ct = refl
 row_is Ot = refl
+
+-- end of what is printed
 
 -- so the number tells the mark
 pub same_number : (m n : Mark) → number_of m ≡ number_of n → m ≡ n

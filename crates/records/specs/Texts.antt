@@ -1,5 +1,5 @@
 -- What the code asks of texts and of an Id.
-use Rattle.std.specs.Prelude.{◌≡◌, ℕ, ◌+◌, ◌<◌, ◌≤◌, List, Bool, ◌&&◌, eqb, length, get_or}
+use Rattle.std.specs.Prelude.{ℕ, ◌+◌, ◌<◌, List, Bool, ◌&&◌, eqb, get_or}
 use Rattle.definition.specs.Tree.{Rec}
 use Rattle.definition.specs.Record.{same_text, is, context_of, symbol_of}
 

@@ -38,7 +38,14 @@ impl<'o> Writer<'o> {
     pub fn put_diagnostic(&mut self, kind: FastCheckDtsDiagnostic, range: Range)
         ensures { Writes self.old self.new (diag_bytes (diag_of (mark_of kind) range.start range.end)) }
     {
-        let [m0, m1] = u16::from(kind).to_le_bytes();
+        self.put_marked(u16::from(kind), range);
+    }
+
+    // The ten bytes of one with any mark.
+    pub fn put_marked(&mut self, mark: u16, range: Range)
+        ensures { Writes self.old self.new (diag_bytes (diag_of mark range.start range.end)) }
+    {
+        let [m0, m1] = mark.to_le_bytes();
         let [s0, s1, s2, s3] = range.start.to_le_bytes();
         let [e0, e1, e2, e3] = range.end.to_le_bytes();
         self.put(&[m0, m1, s0, s1, s2, s3, e0, e1, e2, e3]);

@@ -210,7 +210,7 @@ pub fn put(out: &mut [u8], p: usize, b: u8)
 }
 
 // A number in two bytes, little-endian.
-fn two_bytes(v: usize) -> [u8; 2]
+pub fn two_bytes(v: usize) -> [u8; 2]
     ensures { result ≡ le2 v }
 {
     [(v % 256) as u8, (v / 256 % 256) as u8]
@@ -218,6 +218,7 @@ fn two_bytes(v: usize) -> [u8; 2]
 
 impl Head {
     // The head of a record that is made, with a text of a length and children of a number.
+    #[inline(always)]
     pub fn made(mark: Mark, flags: Flags, range: Range, text: usize, count: usize) -> Head
         ensures { result ≡ made_fields (number_of mark) flags range text count }
     {
@@ -232,6 +233,7 @@ impl Head {
     }
 
     // "mark (two ASCII letters), flags (1 byte), start and end (4 each), text length (2), child count (2)".
+    #[inline(always)]
     pub fn bytes(self) -> [u8; HEAD_SIZE]
         ensures { result ≡ field_bytes self }
     {

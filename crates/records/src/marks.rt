@@ -1,5 +1,5 @@
 // The marks of document 01 as the numbers that a head holds: "mark (two ASCII letters)", little-endian. In the order of the grammar's rows.
-ghost use Rattle.std.specs.Prelude.{◌≡◌};
+ghost use Rattle.std.specs.Prelude.{◌≡◌, ◌<◌, length};
 ghost use Rattle.definition.specs.Grammar.{known, place};
 ghost use Rattle.records.specs.Marks.{number_of};
 ghost use Rattle.records.specs.Reads.{Reads};
@@ -271,6 +271,65 @@ pub enum Mark {
     Ct, // a constructor type
     Ot, // any other type
     // end of what is printed
+}
+
+// How many slots there are, and two numbers by which no two marks have the same one.
+// printed by tools/grammar-tables: slot numbers
+
+const SLOTS: usize = 256;
+
+const FACTOR: usize = 7039;
+
+const DIVISOR: usize = 4096;
+
+// end of what is printed
+
+// The marks, each at its slot. What has no mark's slot is Mo.
+#[rattlefmt::skip]
+static BY_SLOT: [Mark; SLOTS] = [
+    // printed by tools/grammar-tables: slots
+    Mark::Op, Mark::Kw, Mark::Pp, Mark::Mo, Mark::Mo, Mark::Mo, Mark::Mo, Mark::Sp, Mark::Mo,
+    Mark::Mo, Mark::Bl, Mark::Mo, Mark::Cl, Mark::Mo, Mark::Mo, Mark::Mo, Mark::As, Mark::Mo,
+    Mark::Mo, Mark::Mo, Mark::Mo, Mark::Mo, Mark::Me, Mark::Ne, Mark::Mo, Mark::Oe, Mark::Mo,
+    Mark::Pe, Mark::Mo, Mark::Mo, Mark::Re, Mark::Nl, Mark::Mo, Mark::Mo, Mark::Te, Mark::Mo,
+    Mark::Mo, Mark::Ca, Mark::Ns, Mark::Mo, Mark::Xe, Mark::Tl, Mark::Ps, Mark::Mo, Mark::Mo,
+    Mark::Rs, Mark::Mo, Mark::Ss, Mark::Mo, Mark::Ts, Mark::Us, Mark::Mo, Mark::Co, Mark::Mo,
+    Mark::Mo, Mark::Mo, Mark::Mo, Mark::Mo, Mark::Mo, Mark::Pa, Mark::Mo, Mark::Mo, Mark::Mo,
+    Mark::Mo, Mark::Mo, Mark::Mo, Mark::Ta, Mark::Mo, Mark::Mo, Mark::Mo, Mark::Mo, Mark::No,
+    Mark::Sh, Mark::Kv, Mark::Po, Mark::Bd, Mark::Cd, Mark::Ro, Mark::Mo, Mark::Mo, Mark::Ed,
+    Mark::Mo, Mark::Fd, Mark::Mo, Mark::Mo, Mark::Mo, Mark::Mo, Mark::Id, Mark::Ar, Mark::Mo,
+    Mark::Mo, Mark::Mo, Mark::Mo, Mark::Mo, Mark::Mo, Mark::Nd, Mark::Ay, Mark::Mo, Mark::Mo,
+    Mark::Mo, Mark::Mo, Mark::Mo, Mark::Mo, Mark::Mo, Mark::Mo, Mark::Mo, Mark::Mo, Mark::Mo,
+    Mark::Mo, Mark::Vd, Mark::Mo, Mark::Mo, Mark::Xd, Mark::Ag, Mark::Pr, Mark::Mo, Mark::Mo,
+    Mark::Mo, Mark::Mo, Mark::Mo, Mark::Mo, Mark::Mo, Mark::Bn, Mark::Mo, Mark::Vr, Mark::Mo,
+    Mark::Mo, Mark::En, Mark::Ty, Mark::Mo, Mark::Mo, Mark::Mo, Mark::Mo, Mark::Mo, Mark::In,
+    Mark::Mo, Mark::Fu, Mark::Mo, Mark::Mo, Mark::Mo, Mark::Mo, Mark::Mo, Mark::Mo, Mark::Nn,
+    Mark::Mo, Mark::Mo, Mark::Mo, Mark::Mo, Mark::Mo, Mark::Mo, Mark::Nu, Mark::Mo, Mark::Mo,
+    Mark::Mo, Mark::Mo, Mark::Qu, Mark::Mo, Mark::Mo, Mark::Mo, Mark::Mo, Mark::Mo, Mark::Tu,
+    Mark::Kc, Mark::Mo, Mark::Mo, Mark::Mo, Mark::Mo, Mark::Mo, Mark::Mo, Mark::Oc, Mark::Mo,
+    Mark::Cx, Mark::Mo, Mark::Mo, Mark::Mo, Mark::Mo, Mark::Fx, Mark::Mo, Mark::Tc, Mark::Mo,
+    Mark::Mo, Mark::Ix, Mark::Mo, Mark::Mo, Mark::Mo, Mark::Mo, Mark::Pq, Mark::Mo, Mark::Mo,
+    Mark::Mo, Mark::Mo, Mark::Mo, Mark::Mo, Mark::Mo, Mark::Mo, Mark::Mo, Mark::Mo, Mark::Mo,
+    Mark::Dm, Mark::Em, Mark::Mo, Mark::Mo, Mark::Mo, Mark::Ct, Mark::Mo, Mark::Mo, Mark::Im,
+    Mark::Mo, Mark::Mo, Mark::Ft, Mark::Mo, Mark::Mo, Mark::Mo, Mark::Mo, Mark::Rf, Mark::Jt,
+    Mark::Om, Mark::Tf, Mark::Mo, Mark::Mo, Mark::Mo, Mark::Mo, Mark::Mo, Mark::Mo, Mark::Ot,
+    Mark::Tm, Mark::Bi, Mark::Mo, Mark::Mo, Mark::Rt, Mark::Mo, Mark::St, Mark::Mo, Mark::Mo,
+    Mark::Mo, Mark::Mo, Mark::Cp, Mark::Mo, Mark::Mb, Mark::Nb, Mark::Aw, Mark::Ob, Mark::Ki,
+    Mark::Pb, Mark::Li, Mark::Mi, Mark::Mo, Mark::Mo, Mark::Mo, Mark::Mo, Mark::Pi, Mark::Mo,
+    Mark::Mo, Mark::Mo, Mark::Mo, Mark::Mo,
+    // end of what is printed
+];
+
+impl Mark {
+    // The mark with this number, where it is known that one has it. It is looked up by its slot, since a `match` over the numbers of all marks halves
+    // seven times.
+    #[inline(always)]
+    pub fn known(number: u16) -> Mark
+        requires { place known number < length known }
+        ensures { number_of result ≡ number }
+    {
+        BY_SLOT[usize::from(number) * FACTOR / DIVISOR % SLOTS]
+    }
 }
 
 // A number that no mark has.

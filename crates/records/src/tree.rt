@@ -59,13 +59,11 @@ impl<'t> Record<'t> {
     ghost use Rattle.records.specs.Marks.{number_of};
     ghost use Rattle.records.specs.Views.{rec_of, recs_of, ChildrenOf};
 
+    #[inline(always)]
     pub fn mark(self) -> Mark
         ensures { number_of result ≡ mark_of (rec_of self.entry) }
     {
-        let Ok(mark) = Mark::try_from(mark_at(self.tree, self.at)) else {
-            unreachable!()
-        };
-        mark
+        Mark::known(mark_at(self.tree, self.at))
     }
 
     pub fn flags(self) -> Flags

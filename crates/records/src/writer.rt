@@ -5,7 +5,7 @@ ghost use Rattle.std.specs.Prelude.{◌<◌, ◌^◌, length};
 use crate::flags::Flags;
 use crate::marks::Mark;
 use crate::tree::Record;
-use crate::{CONTEXT_SIZE, DUMMY_SP, Head, Range, put_text};
+use crate::{CONTEXT_SIZE, DUMMY_SP, HEAD_SIZE, Head, Range, put_text};
 
 #[derive(Drop)]
 pub struct Writer<'o> {
@@ -51,6 +51,18 @@ impl<'o> Writer<'o> {
     pub fn put_head(&mut self, head: Head)
         ensures { Writes self.old self.new (field_bytes head) }
     {
+        // where no byte fits, as in a dry run, none is made
+        if self.out.len() <= self.at {
+            self.skip(HEAD_SIZE);
+            return;
+        }
+        // all of them in one place, so that none is read back before it is written
+        if HEAD_SIZE <= self.out.len() - self.at {
+            let end = self.at + HEAD_SIZE;
+            self.out[self.at..end].copy_from_slice(&head.bytes());
+            self.at = end;
+            return;
+        }
         self.put(&head.bytes());
     }
 

@@ -1,4 +1,4 @@
-use mathlib.Core.Path.{ap, sym, ◌∙◌}
+use mathlib.Core.Path.{ap, ◌∙◌}
 use Rattle.std.proofs.Common.{arith}
 use lib.ListN.{length}
 use Rattle.records.proofs.Accepted.{fits}
