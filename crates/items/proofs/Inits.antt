@@ -1,15 +1,13 @@
 -- Enum members: the arms of `valid_enum_init_expr` by a record's mark and its children, a template's expressions, and the members that are written.
 use mathlib.Core.Path.{◌≡◌, refl, sym, ap, ◌∙◌}
-use mathlib.Core.List.{List}
 use mathlib.Core.Bool.{Bool, true, false, ◌&&◌, ◌||◌}
 use mathlib.Core.Logic.{◌⊎◌, inl, inr}
 use Prim.Native.Nat.{ℕ, ◌<◌, ◌≤◌}
 use native.Mathlib.Omega.{arith}
-use Rattle.definition.specs.Tree.{Rec, Recs, rec, nil, cons, count, mark_at, tree_at}
+use Rattle.definition.specs.Tree.{Rec, Recs, rec, nil, cons, count}
 use Rattle.definition.specs.Grammar.{mark}
-use Rattle.definition.specs.Record.{kids_of, mark_of, is, absent, kid, Out, pure, if_m, second, each}
+use Rattle.definition.specs.Record.{kids_of, mark_of, is, absent, kid, pure, if_m, second}
 use Rattle.definition.specs.Enums.{Init, i_bin, i_over, i_opt_chain, i_valid, i_tpl, i_typed, i_other, init_kind, valid_enum_ts_type, valid_by, valid_enum_init_expr, valid_first, valid_both, valid_all, enum_init, enum_member}
-use Rattle.definition.proofs.Kids.{is-mark, not-mark}
 use Rattle.records.specs.declared.marks.Mark.{Mark}
 use Rattle.records.specs.declared.marks.Mark.TheVariants.{Mb, Pr, Id, Nu, Ss, As, Ta}
 use Rattle.records.specs.declared.tree.Record.{Record}
@@ -17,6 +15,7 @@ use Rattle.records.specs.declared.tree.Records.{Records}
 use Rattle.records.specs.Marks.{number_of}
 use Rattle.records.specs.Views.{rec_of, recs_of, FirstOf, RestOf, ChildIs}
 use Rattle.records.proofs.Records.{recs_none, recs_step, enough}
+use Rattle.records.proofs.Fronts.{recs_front}
 use Rattle.records.proofs.SameMarks.{marked}
 
 -- ---- the arms of `valid_enum_init_expr`
@@ -132,6 +131,10 @@ all_none k e = ap valid_all (recs_none k e)
 pub all_step : {k l : Records} {x : Record} → 0 < k.count → FirstOf k x → RestOf k l → valid_all (recs_of k) ≡ (valid_part (rec_of x) && valid_all (recs_of l))
 unfolding valid_all
 all_step h x l = ap valid_all (recs_step h x l)
+
+pub all_other : {k : Records} {x : Record} → 0 < k.count → FirstOf k x → valid_part (rec_of x) ≡ false → valid_all (recs_of k) ≡ false
+unfolding valid_all
+all_other h x e = ap valid_all (recs_front h x).1 ∙ rw e
 
 -- ---- the init of a member
 

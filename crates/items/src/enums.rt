@@ -41,10 +41,12 @@ pub fn valid_enum_init_expr(expr: Record) -> bool
 fn valid_exprs(te: Record) -> bool
     ensures { result ≡ valid_all (kids_of (rec_of te.entry)) }
 {
-    for kid in te.children() {
-        if !valid_part(kid) {
+    let mut kids = te.children();
+    while 0 < kids.count {
+        if !valid_part(kids.first()) {
             return false;
         }
+        kids = kids.rest();
     }
     true
 }

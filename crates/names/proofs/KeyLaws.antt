@@ -14,8 +14,9 @@ use Rattle.records.specs.declared.marks.Mark.{Mark}
 use Rattle.records.specs.declared.marks.Mark.TheVariants.{Ss, Nu, Bi, Pr, Ta, Tc, Nn, As, Ts}
 use Rattle.records.specs.Marks.{number_of}
 use Rattle.records.specs.Texts.{is_global_name}
-use Rattle.records.specs.Views.{rec_of, recs_of, ChildrenOf, FirstOf, RestOf, ChildIs}
-use Rattle.records.proofs.Records.{recs_none, recs_step, enough}
+use Rattle.records.specs.Views.{rec_of, behind, ChildrenOf, ChildIs}
+use Rattle.records.proofs.Records.{recs_none, enough}
+use Rattle.records.proofs.Fronts.{ends_none, ends_at}
 use Rattle.records.proofs.Views.{accepted, mark_here, count_here}
 use Rattle.records.proofs.SameMarks.{marked}
 use Rattle.names.specs.Keys.{is_well_known_member, only_expression, key_of, record_of, KeyFound, KeyIs}
@@ -35,6 +36,14 @@ module _ (u : ℕ) (r : Record) where
   pub no_member : is "Mb" (rec_of r) ≡ false → is_well_known_member u (rec_of r) ≡ false
   no_member e = rw e
 
+  pub another_object : {x : Record} → ChildIs r 0 x → is_global_name u (text "Symbol") (rec_of x) ≡ false → is_well_known_member u (rec_of r) ≡ false
+  unfolding is_well_known_symbol_expr
+  another_object x e = go (is "Mb" (rec_of r)) _ (ap (is_global_name u (text "Symbol")) (sym x.is) ∙ e)
+    where
+      go : (m t : Bool) {g : Bool} → g ≡ false → (m && (g && t)) ≡ false
+      go true t e = rw e
+      go false t e = refl
+
   pub member_by : is "Mb" (rec_of r) ≡ true → {x y : Record} → ChildIs r 0 x → ChildIs r 1 y
       → is_well_known_member u (rec_of r) ≡ (is_global_name u (text "Symbol") (rec_of x) && (is "Ki" (rec_of y) && any_text well_known_symbol_names (text_of (rec_of y))))
   unfolding is_well_known_symbol_expr
@@ -46,10 +55,16 @@ pub only_none : {r : Record} {k : Records} → ChildrenOf r k → k.count ≡ 0 
 unfolding only_expression
 only_none {k = k} c e = rw (sym c.are ∙ recs_none k e)
 
-module _ {r : Record} {k l : Records} {x : Record} (c : ChildrenOf r k) (h : 0 < k.count) (f : FirstOf k x) (b : RestOf k l) where
-  only-by : only_expression (kids_of (rec_of r)) ≡ ((not (is "Qu" (rec_of x)) && not (is "Op" (rec_of x))) && ends (recs_of l))
-  unfolding only_expression
-  only-by = rw (sym c.are ∙ recs_step h f b)
+only-first : (ks : Recs) → 0 < count ks → only_expression ks ≡ ((not (is "Qu" (kid 0 ks)) && not (is "Op" (kid 0 ks))) && ends (behind 1 ks))
+unfolding only_expression behind
+only-first nil h = absurd (omega (arith, h))
+only-first (cons r rs) h = refl
+
+module _ {r x : Record} (c : ChildIs r 0 x) where
+  only-by : only_expression (kids_of (rec_of r)) ≡ ((not (is "Qu" (rec_of x)) && not (is "Op" (rec_of x))) && ends (behind 1 (kids_of (rec_of r))))
+  only-by =
+      only-first (kids_of (rec_of r)) c.there
+      ∙ ap (λ (k : Rec). (not (is "Qu" k) && not (is "Op" k)) && ends (behind 1 (kids_of (rec_of r)))) (sym c.is)
 
   pub only_quasi : is "Qu" (rec_of x) ≡ true → only_expression (kids_of (rec_of r)) ≡ false
   only_quasi e = only-by ∙ rw e
@@ -57,16 +72,16 @@ module _ {r : Record} {k l : Records} {x : Record} (c : ChildrenOf r k) (h : 0 <
   pub only_op : is "Op" (rec_of x) ≡ true → only_expression (kids_of (rec_of r)) ≡ false
   only_op e = only-by ∙ go (is "Qu" (rec_of x)) e
     where
-      go : (q : Bool) {o : Bool} → o ≡ true → ((not q && not o) && ends (recs_of l)) ≡ false
+      go : (q : Bool) {o : Bool} → o ≡ true → ((not q && not o) && ends (behind 1 (kids_of (rec_of r)))) ≡ false
       go true e = refl
       go false e = rw e
 
   module _ (q : is "Qu" (rec_of x) ≡ false) (o : is "Op" (rec_of x) ≡ false) where
-    pub only_one : l.count ≡ 0 → only_expression (kids_of (rec_of r)) ≡ true
-    only_one e = only-by ∙ rw (q, o, recs_none l e)
+    pub only_one : count (kids_of (rec_of r)) ≤ 1 → only_expression (kids_of (rec_of r)) ≡ true
+    only_one h = only-by ∙ rw (q, o, ends_none 1 (kids_of (rec_of r)) h)
 
-    pub only_before : {y : Record} {m : Records} → 0 < l.count → FirstOf l y → RestOf l m → only_expression (kids_of (rec_of r)) ≡ is "Op" (rec_of y)
-    only_before h g s = only-by ∙ rw (q, o, recs_step h g s)
+    pub only_before : {y : Record} → ChildIs r 1 y → only_expression (kids_of (rec_of r)) ≡ is "Op" (rec_of y)
+    only_before y = only-by ∙ rw (q, o, ends_at 1 y)
 
 pub only_there : (ks : Recs) → only_expression ks ≡ true → 0 < count ks
 unfolding only_expression

@@ -24,28 +24,29 @@ pub fn is_well_known_symbol_expr(expr: Record, unresolved: u32) -> bool
         return false;
     }
     let parts = expr.children();
+    if !parts.first().is_global(unresolved, b"Symbol") {
+        return false;
+    }
     let property = parts.rest().first();
-    parts.first().is_global(unresolved, b"Symbol")
-        && property.mark() == Mark::Ki
-        && is_well_known(property.text())
+    property.mark() == Mark::Ki && is_well_known(property.text())
 }
 
 // `e.quasis.is_empty() && e.exprs.len() == 1`: whether the children of a Te are one expression, but for Ops at the end.
 fn is_one_expression(te: Record) -> bool
     ensures { result ≡ only_expression (kids_of (rec_of te.entry)) }
 {
-    let mut kids = te.children();
-    let Some(first) = kids.next() else {
+    let kids = te.children();
+    if kids.count == 0 {
         return false;
-    };
-    match first.mark() {
+    }
+    match kids.first().mark() {
         Mark::Qu | Mark::Op => return false,
         _ => {}
     }
-    match kids.next() {
-        Some(next) => next.mark() == Mark::Op,
-        None => true,
+    if kids.count == 1 {
+        return true;
     }
+    kids.rest().first().mark() == Mark::Op
 }
 
 // `prop_name_from_expr`

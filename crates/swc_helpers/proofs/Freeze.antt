@@ -7,9 +7,10 @@ use Rattle.definition.specs.Helpers.{is_global, object_freeze_call_arg, no_exprs
 use Rattle.records.specs.declared.tree.Record.{Record}
 use Rattle.records.specs.declared.tree.Records.{Records}
 use Rattle.records.specs.Texts.{is_global_name}
-use Rattle.records.specs.Views.{rec_of, behind, ChildrenOf, FirstOf, RestOf, From, ChildIs}
+use Rattle.records.specs.Views.{rec_of, recs_of, behind, ChildrenOf, FirstOf, RestOf, ChildIs}
 use Rattle.records.proofs.Records.{recs_none, recs_step, enough}
-use Rattle.swc_helpers.specs.Found.{is_object_freeze}
+use Rattle.records.proofs.Fronts.{recs_front}
+use Rattle.swc_helpers.specs.Found.{is_object_freeze, is_quasi}
 
 -- ---- the callee
 
@@ -22,12 +23,24 @@ module _ (u : ℕ) (r : Record) where
   pub no_member : is "Mb" (rec_of r) ≡ false → is_object_freeze u (rec_of r) ≡ false
   no_member e = rw e
 
+  -- its object is another
+  pub another_object : {x : Record} → ChildIs r 0 x → is_global_name u (text "Object") (rec_of x) ≡ false → is_object_freeze u (rec_of r) ≡ false
+  another_object x e = go (is "Mb" (rec_of r)) _ (ap (is_global_name u (text "Object")) (sym x.is) ∙ e)
+    where
+      go : (m t : Bool) {g : Bool} → g ≡ false → (m && (g && t)) ≡ false
+      go true t e = rw e
+      go false t e = refl
+
   -- it is one, with an object and a property
   pub member_by : is "Mb" (rec_of r) ≡ true → {x y : Record} → ChildIs r 0 x → ChildIs r 1 y
       → is_object_freeze u (rec_of r) ≡ (is_global_name u (text "Object") (rec_of x) && (is "Ki" (rec_of y) && same_text (text_of (rec_of y)) (text "freeze")))
   member_by e x y = rw (e, x.is, y.is)
 
 -- ---- the argument
+
+-- a Ca has a callee
+pub has_callee : (r : Record) → mark_of (rec_of r) ≡ mark "Ca" → 1 ≤ count (kids_of (rec_of r))
+has_callee r e = enough r e
 
 module _ (u : ℕ) where
   same-tests : (a b c d t : Bool) → (a && (b && ((c && d) && t))) ≡ ((a && (b && (c && d))) && t)
@@ -90,16 +103,20 @@ module _ (u : ℕ) where
     pub one_argument : is "Op" (rec_of y) ≡ false → is "Sp" (rec_of y) ≡ false → ends (behind 2 (kids_of (rec_of r))) ≡ true → object_freeze_call_arg u (kids_of (rec_of r)) ≡ true
     one_argument o s t = argument-of ∙ rw (o, s, t)
 
--- ---- whether Ops follow
-
-module _ {r : Record} {i : ℕ} {k : Records} (f : From r i k) where
-  pub ends_none : k.count ≡ 0 → ends (behind i (kids_of (rec_of r))) ≡ true
-  ends_none e = ap ends (sym f.are ∙ recs_none k e)
-
-  pub ends_by : {x : Record} {l : Records} → 0 < k.count → FirstOf k x → RestOf k l → ends (behind i (kids_of (rec_of r))) ≡ is "Op" (rec_of x)
-  ends_by h x l = ap ends (sym f.are ∙ recs_step h x l)
-
 -- ---- the template
+
+-- whether it has only quasis, by the children that are left
+pub quasis_none : (k : Records) → k.count ≡ 0 → no_exprs (recs_of k) ≡ true
+unfolding no_exprs
+quasis_none k e = ap no_exprs (recs_none k e)
+
+pub quasis_step : {k l : Records} {x : Record} → 0 < k.count → FirstOf k x → RestOf k l → no_exprs (recs_of k) ≡ (is_quasi (mark_of (rec_of x)) && no_exprs (recs_of l))
+unfolding no_exprs
+quasis_step h x l = ap no_exprs (recs_step h x l)
+
+pub quasis_other : {k : Records} {x : Record} → 0 < k.count → FirstOf k x → is_quasi (mark_of (rec_of x)) ≡ false → no_exprs (recs_of k) ≡ false
+unfolding no_exprs
+quasis_other h x e = ap no_exprs (recs_front h x).1 ∙ rw e
 
 pub no_kids : {r : Record} {k : Records} → ChildrenOf r k → k.count ≡ 0 → kids_of (rec_of r) ≡ nil
 no_kids {k = k} c e = sym c.are ∙ recs_none k e

@@ -126,10 +126,11 @@ fn is_object_freeze(callee: Record, unresolved: u32) -> bool
         return false;
     }
     let parts = callee.children();
+    if !parts.first().is_global(unresolved, b"Object") {
+        return false;
+    }
     let prop = parts.rest().first();
-    parts.first().is_global(unresolved, b"Object")
-        && prop.mark() == Mark::Ki
-        && same_text(prop.text(), b"freeze")
+    prop.mark() == Mark::Ki && same_text(prop.text(), b"freeze")
 }
 
 // `object_freeze_call_arg`: the argument of a call of `Object.freeze` with one argument, which is no spread.
@@ -137,27 +138,40 @@ pub fn object_freeze_call_arg<'t>(call: Record<'t>, unresolved: u32) -> Option<R
     requires { mark_of (rec_of call) ≡ mark "Ca" }
     ensures { FreezeArg call.entry unresolved result }
 {
-    let mut kids = call.children();
-    let callee = kids.next()?;
-    if !is_object_freeze(callee, unresolved) {
+    let kids = call.children();
+    if !is_object_freeze(kids.first(), unresolved) {
         return None;
     }
-    let arg = kids.next()?;
+    if kids.count < 2 {
+        return None;
+    }
+    let args = kids.rest();
+    let arg = args.first();
     match arg.mark() {
         Mark::Op | Mark::Sp => return None,
         _ => {}
     }
-    match kids.next() {
-        Some(next) if next.mark() != Mark::Op => None,
-        _ => Some(arg),
+    if args.count == 1 {
+        return Some(arg);
     }
+    if args.rest().first().mark() != Mark::Op {
+        return None;
+    }
+    Some(arg)
 }
 
 // `tpl.exprs.is_empty()`: whether a Te has only quasis.
 fn no_exprs(te: Record) -> bool
     ensures { result ≡ no_exprs (kids_of (rec_of te.entry)) }
 {
-    te.children().all(|kid| is_quasi(kid))
+    let mut kids = te.children();
+    while 0 < kids.count {
+        if !is_quasi(kids.first()) {
+            return false;
+        }
+        kids = kids.rest();
+    }
+    true
 }
 
 // Whether a child of a Te is no expression: one of `tpl.quasis`, or an Op.
@@ -171,7 +185,11 @@ fn is_quasi(kid: Record) -> bool
 fn first_cooked<'t>(te: Record<'t>) -> Option<Record<'t>>
     ensures { CookedQuasi te.entry result }
 {
-    let quasi = te.children().next()?;
+    let kids = te.children();
+    if kids.count == 0 {
+        return None;
+    }
+    let quasi = kids.first();
     if quasi.mark() == Mark::Qu && has_flag(quasi.flags(), COOKED) {
         return Some(quasi);
     }

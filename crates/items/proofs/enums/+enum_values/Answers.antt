@@ -1,10 +1,10 @@
 -- The cycle of `valid_enum_init_expr`: in each arm the mark picks the definition's case; those of a template's children that are left decide.
-use Rattle.std.proofs.Common.{sym, ◌∙◌, arith}
-use Rattle.definition.specs.Enums.{init_kind}
+use Rattle.std.proofs.Common.{sym, ap, ◌∙◌, arith}
+use Rattle.definition.specs.Enums.{init_kind, valid_all}
 use Rattle.records.specs.declared.marks.Mark.TheVariants.{Bn, Mb, Pr, Oc, Id, Nu, Ss, Te, As, Ta}
 use Rattle.records.proofs.Records.{from_children, from_rest, child_is}
 use Rattle.records.proofs.SameMarks.{tested, marked, not_marked}
-use Rattle.items.proofs.Inits.{operands, operands_are, one_false, member, member_by, template_is, never, over_some, over_is, always, typed_two, typed_is, all_none, all_step}
+use Rattle.items.proofs.Inits.{operands, operands_are, one_false, member, member_by, template_is, never, over_some, over_is, always, typed_two, typed_is, all_none, all_step, all_other}
 use Rattle.items.proofs.enums.+enum_values.Goals as goal
 
 pub valid_enum_init_expr-first-requires : goal.valid_enum_init_expr-first-requires
@@ -83,15 +83,16 @@ valid_enum_init_expr-returns-in_default t c =
     sym (never c.args.expr
     (rw (not_marked _ m Bn c.in_default.not-Bn, not_marked _ m Mb c.in_default.not-Mb, not_marked _ m Pr c.in_default.not-Pr, not_marked _ m Oc c.in_default.not-Oc, not_marked _ m Id c.in_default.not-Id, not_marked _ m Nu c.in_default.not-Nu, not_marked _ m Ss c.in_default.not-Ss, not_marked _ m Te c.in_default.not-Te, not_marked _ m As c.in_default.not-As, not_marked _ m Ta c.in_default.not-Ta)))
 
-pub valid_exprs-returns-then-not-valid_part : goal.valid_exprs-returns-then-not-valid_part
-valid_exprs-returns-then-not-valid_part t c =
-    let s = c.in-Some.ensures.steps in
-    sym (sym c.loop-kid.invariant.0 ∙ (all_step s.0 s.1 s.2 ∙ rw (sym c.valid_part.ensures ∙ c.if-not-valid_part.true)))
+pub valid_exprs-loop-kids-init : goal.valid_exprs-loop-kids-init
+valid_exprs-loop-kids-init t c = (ap valid_all c.children-kids.ensures.are, omega (arith, c.children-kids.ensures.levels, c.children-kids.ensures.left))
 
-pub valid_exprs-loop-kid-preserved : goal.valid_exprs-loop-kid-preserved
-valid_exprs-loop-kid-preserved t c =
-    let s = c.in-Some.ensures.steps in
-    (sym (all_step s.0 s.1 s.2 ∙ rw (sym c.valid_part.ensures ∙ c.if-not-valid_part.false)) ∙ c.loop-kid.invariant.0, omega (arith, s.2.levels, c.loop-kid.invariant.1))
+pub valid_exprs-returns-then-not-valid_part : goal.valid_exprs-returns-then-not-valid_part
+valid_exprs-returns-then-not-valid_part t c = sym (all_other c.loop-kids-test.true c.first.ensures (sym c.valid_part.ensures ∙ c.if-not-valid_part.true)) ∙ c.loop-kids.invariant.0
+
+pub valid_exprs-loop-kids-preserved : goal.valid_exprs-loop-kids-preserved
+valid_exprs-loop-kids-preserved t c =
+    let r = c.rest-kids.ensures in
+    (sym (all_step c.loop-kids-test.true c.first.ensures r ∙ rw (sym c.valid_part.ensures ∙ c.if-not-valid_part.false)) ∙ c.loop-kids.invariant.0, omega (arith, r.levels, c.loop-kids.invariant.1))
 
 pub valid_exprs-returns : goal.valid_exprs-returns
-valid_exprs-returns t c = sym (sym c.loop-kid.invariant.0 ∙ all_none _ c.in-None.ensures.steps.0)
+valid_exprs-returns t c = sym (all_none _ (omega (arith, c.loop-kids-test.false))) ∙ c.loop-kids.invariant.0

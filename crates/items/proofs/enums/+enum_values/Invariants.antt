@@ -15,5 +15,8 @@ abbrev pub decreases-valid_enum_init_expr : goal.decreases-valid_enum_init_expr
 decreases-valid_enum_init_expr l = 3 * l.expr.levels + 1
 
 -- those that are left decide, and each has fewer levels than the template
-abbrev pub invariant-valid_exprs-loop-kid : goal.invariant-valid_exprs-loop-kid
-invariant-valid_exprs-loop-kid l = (valid_all (recs_of l.kid-iterator) ≡ valid_all (kids_of (rec_of l.te))) × (l.kid-iterator.levels < l.te.levels)
+abbrev pub invariant-valid_exprs-loop-kids : goal.invariant-valid_exprs-loop-kids
+invariant-valid_exprs-loop-kids l = (valid_all (recs_of l.kids) ≡ valid_all (kids_of (rec_of l.te))) × (l.kids.levels < l.te.levels)
+
+abbrev pub decreases-valid_exprs-loop-kids : goal.decreases-valid_exprs-loop-kids
+decreases-valid_exprs-loop-kids l = l.kids.count

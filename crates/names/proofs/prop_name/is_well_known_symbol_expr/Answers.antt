@@ -3,8 +3,7 @@ use Rattle.std.proofs.Common.{sym, ◌∙◌, arith, eqb-true}
 use Rattle.records.specs.declared.marks.Mark.TheVariants.{Mb, Ki}
 use Rattle.records.proofs.Records.{from_children, from_rest, child_is}
 use Rattle.records.proofs.SameMarks.{tested, same, other}
-use Rattle.names.proofs.KeyLaws.{two_parts, no_member, member_by}
-use Rattle.names.proofs.prop_name.is_well_known_symbol_expr.Goals.{then-is_global, else-is_global}
+use Rattle.names.proofs.KeyLaws.{two_parts, no_member, another_object, member_by}
 use Rattle.names.proofs.prop_name.is_well_known_symbol_expr.Goals as goal
 
 pub returns-then-ne : goal.returns-then-ne
@@ -19,6 +18,13 @@ first-property-requires c = omega (arith, c.children-parts.ensures.many, c.rest.
 pub first-requires : goal.first-requires
 first-requires c = omega (arith, c.children-parts.ensures.many, two_parts c.args.expr (eqb-true _ _ (same _ c.mark.ensures Mb c.ne.ensures c.if-ne.false)))
 
+pub returns-then-not-is_global : goal.returns-then-not-is_global
+returns-then-not-is_global c =
+    let e = same _ c.mark.ensures Mb c.ne.ensures c.if-ne.false in
+    let n = two_parts c.args.expr (eqb-true _ _ e) in
+    let x = child_is (from_children c.children-parts.ensures) (omega (arith, c.children-parts.ensures.many, n)) c.first.ensures in
+    sym (another_object c.args.unresolved c.args.expr x (sym c.is_global.ensures ∙ c.if-not-is_global.true))
+
 pub returns-then-eq : goal.returns-then-eq
 returns-then-eq c =
     let e = same _ c.mark.ensures Mb c.ne.ensures c.if-ne.false in
@@ -27,13 +33,9 @@ returns-then-eq c =
     let x = child_is f (omega (arith, c.children-parts.ensures.many, n)) c.first.ensures in
     let g = from_rest f (omega (arith, c.children-parts.ensures.many, n)) c.rest.ensures in
     let y = child_is g (omega (arith, c.children-parts.ensures.many, c.rest.ensures.many, n)) c.first-property.ensures in
-    elim c.if-is_global.branch [
-      | then-is_global w ↦
-          c.is_well_known.ensures
-          ∙ rw (c.text.ensures.text) (sym (member_by c.args.unresolved c.args.expr e x y
-          ∙ rw (sym c.is_global.ensures ∙ w.if-is_global.true, sym (tested _ w.mark-then-is_global.ensures Ki) ∙ (sym w.eq.ensures ∙ (sym w.value-is ∙ c.if-eq.true)))))
-      | else-is_global w ↦ absurd (cc (w.value-is, c.if-eq.true))
-    ]
+    c.is_well_known.ensures
+    ∙ rw (c.text.ensures.text) (sym (member_by c.args.unresolved c.args.expr e x y
+    ∙ rw (sym c.is_global.ensures ∙ c.if-not-is_global.false, sym (tested _ c.mark-2.ensures Ki) ∙ (sym c.eq.ensures ∙ c.if-eq.true))))
 
 pub returns-else-eq : goal.returns-else-eq
 returns-else-eq c =
@@ -43,7 +45,5 @@ returns-else-eq c =
     let x = child_is f (omega (arith, c.children-parts.ensures.many, n)) c.first.ensures in
     let g = from_rest f (omega (arith, c.children-parts.ensures.many, n)) c.rest.ensures in
     let y = child_is g (omega (arith, c.children-parts.ensures.many, c.rest.ensures.many, n)) c.first-property.ensures in
-    c.if-eq.false ∙ sym (member_by c.args.unresolved c.args.expr e x y ∙ elim c.if-is_global.branch [
-      | then-is_global w ↦ rw (sym c.is_global.ensures ∙ w.if-is_global.true, sym (tested _ w.mark-then-is_global.ensures Ki) ∙ (sym w.eq.ensures ∙ (sym w.value-is ∙ c.if-eq.false)))
-      | else-is_global w ↦ rw (sym c.is_global.ensures ∙ w.if-is_global.false)
-    ])
+    c.if-eq.false ∙ sym (member_by c.args.unresolved c.args.expr e x y
+    ∙ rw (sym c.is_global.ensures ∙ c.if-not-is_global.false, sym (tested _ c.mark-2.ensures Ki) ∙ (sym c.eq.ensures ∙ c.if-eq.false)))

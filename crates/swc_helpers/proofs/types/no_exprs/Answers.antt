@@ -1,12 +1,17 @@
 -- `types::no_exprs` meets its contract.
-use Rattle.std.proofs.Common.{rules, refl, ap, ◌∙◌}
-use Rattle.definition.specs.Tree.{Rec}
-use Rattle.definition.specs.Record.{mark_of}
+use Rattle.std.proofs.Common.{sym, ap, ◌∙◌, arith}
 use Rattle.definition.specs.Helpers.{no_exprs}
-use Rattle.records.proofs.Iterates.{all_of}
-use Rattle.swc_helpers.specs.Found.{is_quasi}
+use Rattle.swc_helpers.proofs.Freeze.{quasis_none, quasis_step, quasis_other}
 use Rattle.swc_helpers.proofs.types.no_exprs.Goals as goal
 
+pub loop-kids-init : goal.loop-kids-init
+loop-kids-init c = ap no_exprs c.children-kids.ensures.are
+
+pub returns-then-not-is_quasi : goal.returns-then-not-is_quasi
+returns-then-not-is_quasi c = sym (quasis_other c.loop-kids-test.true c.first.ensures (sym c.is_quasi.ensures ∙ c.if-not-is_quasi.true)) ∙ c.loop-kids.invariant
+
+pub loop-kids-preserved : goal.loop-kids-preserved
+loop-kids-preserved c = sym (quasis_step c.loop-kids-test.true c.first.ensures c.rest-kids.ensures ∙ rw (sym c.is_quasi.ensures ∙ c.if-not-is_quasi.false)) ∙ c.loop-kids.invariant
+
 pub returns : goal.returns
-unfolding no_exprs
-returns c = all_of (λ (r : Rec). is_quasi (mark_of r)) no_exprs refl (λ r rs. refl) c.all.ensures.ran (λ x q e. (refl, search rules)) (λ x q e. search rules) ∙ ap no_exprs c.children.ensures.are
+returns c = sym (quasis_none _ (omega (arith, c.loop-kids-test.false))) ∙ c.loop-kids.invariant

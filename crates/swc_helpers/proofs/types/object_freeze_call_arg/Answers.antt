@@ -2,66 +2,60 @@
 use Rattle.std.proofs.Common.{sym, ap, ◌∙◌, arith, inl, inr, eq-eqb}
 use Rattle.records.specs.declared.marks.Mark.TheVariants.{Op, Sp}
 use Rattle.records.proofs.Records.{from_children, from_rest, child_is}
+use Rattle.records.proofs.Fronts.{ends_none, ends_at}
 use Rattle.records.proofs.SameMarks.{marked, not_marked, same, other}
 use Rattle.swc_helpers.specs.Found.{is_object_freeze}
-use Rattle.swc_helpers.proofs.Freeze.{another_callee, no_argument, op_argument, spread_argument, more_arguments, one_argument, ends_none, ends_by}
-use Rattle.swc_helpers.proofs.types.object_freeze_call_arg.Goals.{in_default-next-via-in-Some+else-ne, in_default-next-via-in_default-next}
+use Rattle.swc_helpers.proofs.Freeze.{has_callee, another_callee, no_argument, op_argument, spread_argument, more_arguments, one_argument}
 use Rattle.swc_helpers.proofs.types.object_freeze_call_arg.Goals as goal
 
-pub returns-in_err-callee : goal.returns-in_err-callee
-returns-in_err-callee c = rw c.from_residual.ensures (no_argument _ _ (omega (arith, c.children-kids.ensures.many, c.in_err-callee.ensures.steps.0)))
+pub first-requires : goal.first-requires
+first-requires c = omega (arith, c.children-kids.ensures.many, has_callee c.args.call c.requires)
 
 pub returns-then-not-is_object_freeze : goal.returns-then-not-is_object_freeze
 returns-then-not-is_object_freeze c =
-    let s = c.in_ok-callee.ensures.steps in
-    let x = child_is (from_children c.children-kids.ensures) s.0 s.1 in
+    let x = child_is (from_children c.children-kids.ensures) (omega (arith, c.children-kids.ensures.many, has_callee c.args.call c.requires)) c.first.ensures in
     another_callee _ _ (ap (is_object_freeze c.args.unresolved) (sym x.is) ∙ (sym c.is_object_freeze.ensures ∙ c.if-not-is_object_freeze.true))
 
-pub returns-in_err-arg : goal.returns-in_err-arg
-returns-in_err-arg c =
-    let s = c.in_ok-callee.ensures.steps in
-    let f = from_rest (from_children c.children-kids.ensures) s.0 s.2 in
-    rw c.from_residual-in_err-arg.ensures (no_argument _ _ (omega (arith, f.many, c.in_err-arg.ensures.steps.0)))
+pub returns-then-kids-lt2 : goal.returns-then-kids-lt2
+returns-then-kids-lt2 c = no_argument _ _ (omega (arith, c.children-kids.ensures.many, c.if-kids-lt2.true))
 
 pub returns-in-Op : goal.returns-in-Op
 returns-in-Op c =
-    let s = c.in_ok-callee.ensures.steps in
     let f = from_children c.children-kids.ensures in
-    let x = child_is f s.0 s.1 in
-    let g = from_rest f s.0 s.2 in
-    let a = c.in_ok-arg.ensures.steps in
-    let y = child_is g a.0 a.1 in
+    let x = child_is f (omega arith) c.first.ensures in
+    let g = from_rest f (omega arith) c.rest-args.ensures in
+    let y = child_is g (omega (arith, c.rest-args.ensures.many)) c.first-arg.ensures in
     let o = sym c.is_object_freeze.ensures ∙ c.if-not-is_object_freeze.false in
     elim c.in-Op.is [
       | inl e ↦ op_argument c.args.unresolved x y o (eq-eqb _ _ (marked _ c.mark.ensures e))
       | inr e ↦ spread_argument c.args.unresolved x y o (eq-eqb _ _ (marked _ c.mark.ensures e))
     ]
 
-pub returns-in-Some : goal.returns-in-Some
-returns-in-Some c =
-    let s = c.in_ok-callee.ensures.steps in
+pub returns-then-args-eq1 : goal.returns-then-args-eq1
+returns-then-args-eq1 c =
     let f = from_children c.children-kids.ensures in
-    let x = child_is f s.0 s.1 in
-    let g = from_rest f s.0 s.2 in
-    let a = c.in_ok-arg.ensures.steps in
-    let y = child_is g a.0 a.1 in
+    let x = child_is f (omega arith) c.first.ensures in
+    let g = from_rest f (omega arith) c.rest-args.ensures in
+    let y = child_is g (omega (arith, c.rest-args.ensures.many)) c.first-arg.ensures in
     let o = sym c.is_object_freeze.ensures ∙ c.if-not-is_object_freeze.false in
-    let t = c.in-Some.ensures.steps in
-    more_arguments c.args.unresolved x y o (ends_by (from_rest g a.0 a.2) t.0 t.1 t.2 ∙ other _ c.mark-in-Some-1.ensures Op c.ne.ensures c.if-ne.true)
+    (one_argument c.args.unresolved x y o (not_marked _ c.mark.ensures Op c.in_default.not-Op) (not_marked _ c.mark.ensures Sp c.in_default.not-Sp) (ends_none 2 _ (omega (arith, g.many, c.if-args-eq1.true))), y)
 
-pub returns-in_default-next : goal.returns-in_default-next
-returns-in_default-next c =
-    let s = c.in_ok-callee.ensures.steps in
+pub returns-then-ne : goal.returns-then-ne
+returns-then-ne c =
     let f = from_children c.children-kids.ensures in
-    let x = child_is f s.0 s.1 in
-    let g = from_rest f s.0 s.2 in
-    let a = c.in_ok-arg.ensures.steps in
-    let y = child_is g a.0 a.1 in
-    let o = sym c.is_object_freeze.ensures ∙ c.if-not-is_object_freeze.false in (
-      one_argument c.args.unresolved x y o (not_marked _ c.mark.ensures Op c.in_default.not-Op) (not_marked _ c.mark.ensures Sp c.in_default.not-Sp)
-          (elim c.in_default-next.branch [
-            | in_default-next-via-in-Some+else-ne w ↦ let t = w.in-Some.ensures.steps in ends_by (from_rest g a.0 a.2) t.0 t.1 t.2 ∙ same _ w.mark-in-Some-1.ensures Op w.ne.ensures w.if-ne.false
-            | in_default-next-via-in_default-next w ↦ ends_none (from_rest g a.0 a.2) w.in_default-next.ensures.steps.0
-          ]),
-      y,
-    )
+    let x = child_is f (omega arith) c.first.ensures in
+    let g = from_rest f (omega arith) c.rest-args.ensures in
+    let y = child_is g (omega (arith, c.rest-args.ensures.many)) c.first-arg.ensures in
+    let o = sym c.is_object_freeze.ensures ∙ c.if-not-is_object_freeze.false in
+    let z = child_is (from_rest g (omega (arith, c.rest-args.ensures.many)) c.rest.ensures) (omega (arith, c.rest-args.ensures.many, c.rest.ensures.many, c.if-args-eq1.false)) c.first-2.ensures in
+    more_arguments c.args.unresolved x y o (ends_at 2 z ∙ other _ c.mark-2.ensures Op c.ne.ensures c.if-ne.true)
+
+pub returns : goal.returns
+returns c =
+    let f = from_children c.children-kids.ensures in
+    let x = child_is f (omega arith) c.first.ensures in
+    let g = from_rest f (omega arith) c.rest-args.ensures in
+    let y = child_is g (omega (arith, c.rest-args.ensures.many)) c.first-arg.ensures in
+    let o = sym c.is_object_freeze.ensures ∙ c.if-not-is_object_freeze.false in
+    let z = child_is (from_rest g (omega (arith, c.rest-args.ensures.many)) c.rest.ensures) (omega (arith, c.rest-args.ensures.many, c.rest.ensures.many, c.if-args-eq1.false)) c.first-2.ensures in
+    (one_argument c.args.unresolved x y o (not_marked _ c.mark.ensures Op c.in_default.not-Op) (not_marked _ c.mark.ensures Sp c.in_default.not-Sp) (ends_at 2 z ∙ same _ c.mark-2.ensures Op c.ne.ensures c.if-ne.false), y)
