@@ -97,8 +97,9 @@ pub record Enters (s a : List ℕ) (n : ℕ) (b : List ℕ) (m : ℕ) (G : Quest
 abbrev pub entries_of : Names → List ℕ
 entries_of n = drop n.from n.table.now
 
--- the entries of b are those of a, and at most one more, in front or behind, in a table of the same length
+-- the entries of b are those of a, and at most one more, in front or behind, in the same table
 pub record Grown (a b : Names) : Type 0 where
+  pub buffer : b.table.ghost_name ≡ a.table.ghost_name
   pub same : length b.table.now ≡ length a.table.now
   pub from : b.from ≤ a.from
   pub to : a.from + a.count ≤ b.from + b.count

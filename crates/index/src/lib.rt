@@ -85,7 +85,15 @@ pub fn find(tree: &[u8], entries: &[u32], name: &[u8]) -> Result<usize, usize>
     Err(low)
 }
 
+// Where the entries of a table begin, and how many they are.
+#[derive(Clone, Copy)]
+pub struct Entries {
+    pub from: usize,
+    pub count: usize,
+}
+
 // The entries of names in a table that is being filled: `count` of them from `from` on, with room in front of them and behind.
+#[derive(Drop)]
 pub struct Names<'a> {
     pub table: &'a mut [u32],
     pub from: usize,
@@ -95,6 +103,7 @@ pub struct Names<'a> {
 impl<'a> Names<'a> {
     // No names yet: the first one goes into the middle of the table.
     pub fn new(table: &'a mut [u32]) -> Names<'a>
+        ensures buffer { result.table.ghost_name ≡ table.entry.ghost_name }
         ensures table { result.table.now ≡ table.old }
         ensures from { result.from ≡ length table.old / 2 }
         ensures count { result.count ≡ 0 }
@@ -120,6 +129,7 @@ impl<'a> Names<'a> {
         requires { self.old.from + p < length self.old.table.now }
         ensures from { self.new.from ≡ self.old.from }
         ensures count { self.new.count ≡ self.old.count }
+        ensures buffer { self.new.table.ghost_name ≡ self.old.table.ghost_name }
         ensures table { self.new.table.now ≡ set self.old.table.now (self.old.from + p)
             (joined_of (get_or self.old.table.now (self.old.from + p) 0) sets.typeof_safe sets.non_generic_class sets.array_typed) }
     {

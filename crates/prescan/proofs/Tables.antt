@@ -134,13 +134,14 @@ module _ (r : Record) {a : Names} (o : RoomFor r a) where
   room_free = (omega (arith, o.few, o.long, o.from, o.to, room (accepted r)), omega (arith, o.few, o.long, o.from, o.to, room (accepted r)))
 
   pub filled_none : {G : Question → List ℕ → Bool} → ((q : Question) (t : List ℕ) → G q t ≡ false) → FilledWith r a a G
-  filled_none none = record { enters = enters_none o.sorted none; few = omega (arith, o.few, ends_after r); same = refl; from = omega arith; to = omega arith }
+  filled_none none = record { buffer = refl; enters = enters_none o.sorted none; few = omega (arith, o.few, ends_after r); same = refl; from = omega arith; to = omega arith }
 
   -- the name i in some sets
   pub filled_one : (i : Record) {b : Names} (sets : Sets) {G : Question → List ℕ → Bool} → i.tree ≡ r.tree → mark_of (rec_of i) ≡ mark "Id" →
       Enters i.tree.now (entries_of a) a.count (entries_of b) b.count (λ q t. same_text (text_at i.tree.now i.at) t && has q sets) → Grown a b → r.at + declaration_size ≤ end_of r →
       ((q : Question) (t : List ℕ) → G q t ≡ (named t (rec_of i) && has q sets)) → FilledWith r a b G
   filled_one i sets t e n l h same = record {
+    buffer = l.buffer;
     enters = same-tree (ap (λ x. x.now) t) (enters_eq (λ q v. same q v ∙ (ap (λ (x : Bool). x && has q sets) (named_is (rec_of i) e v) ∙ ap (λ (x : List ℕ). same_text x v && has q sets) (sym (text_here i)))) n);
     few = omega (arith, o.few, l.count);
     same = l.same;
@@ -150,10 +151,10 @@ module _ (r : Record) {a : Names} (o : RoomFor r a) where
 
   -- what was entered of a record of the same tree that ends before r
   pub filled_in : (x : Record) {b : Names} {G H : Question → List ℕ → Bool} → x.tree ≡ r.tree → end_of x ≤ end_of r → ((q : Question) (t : List ℕ) → H q t ≡ G q t) → FilledWith x a b G → FilledWith r a b H
-  filled_in x t h same f = record { enters = same-tree (ap (λ x. x.now) t) (enters_eq same f.enters); few = omega (arith, f.few, h); same = f.same; from = f.from; to = f.to }
+  filled_in x t h same f = record { buffer = f.buffer; enters = same-tree (ap (λ x. x.now) t) (enters_eq same f.enters); few = omega (arith, f.few, h); same = f.same; from = f.from; to = f.to }
 
-pub filled_eq : {s : List ℕ} {a b : Names} {end : ℕ} {G H : Question → List ℕ → Bool} → ((q : Question) (t : List ℕ) → H q t ≡ G q t) → Filled s a b end G → Filled s a b end H
-filled_eq same f = record { enters = enters_eq same f.enters; few = f.few; same = f.same; from = f.from; to = f.to }
+pub filled_eq : {s : List ℕ} {a b : Names} {end end' : ℕ} {G H : Question → List ℕ → Bool} → end ≤ end' → ((q : Question) (t : List ℕ) → H q t ≡ G q t) → Filled s a b end G → Filled s a b end' H
+filled_eq h same f = record { buffer = f.buffer; enters = enters_eq same f.enters; few = omega (arith, f.few); same = f.same; from = f.from; to = f.to }
 
 -- ---- the loop over declarations
 
@@ -169,7 +170,7 @@ pub record Filling (W : Question → List ℕ → Recs → Bool) (whole : Recs) 
 pub filling_start : (W : Question → List ℕ → Recs → Bool) {r : Record} {a : Names} {k : Records} → ChildrenOf r k → RoomFor r a → Filling W (kids_of (rec_of r)) r.tree.now (end_of r) a a k
 filling_start W c o = record {
   so_far = λ q t. false;
-  filled = record { enters = enters_none o.sorted (λ q t. refl); few = omega (arith, o.few, c.behind); same = refl; from = omega arith; to = omega arith };
+  filled = record { buffer = refl; enters = enters_none o.sorted (λ q t. refl); few = omega (arith, o.few, c.behind); same = refl; from = omega arith; to = omega arith };
   left = λ q t. ap (W q t) c.are;
   end_is = kids_end c;
   tree = ap (λ x. x.now) c.tree;
@@ -187,7 +188,7 @@ module _ {W : Question → List ℕ → Recs → Bool} {whole : Recs} {s : List 
       let p = rest-place n.1 n.2 in
       record {
         so_far = λ q t. i.so_far q t || f q t (rec_of x);
-        filled = record { enters = enters_then z.enters e; few = omega (arith, g.few, p); same = g.same ∙ z.same; from = omega (arith, z.from, g.from); to = omega (arith, z.to, g.to) };
+        filled = record { buffer = g.buffer ∙ z.buffer; enters = enters_then z.enters e; few = omega (arith, g.few, p); same = g.same ∙ z.same; from = omega (arith, z.from, g.from); to = omega (arith, z.to, g.to) };
         left = λ q t. or_assoc (i.so_far q t) (f q t (rec_of x)) (W q t (recs_of l)) ∙ (ap (λ (y : Bool). i.so_far q t || y) (sym (step q t (rec_of x) (recs_of l)) ∙ ap (W q t) (sym (recs_step n.0 n.1 n.2))) ∙ i.left q t);
         end_is = rest-ends n.0 n.2 ∙ i.end_is;
         tree = ap (λ t. t.now) n.2.tree ∙ i.tree;
@@ -198,6 +199,7 @@ module _ {W : Question → List ℕ → Recs → Bool} {whole : Recs} {s : List 
   filling_done none h =
       let z = i.filled in
       record {
+        buffer = z.buffer;
         enters = enters_eq (λ q t. sym (i.left q t) ∙ (ap (λ (y : Bool). i.so_far q t || y) (ap (W q t) (recs_none k h) ∙ none q t) ∙ or-false (i.so_far q t))) z.enters;
         few = omega (arith, z.few, i.end_is, end_of_all-none (end_at k.levels k.tree.now) k.count k.at (omega arith));
         same = z.same;

@@ -22,8 +22,9 @@ pub record Room (s : List ℕ) (n : Names) (at : ℕ) : Type 0 where
   pub from : n.from ≤ length n.table.now / 2
   pub to : length n.table.now / 2 ≤ n.from + n.count
 
--- what G adds was entered, and the names stand before the offset `end`
+-- what G adds was entered, in the same table, and the names stand before the offset `end`
 pub record Filled (s : List ℕ) (a b : Names) (end : ℕ) (G : Question → List ℕ → Bool) : Type 0 where
+  pub buffer : b.table.ghost_name ≡ a.table.ghost_name
   pub enters : Enters s (entries_of a) a.count (entries_of b) b.count G
   pub few : declaration_size * b.count ≤ end
   pub same : length b.table.now ≡ length a.table.now

@@ -1,7 +1,7 @@
 // `prescan_module_ids`: the three sets of module-level names, as an index that is built once and asked by halving.
 #![tactic(auto)]
 
-ghost use Rattle.std.specs.Prelude.{◌≡◌, ◌&&◌, ◌+◌, ◌*◌, ◌-◌, ◌/◌, ◌<◌, ◌≤◌, length};
+ghost use Rattle.std.specs.Prelude.{◌≡◌, ◌&&◌, ◌+◌, ◌*◌, ◌-◌, ◌/◌, ◌<◌, ◌≤◌, length, take, drop};
 ghost use Rattle.definition.specs.Tree.{text_at, tree_at};
 ghost use Rattle.definition.specs.Grammar.{mark};
 ghost use Rattle.definition.specs.Check.{deepest};
@@ -17,7 +17,7 @@ ghost use Rattle.prescan.specs.Table.{declaration_size, RoomFor, FilledWith, Ind
 pub mod module_names;
 
 use index::Names;
-pub use index::Sets;
+pub use index::{Entries, Sets};
 use records::flags::{CONST, has_flag};
 use records::marks::Mark;
 use records::text::same_text;
@@ -178,12 +178,13 @@ fn enter_item(item: Record, names: &mut Names)
     }
 }
 
-// `prescan_module_ids`: the index of the names that the items of the module declare, which is a part of the table.
-pub fn index<'a>(tree: &[u8], table: &'a mut [u32]) -> &'a [u32]
+// `prescan_module_ids`: the names that the items of the module declare, entered from the middle of the table on, so that there is room on both sides.
+pub fn enter_module(tree: &[u8], table: &mut [u32]) -> Entries
     requires accepted_at { AcceptedAt deepest tree.now 0 }
     requires tree_len_bound { length tree.now ≤ declaration_size * (length table.old / 2) }
     requires tree_len_bound_2 { length tree.now < farthest }
-    ensures { Indexed tree.now result.now }
+    ensures indexed { Indexed tree.now (take result.count (drop result.from table.new)) }
+    ensures in_bounds { result.from + result.count ≤ length table.new }
 {
     let mut names = Names::new(table);
     let root = Record {
@@ -194,5 +195,19 @@ pub fn index<'a>(tree: &[u8], table: &'a mut [u32]) -> &'a [u32]
     for item in root.children() {
         enter_item(item, &mut names);
     }
-    names.into_entries()
+    Entries {
+        from: names.from,
+        count: names.count,
+    }
+}
+
+// The same, and the index of the names: the part of the table where they stand.
+pub fn index<'a>(tree: &[u8], table: &'a mut [u32]) -> &'a [u32]
+    requires accepted_at { AcceptedAt deepest tree.now 0 }
+    requires tree_len_bound { length tree.now ≤ declaration_size * (length table.old / 2) }
+    requires tree_len_bound_2 { length tree.now < farthest }
+    ensures { Indexed tree.now result.now }
+{
+    let Entries { from, count } = enter_module(tree, table);
+    Names { table, from, count }.into_entries()
 }

@@ -16,15 +16,15 @@ add_class-requires c =
     (second_child c.children.ensures (named_kids c.args.decl (class_mark c.args.decl c.mark.ensures c.in-Cd.is)) c.rest.ensures c.first-class.ensures)
 
 pub returns-in-Fd : goal.returns-in-Fd
-returns-in-Fd c = filled_eq (decl_fn c.args.decl c.mark.ensures c.in-Fd.is) c.enter_named.ensures
+returns-in-Fd c = filled_eq (omega arith) (decl_fn c.args.decl c.mark.ensures c.in-Fd.is) c.enter_named.ensures
 
 pub returns-in-Cd : goal.returns-in-Cd
 returns-in-Cd c =
     let x = second_child c.children.ensures (named_kids c.args.decl (class_mark c.args.decl c.mark.ensures c.in-Cd.is)) c.rest.ensures c.first-class.ensures in
-    filled_eq (decl_class c.args.decl c.mark.ensures c.in-Cd.is x c.add_class.ensures) c.enter_named-in-Cd.ensures
+    filled_eq (omega arith) (decl_class c.args.decl c.mark.ensures c.in-Cd.is x c.add_class.ensures) c.enter_named-in-Cd.ensures
 
 pub returns-in-Vd : goal.returns-in-Vd
-returns-in-Vd c = filled_eq (decl_var c.args.decl c.mark.ensures c.in-Vd.is) c.enter_var.ensures
+returns-in-Vd c = filled_eq (omega arith) (decl_var c.args.decl c.mark.ensures c.in-Vd.is) c.enter_var.ensures
 
 pub returns-in_default : goal.returns-in_default
 returns-in_default c =

@@ -1,9 +1,11 @@
--- `prescan::index` meets its contract: each turn of the loop enters one item.
+-- `prescan::enter_module` meets its contract: each turn of the loop enters one item.
+use Rattle.std.proofs.Common.{rules, subst, List, ℕ, take, drop}
 use Rattle.definition.specs.Prescan.{add_item}
 use Rattle.definition.proofs.Anywhere.{is_accepted}
 use Rattle.records.specs.Views.{rec_of}
+use Rattle.prescan.specs.Table.{Indexed}
 use Rattle.prescan.proofs.Tables.{Items, items_step, items_none, room_start, filling_start, filling_turn, filling_done, indexed}
-use Rattle.prescan.proofs.index.Goals as goal
+use Rattle.prescan.proofs.enter_module.Goals as goal
 
 pub invariant_of-root : goal.invariant_of-root
 invariant_of-root c = record { accepted = is_accepted c.requires.accepted_at }
@@ -18,5 +20,7 @@ loop-item-init c =
 pub loop-item-preserved : goal.loop-item-preserved
 loop-item-preserved c = filling_turn c.loop-item.invariant add_item items_step c.in-Some.ensures.steps c.enter_item.ensures
 
-pub returns : goal.returns
-returns c = rw c.into_entries.ensures (indexed c.new-names.ensures.count (filling_done c.loop-item.invariant items_none c.in-None.ensures.steps.0))
+pub returns-clause-indexed : goal.returns-clause-indexed
+returns-clause-indexed c =
+    subst (λ (t : List ℕ). Indexed c.args.tree.now (take c.loop-item.names.count (drop c.loop-item.names.from t))) (search rules)
+    (indexed c.new-names.ensures.count (filling_done c.loop-item.invariant items_none c.in-None.ensures.steps.0))
