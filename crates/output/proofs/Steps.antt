@@ -192,7 +192,7 @@ unfolding texts_fit all_texts_fit
 any-fits = refl
 
 pub filled-typed : (o : Output) {t : Answer (Unit {0})} (d : Diag) → t ≡ Some tt → Filled o o t d
-filled-typed o d e = record { typed = λ q. step-none o; any = λ q. absurd (let y : ◌≡◌ {A = ℕ} 0 1 = cc in omega arith) }
+filled-typed o d e = record { typed = λ q. refl; any = λ q. absurd (let y : ◌≡◌ {A = ℕ} 0 1 = cc in omega arith) }
 
 pub filled-any : {a b c : Output} {t : Answer (Unit {0})} {d : Diag} → t ≡ None → Keeps a b (any_type_ann dummy_sp) → Marks b c d → Filled a c t d
 filled-any {d = d} e w m = record {
@@ -205,4 +205,4 @@ filled {a} {b} {c} {t} {x} {d} w f = go x.0 w.told w.step
   where
     go : (v : Option Rec) → t ≡ told_of v → Step a b (bytes_of v) x.1 x.2 (fit_of v) → Makes a c (or_any (v, x.1, x.2) (d ∷ []))
     go none e z = record { step = step-as (step_then z (f.any e)) refl refl z.counter any-fits }
-    go (some t) e z = record { step = step-as (step_then z (f.typed e)) (append-nil (encode t)) (append-nil x.1) z.counter (and-true (texts_fit t)) }
+    go (some t) e z = record { step = subst (λ (o : Output). Step a o (encode t) x.1 x.2 (texts_fit t)) (sym (f.typed e)) z }

@@ -130,7 +130,7 @@ pub record MakesMaybe (o o' : Output) (r : Answer (Unit {0})) (x : Out (Option R
   pub told : r ≡ told_of x.0
   pub step : Step o o' (bytes_of x.0) x.1 x.2 (fit_of x.0)
 
--- a type t that was written, or any and the diagnostic d
+-- a type t that was written, and nothing else, or any and the diagnostic d
 pub record Filled (o o' : Output) (t : Answer (Unit {0})) (d : Diag) : Type 0 where
-  pub typed : t ≡ Some tt → Step o o' [] [] o.names.id_counter true
+  pub typed : t ≡ Some tt → o' ≡ o
   pub any : t ≡ None → Step o o' (encode (any_type_ann dummy_sp)) (d ∷ []) o.names.id_counter true
