@@ -46,6 +46,7 @@ use Rattle.records.specs.Fields.{field_bytes, range_of, made_fields}
 use Rattle.records.specs.Views.{rec_of, recs_of, FirstOf, RestOf, ChildrenOf}
 use Rattle.records.specs.Writers.{Skips, Fronts}
 use Rattle.records.proofs.Records.{recs_none, recs_step}
+use Rattle.records.proofs.Fronts.{recs_front}
 use Rattle.records.proofs.Views.{accepted}
 use Rattle.swc_helpers.specs.Made.{ts_readonly_front, ts_tuple_element_front, ts_rest_type_front}
 use Rattle.swc_helpers.proofs.Made.{readonly_is, tuple_element_is, rest_type_is}
@@ -320,21 +321,21 @@ module _ (m : Mode) where
     many = refl;
   }
 
-  module _ {total : Out (Option Recs)} {limit : ℕ} {a b : Output} {k : Records} {n : ℕ} (i : Collecting m total limit a b k n) {x : Record} {l : Records} (s : (0 < k.count) × FirstOf k x × RestOf k l) where
-    abbrev given_by : Out (Option Recs)
-    given_by = element_type m (rec_of x) b.names.id_counter
+  module _ {total : Out (Option Recs)} {limit : ℕ} {a b : Output} {k : Records} {n : ℕ} (i : Collecting m total limit a b k n) where
+    abbrev given_by : Record → Out (Option Recs)
+    given_by x = element_type m (rec_of x) b.names.id_counter
 
-    first-is : {v : Option Recs} → given_by.0 ≡ v → prepend i.done.0 i.done.1 (and_then (v, given_by.1, given_by.2) (λ n. all (element_type m) (recs_of l) n)) ≡ total
+    first-is : (x : Record) {ks : Recs} → recs_of k ≡ cons (rec_of x) ks → {v : Option Recs} → (given_by x).0 ≡ v → prepend i.done.0 i.done.1 (and_then (v, (given_by x).1, (given_by x).2) (λ n. all (element_type m) ks n)) ≡ total
     unfolding all
-    first-is e =
-        ap (λ (v : Option Recs). prepend i.done.0 i.done.1 (and_then (v, given_by.1, given_by.2) (λ n. all (element_type m) (recs_of l) n))) (sym e)
-        ∙ (ap (λ (ks : Recs). prepend i.done.0 i.done.1 (all (element_type m) ks b.names.id_counter)) (sym (recs_step s.0 s.1 s.2)) ∙ i.left)
+    first-is x {ks} q e =
+        ap (λ (v : Option Recs). prepend i.done.0 i.done.1 (and_then (v, (given_by x).1, (given_by x).2) (λ n. all (element_type m) ks n))) (sym e)
+        ∙ (ap (λ (ks : Recs). prepend i.done.0 i.done.1 (all (element_type m) ks b.names.id_counter)) (sym q) ∙ i.left)
 
     -- one record more
-    pub collecting_turn : {c : Output} {r : Answer ℕ} {j : ℕ} → MakesSome b c r given_by → r ≡ Some j → (n + j ≤ limit) × Collecting m total limit a c l (n + j)
-    collecting_turn {c} {r} {j} w q = go given_by.0 refl w.told w.step
+    pub collecting_turn : {x : Record} {l : Records} → (0 < k.count) × FirstOf k x × RestOf k l → {c : Output} {r : Answer ℕ} {j : ℕ} → MakesSome b c r (given_by x) → r ≡ Some j → (n + j ≤ limit) × Collecting m total limit a c l (n + j)
+    collecting_turn {x} {l} s {c} {r} {j} w q = go (given_by x).0 refl w.told w.step
       where
-        go : (v : Option Recs) → given_by.0 ≡ v → r ≡ number_of v → Step b c (bytes_of_all v) given_by.1 given_by.2 (fit_of_all v) → (n + j ≤ limit) × Collecting m total limit a c l (n + j)
+        go : (v : Option Recs) → (given_by x).0 ≡ v → r ≡ number_of v → Step b c (bytes_of_all v) (given_by x).1 (given_by x).2 (fit_of_all v) → (n + j ≤ limit) × Collecting m total limit a c l (n + j)
         go none e t z = absurd (let y : ◌≡◌ {A = ℕ} 0 1 = cc in omega arith)
         go (some us) e t z =
             let y : j ≡ count us = cc in
@@ -343,23 +344,23 @@ module _ (m : Mode) where
               record {
                 low = next-low s.1 s.2 i.low (omega (arith, z.counter, high-elements m (rec_of x) b.names.id_counter));
                 few = omega (arith, y, few, i.few, s.0, s.2.many);
-                done = (join i.done.0 us, i.done.1 ++ given_by.1, given_by.2);
+                done = (join i.done.0 us, i.done.1 ++ (given_by x).1, (given_by x).2);
                 makes = all_join i.makes (record { step = z });
                 left =
-                    ap (λ (m' : ℕ). prepend (join i.done.0 us) (i.done.1 ++ given_by.1) (all (element_type m) (recs_of l) m')) z.counter
-                    ∙ (sym (prepend-prepend i.done.0 us i.done.1 given_by.1 (all (element_type m) (recs_of l) given_by.2)) ∙ first-is e);
+                    ap (λ (m' : ℕ). prepend (join i.done.0 us) (i.done.1 ++ (given_by x).1) (all (element_type m) (recs_of l) m')) z.counter
+                    ∙ (sym (prepend-prepend i.done.0 us i.done.1 (given_by x).1 (all (element_type m) (recs_of l) (given_by x).2)) ∙ first-is x (recs_step s.0 s.1 s.2) e);
                 many = omega (arith, count-join i.done.0 us, i.many, y);
               },
             )
 
     -- one fails, and the array is given up
-    collecting_stop : {c : Output} {r : Answer ℕ} → MakesSome b c r given_by → r ≡ None → (ds : List Diag) × (e : ℕ) × (total ≡ (none, ds, e)) × (E : List ℕ) × (f : Bool) × Step a c E ds e f
-    collecting_stop {c} {r = r} w q = go given_by.0 refl w.told w.step
+    collecting_stop : {x : Record} → 0 < k.count → FirstOf k x → {c : Output} {r : Answer ℕ} → MakesSome b c r (given_by x) → r ≡ None → (ds : List Diag) × (e : ℕ) × (total ≡ (none, ds, e)) × (E : List ℕ) × (f : Bool) × Step a c E ds e f
+    collecting_stop {x} h f {c} {r = r} w q = go (given_by x).0 refl w.told w.step
       where
-        go : (v : Option Recs) → given_by.0 ≡ v → r ≡ number_of v → Step b c (bytes_of_all v) given_by.1 given_by.2 (fit_of_all v)
+        go : (v : Option Recs) → (given_by x).0 ≡ v → r ≡ number_of v → Step b c (bytes_of_all v) (given_by x).1 (given_by x).2 (fit_of_all v)
             → (ds : List Diag) × (e : ℕ) × (total ≡ (none, ds, e)) × (E : List ℕ) × (f : Bool) × Step a c E ds e f
         go (some us) e t z = absurd (let y : ◌≡◌ {A = ℕ} 0 1 = cc in omega arith)
-        go none e t z = (i.done.1 ++ given_by.1, given_by.2, sym (first-is e), _, _, step_then i.makes.step z)
+        go none e t z = (i.done.1 ++ (given_by x).1, (given_by x).2, sym (first-is x (recs_front h f).1 e), _, _, step_then i.makes.step z)
 
   -- none is left
   collecting_done : {total : Out (Option Recs)} {limit : ℕ} {a b : Output} {k : Records} {n : ℕ} (i : Collecting m total limit a b k n) → k.count ≡ 0 → total ≡ (some i.done.0, i.done.1, b.names.id_counter)
@@ -382,15 +383,14 @@ module _ (m : Mode) (r : Record) where
   abbrev pub TupleLoop : Output → Output → Records → ℕ → Type 0
   TupleLoop a b k n = Collecting m (whole a.names.id_counter) (count (kids_of (rec_of r))) a b k n
 
-  pub tuple_start : (o : Output) {j k : Records} → ChildrenOf r k → j ≡ k → o.names.id_counter ≤ r.at → TupleLoop o o j 0 × (j.levels < r.levels) × (j.tree ≡ r.tree)
-  tuple_start o {j} {k} c e l =
-      subst (λ (x : Records). TupleLoop o o x 0 × (x.levels < r.levels) × (x.tree ≡ r.tree)) (sym e) (collecting_start m o o.names.id_counter c l refl, omega (arith, c.levels, c.left), c.tree)
+  pub tuple_start : (o : Output) {k : Records} → ChildrenOf r k → o.names.id_counter ≤ r.at → TupleLoop o o k 0 × (k.levels < r.levels) × (k.tree ≡ r.tree)
+  tuple_start o c l = (collecting_start m o o.names.id_counter c l refl, omega (arith, c.levels, c.left), c.tree)
 
   module _ {o a b : Output} {k : Records} {n : ℕ} (sk : Skips o.out.now a.out.now head_size) (os : Lends a o) (ad : a.diagnostics ≡ o.diagnostics) (an : a.names ≡ o.names) (af : a.fits ≡ o.fits) (i : TupleLoop a b k n) where
-    pub tuple_failed : {x : Record} {l : Records} → (0 < k.count) × FirstOf k x × RestOf k l → {c d : Output} {t : Answer ℕ} {s : Start} → MakesSome b c t (element_type m (rec_of x) b.names.id_counter) → t ≡ None
+    pub tuple_failed : {x : Record} → 0 < k.count → FirstOf k x → {c d : Output} {t : Answer ℕ} {s : Start} → MakesSome b c t (element_type m (rec_of x) b.names.id_counter) → t ≡ None
         → s ≡ start_of o → Returned c d s → MakesMaybe o d None (tuple_type m (rec_of r) o.names.id_counter)
-    tuple_failed p w q e back =
-        let u = collecting_stop m i p w q in
+    tuple_failed h f w q e back =
+        let u = collecting_stop m i h f w q in
         maybe-as (maybe-none (step_skipped sk os ad u.5 e back)) (tuple-of a.names.id_counter u.2 ∙ ap (λ x. tuple_type m (rec_of r) x.id_counter) an)
 
     pub tuple_made : {d : Output} {h : Fields} {range : Span} {s : Start} → k.count ≡ 0 → s ≡ start_of o → range ≡ range_of (head_of (rec_of r)) → h ≡ made_fields (mark "Tu") 0 range 0 n

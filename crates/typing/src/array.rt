@@ -44,11 +44,13 @@ fn tuple_type(o: &mut Output, array: Record, mode: Mode) -> Option<()>
     let start = o.start();
     o.out.skip(HEAD_SIZE);
     let mut count = 0;
-    for element in array.children() {
-        let Some(made) = element_type(o, element, mode) else {
+    let mut elements = array.children();
+    while 0 < elements.count {
+        let Some(made) = element_type(o, elements.first(), mode) else {
             o.back(start);
             return None;
         };
+        elements = elements.rest();
         count += made;
     }
     let head = Head::made(Mark::Tu, 0, array.range(), 0, count);

@@ -50,7 +50,7 @@ pub(crate) fn function_type(o: &mut Output, function: Record, scope: Scope, is_f
 }
 
 // `filter_map`: a record that may be missing is one record or none.
-fn one_or_none(t: Option<()>) -> usize
+pub fn one_or_none(t: Option<()>) -> usize
     ensures { result ≡ counted_of t }
 {
     match t {

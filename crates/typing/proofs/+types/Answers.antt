@@ -54,23 +54,23 @@ array::spread_type-returns-in_default t c = let n = spreads c.args.spread c.requ
 pub array::spread_type-returns : goal.array::spread_type-returns
 array::spread_type-returns t c = let n = spreads c.args.spread c.requires.1 in let x = first_kid c.children.ensures n c.first.ensures in spread_made c.args.mode (rec_of c.args.spread) (puts_out c.ts_tuple_element.ensures refl refl refl refl) (puts_out c.ts_rest_type.ensures refl refl refl refl) c.requires.1 n x.is (is_some c.rest_type.ensures c.in-Some.is)
 
-pub array::tuple_type-loop-element-init : goal.array::tuple_type-loop-element-init
-array::tuple_type-loop-element-init t c = tuple_start c.args.mode c.args.array _ c.children-element-items.ensures c.into_iter-element-iterator.ensures.into_iter_gives c.requires.low
+pub array::tuple_type-loop-elements-init : goal.array::tuple_type-loop-elements-init
+array::tuple_type-loop-elements-init t c = tuple_start c.args.mode c.args.array _ c.children-elements.ensures c.requires.low
 
-pub array::tuple_type-loop-element-preserved : goal.array::tuple_type-loop-element-preserved
-array::tuple_type-loop-element-preserved t c = let s = c.in-Some.ensures.steps in ((collecting_turn c.args.mode c.loop-element.invariant.0 s c.element_type.ensures c.in-Some-element_type.is).1, omega (arith, s.2.levels, c.loop-element.invariant.1), s.2.tree ∙ c.loop-element.invariant.2)
+pub array::tuple_type-loop-elements-preserved : goal.array::tuple_type-loop-elements-preserved
+array::tuple_type-loop-elements-preserved t c = let r = c.rest-elements.ensures in ((collecting_turn c.args.mode c.loop-elements.invariant.0 (c.loop-elements-test.true, c.first.ensures, r) c.element_type.ensures c.in-Some.is).1, omega (arith, r.levels, c.loop-elements.invariant.1), r.tree ∙ c.loop-elements.invariant.2)
 
 pub array::tuple_type-element_type-requires : goal.array::tuple_type-element_type-requires
-array::tuple_type-element_type-requires t c = let s = c.in-Some.ensures.steps in (omega (arith, c.decreases, s.1.levels, c.loop-element.invariant.1), record { low = omega (arith, c.loop-element.invariant.0.low, s.1.place); same = c.requires.same ∙ sym (s.1.tree ∙ c.loop-element.invariant.2) })
+array::tuple_type-element_type-requires t c = let f = c.first.ensures in (omega (arith, c.decreases, f.levels, c.loop-elements.invariant.1), record { low = omega (arith, c.loop-elements.invariant.0.low, f.place); same = c.requires.same ∙ sym (f.tree ∙ c.loop-elements.invariant.2) })
 
 pub array::tuple_type-returns-in_default : goal.array::tuple_type-returns-in_default
-array::tuple_type-returns-in_default t c = tuple_failed c.args.mode c.args.array c.skip.ensures refl refl refl refl c.loop-element.invariant.0 c.in-Some.ensures.steps c.element_type.ensures c.in_default.is c.start-start.ensures c.back.ensures
+array::tuple_type-returns-in_default t c = tuple_failed c.args.mode c.args.array c.skip.ensures refl refl refl refl c.loop-elements.invariant.0 c.loop-elements-test.true c.first.ensures c.element_type.ensures c.in_default.is c.start-start.ensures c.back.ensures
 
 pub array::tuple_type-overflow_add-count : goal.array::tuple_type-overflow_add-count
-array::tuple_type-overflow_add-count t c = omega (arith, (collecting_turn c.args.mode c.loop-element.invariant.0 c.in-Some.ensures.steps c.element_type.ensures c.in-Some-element_type.is).0, c.children-element-items.ensures.many)
+array::tuple_type-overflow_add-count t c = omega (arith, (collecting_turn c.args.mode c.loop-elements.invariant.0 (c.loop-elements-test.true, c.first.ensures, c.rest-elements.ensures) c.element_type.ensures c.in-Some.is).0, c.children-elements.ensures.many)
 
 pub array::tuple_type-returns : goal.array::tuple_type-returns
-array::tuple_type-returns t c = tuple_made c.args.mode c.args.array c.skip.ensures refl refl refl refl c.loop-element.invariant.0 c.in-None.ensures.steps.0 c.start-start.ensures c.range.ensures c.made-head.ensures c.put_front_at.ensures refl refl refl refl
+array::tuple_type-returns t c = tuple_made c.args.mode c.args.array c.skip.ensures refl refl refl refl c.loop-elements.invariant.0 (omega (arith, c.loop-elements-test.false)) c.start-start.ensures c.range.ensures c.made-head.ensures c.put_front_at.ensures refl refl refl refl
 
 pub exprs::call_type-returns-in_err-arg : goal.exprs::call_type-returns-in_err-arg
 exprs::call_type-returns-in_err-arg t c = maybe_told (sym c.from_residual.ensures) (maybe-as (maybe_never c.args.o.now) (type_other_call c.args.mode (rec_of c.args.call) c.args.o.now.names.id_counter c.requires.1 (no_freeze c.args.call c.args.mode.scope.unresolved c.object_freeze_call_arg.ensures c.in_err-arg.was)))

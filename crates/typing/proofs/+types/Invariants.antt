@@ -52,8 +52,11 @@ abbrev pub decreases-object::key_value : goal.decreases-object::key_value
 decreases-object::key_value l = 4 * l.prop.levels + 0
 
 -- the records that are left stand one level further down, in the same tree
-abbrev pub invariant-array::tuple_type-loop-element : goal.invariant-array::tuple_type-loop-element
-invariant-array::tuple_type-loop-element l = TupleLoop l.mode l.array l.initial.o l.o l.element-iterator l.count × (l.element-iterator.levels < l.array.levels) × (l.element-iterator.tree ≡ l.array.tree)
+abbrev pub invariant-array::tuple_type-loop-elements : goal.invariant-array::tuple_type-loop-elements
+invariant-array::tuple_type-loop-elements l = TupleLoop l.mode l.array l.initial.o l.o l.elements l.count × (l.elements.levels < l.array.levels) × (l.elements.tree ≡ l.array.tree)
+
+abbrev pub decreases-array::tuple_type-loop-elements : goal.decreases-array::tuple_type-loop-elements
+decreases-array::tuple_type-loop-elements l = l.elements.count
 
 -- the records that are left stand one level further down, in the same tree
 abbrev pub invariant-object::object_type-loop-prop : goal.invariant-object::object_type-loop-prop
