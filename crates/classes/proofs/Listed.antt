@@ -1,41 +1,44 @@
--- The overload list, as entries of ten bytes.
-use mathlib.Core.Path.{◌≡◌, refl, sym, ap, ap₂, ◌∙◌}
+-- The overload list, searched entry by entry.
+use mathlib.Core.Path.{◌≡◌, refl, sym, ap, ◌∙◌}
 use mathlib.Core.List.{List}
-use mathlib.Core.Bool.{Bool, ◌&&◌, ◌||◌}
-use Prim.Native.Nat.{ℕ, zero, suc, ◌+◌, ◌/◌, ◌<◌}
+use mathlib.Core.Bool.{Bool, true, false, ◌&&◌, ◌||◌}
+use Prim.Native.Nat.{ℕ, zero, suc, ◌+◌, ◌-◌, ◌*◌, ◌/◌, ◌<◌, ◌≤◌}
 use native.Mathlib.Omega.{arith}
 use lib.Dec.{eqb}
-use lib.ListN.{length, get_or, take, drop}
-use lib.Seq.{get_or-take, get_or-drop, drop-drop}
-use Rattle.std.specs.List.{list_any}
-use Rattle.std.specs.Simd.{first_chunks}
+use lib.ListN.{length}
+use Rattle.definition.specs.Check.{entry_size}
 use Rattle.definition.specs.Tree.{Head, u32_at}
 use Rattle.definition.specs.Record.{entries_have, listed}
-use Rattle.records.specs.declared.Range.{Range}
-use Rattle.records.specs.Fields.{range_of}
 
--- whether an entry has a range
-abbrev pub entry_has : Range → List ℕ → Bool
-entry_has r e = eqb (u32_at e 2) r.start && eqb (u32_at e 6) r.end
+-- n entries are left from p on: the answer for a record with the head h is the one that they give
+pub record Looking (l : List ℕ) (h : Head) (n p : ℕ) : Type 0 where
+  pub room : p + entry_size * n ≤ length l
+  pub same : listed l h ≡ entries_have n l p h
 
-module _ (l : List ℕ) where
-  byte_is : (at k i : ℕ) → i ≡ at + k → k < 10 → get_or (take 10 (drop at l)) k 0 ≡ get_or l i 0
-  byte_is at k i e h = get_or-take 10 (drop at l) k 0 h ∙ get_or-drop at l k 0 ∙ ap (λ (j : ℕ). get_or l j 0) (sym e)
+entries_more : (n : ℕ) (l : List ℕ) (p : ℕ) (h : Head) → 0 < n
+    → entries_have n l p h ≡ ((eqb (u32_at l (p + 2)) h.start && eqb (u32_at l (p + 6)) h.end) || entries_have (n - 1) l (p + entry_size) h)
+unfolding entries_have
+entries_more zero l p h e = absurd (omega arith)
+entries_more (suc n) l p h e =
+    let z : n ≡ suc n - 1 = omega arith in
+    ap (λ (k : ℕ). (eqb (u32_at l (p + 2)) h.start && eqb (u32_at l (p + 6)) h.end) || entries_have k l (p + entry_size) h) z
 
-  number_is : (at k : ℕ) → k + 3 < 10 → u32_at (take 10 (drop at l)) k ≡ u32_at l (at + k)
-  number_is at k h =
-      rw (byte_is at k (at + k) refl (omega arith), byte_is at (k + 1) (at + k + 1) (omega arith) (omega arith), byte_is at (k + 2) (at + k + 2) (omega arith) (omega arith), byte_is at (k + 3) (at + k + 3) (omega arith) (omega arith))
-      refl
-
-  entries_are : (h : Head) (n at : ℕ) → list_any (entry_has (range_of h)) (first_chunks 10 n (drop at l)) ≡ entries_have n l at h
-  unfolding entries_have
-  entries_are h zero at = refl
-  entries_are h (suc n) at =
-      ap₂ (λ (a b : Bool). a || b)
-      (ap₂ (λ (s e : ℕ). eqb s h.start && eqb e h.end) (number_is at 2 (omega arith)) (number_is at 6 (omega arith)))
-      (ap (λ (t : List ℕ). list_any (entry_has (range_of h)) (first_chunks 10 n t)) (drop-drop 10 at l) ∙ entries_are h n (at + 10))
-
--- one of the entries has it
-pub listed_is : (h : Head) (l : List ℕ) → list_any (entry_has (range_of h)) (first_chunks 10 (length l / 10) l) ≡ listed l h
+pub looking_start : (l : List ℕ) (h : Head) → Looking l h (length l / entry_size) 0
 unfolding listed
-listed_is h l = entries_are l h (length l / 10) 0
+looking_start l h = record { room = omega arith; same = refl }
+
+module _ {l : List ℕ} {h : Head} {n p : ℕ} (d : Looking l h n p) where
+  pub looking_done : n ≤ 0 → false ≡ listed l h
+  unfolding entries_have
+  looking_done e = let z : n ≡ 0 = omega arith in sym (d.same ∙ ap (λ (k : ℕ). entries_have k l p h) z)
+
+  -- b says whether the entry at p has the range
+  module _ (e : 0 < n) {b : Bool} (q : b ≡ (eqb (u32_at l (p + 2)) h.start && eqb (u32_at l (p + 6)) h.end)) where
+    looking_by : listed l h ≡ (b || entries_have (n - 1) l (p + entry_size) h)
+    looking_by = d.same ∙ (entries_more n l p h e ∙ ap (λ (t : Bool). t || entries_have (n - 1) l (p + entry_size) h) (sym q))
+
+    pub looking_other : b ≡ false → Looking l h (n - 1) (p + entry_size)
+    looking_other f = record { room = omega (arith, d.room); same = looking_by ∙ rw f refl }
+
+    pub looking_found : b ≡ true → true ≡ listed l h
+    looking_found f = sym (looking_by ∙ rw f refl)
