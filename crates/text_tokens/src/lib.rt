@@ -172,7 +172,7 @@ fn hex_digit(d: u8) -> u8
 fn is_escaped(b: u8) -> bool
     ensures { result ≡ is_escaped b }
 {
-    matches!(b, 0..=31 | b'"' | b'$' | b'\\' | b'`')
+    b < 32 || matches!(b, b'"' | b'$' | b'\\' | b'`')
 }
 
 // One byte of a string, "\u and four small hex digits" where it is escaped.
@@ -182,7 +182,11 @@ fn put_escaped_byte(b: u8, out: &mut [u8], p: usize) -> usize
     if is_escaped(b) {
         let high = hex_digit(b / 16);
         let low = hex_digit(b % 16);
-        return put_text(out, p, &[b'\\', b'u', b'0', b'0', high, low]);
+        let first = put_text(out, p, b"\\u00");
+        put(out, first, high);
+        let second = advance(first, 1);
+        put(out, second, low);
+        return advance(second, 1);
     }
     put(out, p, b);
     advance(p, 1)
