@@ -38,16 +38,16 @@ block-is (rec h ks) d at = refl
 module _ (r : Record) where
   -- an Nb is the block itself
   pub block_here : mark_of (rec_of r) ≡ mark "Nb" → Found r (Some r)
-  block_here m = record { lower = omega arith; lines = λ d. block-is (rec_of r) d r.at ∙ rw m }
+  block_here m = record { tree = refl; lower = omega arith; lines = λ d. block-is (rec_of r) d r.at ∙ rw m }
 
   -- another record than an Ed, an Ns or an Nd opens none
   pub block_none : is "Nb" (rec_of r) ≡ false → is "Ed" (rec_of r) ≡ false → is "Ns" (rec_of r) ≡ false → is "Nd" (rec_of r) ≡ false → Found r None
   block_none e f g h = λ d. block-is (rec_of r) d r.at ∙ rw (e, f, g, h)
 
   -- what is found in a child is found in the record
-  from-child : (x : Record) → x.levels ≤ r.levels → ((d : ℕ) → block_lines (rec_of r) d r.at ≡ block_lines (rec_of x) d x.at) → (f : Option Record) → Found x f → Found r f
-  from-child x h e (Some b) f = record { lower = omega (arith, f.lower, h); lines = λ d. e d ∙ f.lines d }
-  from-child x h e None f = λ d. e d ∙ f d
+  from-child : (x : Record) → x.tree ≡ r.tree → x.levels ≤ r.levels → ((d : ℕ) → block_lines (rec_of r) d r.at ≡ block_lines (rec_of x) d x.at) → (f : Option Record) → Found x f → Found r f
+  from-child x t h e (Some b) f = record { tree = f.tree ∙ t; lower = omega (arith, f.lower, h); lines = λ d. e d ∙ f.lines d }
+  from-child x t h e None f = λ d. e d ∙ f d
 
   -- an Ed leads to its first child
   module _ (m : mark_of (rec_of r) ≡ mark "Ed") where
@@ -62,7 +62,7 @@ module _ (r : Record) where
     pub first_found : {x : Record} → ChildIs r 0 x → (f : Option Record) → Found x f → Found r f
     unfolding first_block rec_of end_of_all
     first_found {x} c f v =
-        from-child x (omega (arith, c.levels))
+        from-child x c.tree (omega (arith, c.levels))
         (λ d. block-is (rec_of r) d r.at ∙ rw (m, body_here r, kids_here r, read_all_more (tree_at (r.levels - 1) r.tree.now) (end_at (r.levels - 1) r.tree.now) (count_at r.tree.now r.at) (body_at r.tree.now r.at) (omega (arith, c.there, count_here r)), c.tree, c.place, c.levels))
         f v
 
@@ -91,7 +91,7 @@ module _ (r : Record) where
         let h : 1 < n = omega (arith, c.there, count_here r) in
         let k : AcceptedAt l s b = first_one l s n b (children r.levels s r.at (accepted r)) (omega arith) in
         let rest : Recs = read_all (tree_at l s) (end_at l s) (n - 1) e in
-        from-child x (omega (arith, c.levels))
+        from-child x c.tree (omega (arith, c.levels))
         (λ d. second_is d
         ∙ ap (λ (q : ℕ). second_block (kids_of (rec_of r)) d q) (body_here r)
         ∙ ap (λ (ks : Recs). second_block ks d b) (kids_here r ∙ read_all_more (tree_at l s) (end_at l s) n b (omega arith))

@@ -1,5 +1,5 @@
 -- The children of accepted records, with their tokens, as the code meets them: one after the other, by their place, and those behind a place.
-use mathlib.Core.Path.{◌≡◌, ap, ◌∙◌}
+use mathlib.Core.Path.{◌≡◌, refl, ap, ◌∙◌}
 use mathlib.Core.List.{List, [], ◌∷◌}
 use mathlib.Core.Bool.{Bool}
 use Prim.Native.Nat.{ℕ, zero, suc, ◌+◌, ◌-◌, ◌<◌, ◌≤◌}
@@ -17,6 +17,11 @@ use Rattle.records.proofs.Accepted.{lies}
 use Rattle.declaration_text.specs.Steps.{children_at, child_alone, children_of, is_chain}
 
 -- ---- where a record ends
+
+pub end-more : (end : ℕ → ℕ) (i at : ℕ) → end_of_all end (suc i) at ≡ end (end_of_all end i at)
+unfolding end_of_all
+end-more end zero at = refl
+end-more end (suc i) at = end-more end i (end at)
 
 reach_all : (levels : ℕ) (s : List ℕ) → ((at : ℕ) → Whole levels s at → at + size_of (tree_at levels s at) ≡ end_at levels s at) → (n at : ℕ)
     → Each (Whole levels s) (end_at levels s) n at

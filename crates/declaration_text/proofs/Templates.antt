@@ -23,7 +23,7 @@ use Rattle.records.specs.Marks.{number_of}
 use Rattle.records.specs.Views.{rec_of, recs_of, FirstOf, RestOf}
 use Rattle.records.proofs.Views.{all_here, mark_here}
 use Rattle.declaration_text.specs.Templates.{Before, Quasis, Expressions, OfMark, Split, QuasisAre, ExpressionsAre}
-use Rattle.declaration_text.proofs.Children.{children-none, children-first}
+use Rattle.declaration_text.proofs.Children.{end-more, children-none, children-first}
 
 -- k of n children are left from c on, and what Q counts of these is counted of all
 pub record Counting (Q : ℕ → ℕ → ℕ → Type 0) (levels : ℕ) (s : List ℕ) (n at k c : ℕ) : Type 0 where
@@ -144,11 +144,6 @@ all_front levels s n at {m} a h =
 
 -- ---- by records of the code
 
-end-more : (end : ℕ → ℕ) (i at : ℕ) → end_of_all end (suc i) at ≡ end (end_of_all end i at)
-unfolding end_of_all
-end-more end zero at = refl
-end-more end (suc i) at = end-more end i (end at)
-
 -- those behind rest are left, and what Before counts of these is counted of all
 pub record Splitting (P : Mark → Bool → Type 0) (k rest : Records) : Type 0 where
   pub counting : Counting (Before (OfMark P) k.levels k.tree.now) k.levels k.tree.now k.count k.at rest.count rest.at
@@ -216,12 +211,23 @@ module _ {P : Mark → Bool → Type 0} {k front rest : Records} (d : Split P k 
       record {
         texts = λ under. rw (d.tree, d.place, d.levels) (q.texts under);
         behind = λ under. rw (d.rest_tree, d.rest_place, d.rest_levels, n) (q.behind under);
+        tree = d.tree;
+        place = d.place;
         levels = d.levels;
+        rest_tree = d.rest_tree;
+        rest_place = d.rest_place;
         rest_levels = d.rest_levels;
+        many = d.many;
       }
 
   pub expressions_are : ((m : Mark) → P m true → m ≡ Op → ⊥) → ((m : Mark) → P m false → m ≡ Op) → ExpressionsAre k front
   unfolding recs_of
   expressions_are on off =
       let q = before-expressions k.levels k.tree.now (OfMark P) front.count k.count k.at (all_here k) d.counted (λ j o e. on o.0 o.2 (same_number o.0 Op (o.1 ∙ e))) (λ j o. sym o.1 ∙ ap number_of (off o.0 o.2)) in
-      record { tokens = λ under. rw (d.tree, d.place, d.levels) (q.tokens under); levels = d.levels }
+      record {
+        tokens = λ under. rw (d.tree, d.place, d.levels) (q.tokens under);
+        tree = d.tree;
+        place = d.place;
+        levels = d.levels;
+        few = few;
+      }

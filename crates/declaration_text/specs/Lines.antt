@@ -28,6 +28,7 @@ lines_in b d = items_lines (kids_of (rec_of b)) (suc d) (body_of b.at (head_of (
 
 -- b is the block in the item r
 pub record Opens (r b : Record) : Type 0 where
+  pub tree : b.tree ≡ r.tree
   pub lower : b.levels ≤ r.levels
   pub lines : (d : ℕ) → block_lines (rec_of r) d r.at ≡ lines_in b d
 

@@ -54,13 +54,21 @@ pub record Split (P : Mark → Bool → Type 0) (k front rest : Records) : Type 
 pub record QuasisAre (k front rest : Records) : Type 0 where
   pub texts : (under : Bool) → quasis (parts_of under k) ≡ texts_of (parts_of under front)
   pub behind : (under : Bool) → behind_quasis (parts_of under k) ≡ parts_of under rest
+  pub tree : front.tree ≡ k.tree
+  pub place : front.at ≡ k.at
   pub levels : front.levels ≡ k.levels
+  pub rest_tree : rest.tree ≡ k.tree
+  pub rest_place : rest.at ≡ end_of_all (end_at k.levels k.tree.now) front.count k.at
   pub rest_levels : rest.levels ≡ k.levels
+  pub many : front.count + rest.count ≡ k.count
 
--- front are the expressions of k
+-- front are the expressions of k, the first of them
 pub record ExpressionsAre (k front : Records) : Type 0 where
   pub tokens : (under : Bool) → expressions (parts_of under k) ≡ tokens_of (parts_of under front)
+  pub tree : front.tree ≡ k.tree
+  pub place : front.at ≡ k.at
   pub levels : front.levels ≡ k.levels
+  pub few : front.count ≤ k.count
 
 -- what is written for a quasi or an expression, if there is one
 abbrev pub quasi_if : Option Record → List Token

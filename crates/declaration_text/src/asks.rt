@@ -1,18 +1,18 @@
 // What the pieces of a row ask of a record: its flags and its children.
-ghost use Rattle.std.specs.Prelude.{true, ◌≡◌, ◌≤◌, eqb, MatchOption};
-ghost use Rattle.definition.specs.Tree.{count};
+ghost use Rattle.std.specs.Prelude.{true, ◌≡◌, ◌+◌, ◌≤◌, eqb, length, MatchOption};
+ghost use Rattle.definition.specs.Tree.{count, head_size};
 ghost use Rattle.definition.specs.Record.{has_flag, head_of, kids_of, mark_of, text_of};
 ghost use Rattle.definition.specs.Text.{nth, is_quoted, holds};
 ghost use Rattle.records.specs.Marks.{number_of};
 ghost use Rattle.records.specs.Views.{rec_of, From, ChildIs};
 ghost use Rattle.declaration_text.specs.Table.{when_is};
-ghost use Rattle.declaration_text.specs.Steps.{parts_in, Plain, Name};
+ghost use Rattle.declaration_text.specs.Steps.{parts_in, BehindFirst, Plain, PlainAt, Name, NameAt};
 
 use crate::pieces::When;
-use records::flags::has_flag;
-use records::mark_at;
-use records::marks::Mark;
+use records::flags::{OPTIONAL, has_flag};
+use records::marks::{ID, KI, KW, Mark, OP};
 use records::tree::{Record, Records};
+use records::{count_at, mark_at, read_head};
 
 // Whether the record has a mark, by their numbers: to tell which of all marks it has takes longer.
 pub fn has_mark(r: Record, mark: Mark) -> bool
@@ -21,16 +21,24 @@ pub fn has_mark(r: Record, mark: Mark) -> bool
     mark_at(r.tree, r.at) == u16::from(mark)
 }
 
+// The records behind the first i.
+pub fn behind_first<'t>(records: Records<'t>, i: usize) -> Records<'t>
+    requires { i ≤ records.count }
+    ensures { BehindFirst records.entry i result }
+{
+    let mut rest = records;
+    for _ in 0..i {
+        rest = rest.rest();
+    }
+    rest
+}
+
 // The children of a record from the number i on.
 pub fn children_from<'t>(r: Record<'t>, i: usize) -> Records<'t>
     requires { i ≤ count (kids_of (rec_of r)) }
     ensures { From r.entry i result }
 {
-    let mut kids = r.children();
-    for _ in 0..i {
-        kids = kids.rest();
-    }
-    kids
+    behind_first(r.children(), i)
 }
 
 // The child with the number i, if there is one.
@@ -98,16 +106,32 @@ impl When {
     }
 }
 
-// Whether the record is an Op, a Kw or a Ki without children: its text is its only token.
-pub fn is_plain(r: Record) -> bool
-    ensures { result ≡ true → Plain (rec_of r.entry) }
+// Whether the record at `at`, which has this mark, is an Op, a Kw or a Ki without children: its text is its only token.
+pub fn is_plain_at(tree: &[u8], at: usize, mark: u16) -> bool
+    requires { at + head_size ≤ length tree.now }
+    ensures { result ≡ true → PlainAt tree.now at mark }
 {
-    (has_mark(r, Mark::Op) || has_mark(r, Mark::Kw) || has_mark(r, Mark::Ki)) && r.count() == 0
+    matches!(mark, OP | KW | KI) && count_at(tree, at) == 0
 }
 
 // Whether it is an Id without children and without flag 1: its symbol is its only token.
+pub fn is_name_at(tree: &[u8], at: usize, mark: u16) -> bool
+    requires { at + head_size ≤ length tree.now }
+    ensures { result ≡ true → NameAt tree.now at mark }
+{
+    mark == ID && !has_flag(read_head(tree, at).flags, OPTIONAL) && count_at(tree, at) == 0
+}
+
+// Whether the record is plain.
+pub fn is_plain(r: Record) -> bool
+    ensures { result ≡ true → Plain (rec_of r.entry) }
+{
+    is_plain_at(r.tree, r.at, mark_at(r.tree, r.at))
+}
+
+// Whether it is a name.
 pub fn is_name(r: Record) -> bool
     ensures { result ≡ true → Name (rec_of r.entry) }
 {
-    has_mark(r, Mark::Id) && !flag_is_set(r, 1) && r.count() == 0
+    is_name_at(r.tree, r.at, mark_at(r.tree, r.at))
 }

@@ -9,13 +9,13 @@ use records::marks::KNOWN;
 // How many pieces a row has at most, and the bytes of one: when, its number, what, two numbers.
 pub const PIECES: usize = 8;
 
-const PIECE_SIZE: usize = 5;
+pub const PIECE_SIZE: usize = 5;
 
 const ROW_SIZE: usize = 1 + PIECES * PIECE_SIZE;
 
 // printed by tools/text-tables
 
-const WORDS_SIZE: usize = 145;
+pub const WORDS_SIZE: usize = 145;
 
 // The tokens, one behind the other.
 const WORDS: [u8; WORDS_SIZE] =
@@ -114,7 +114,7 @@ const ROWS: [[u8; ROW_SIZE]; KNOWN] = [
 
 // Both tables. One that a function names is made anew at each call of it, so the call makes them once and lends them. A row stays flat, as the
 // definitions of specs/Table.antt read it: `piece` alone counts in it, so nested arrays would be no plainer.
-#[derive(Drop)]
+#[derive(Clone, Copy)]
 pub struct Tables {
     rows: [[u8; ROW_SIZE]; KNOWN],
     words: [u8; WORDS_SIZE],
@@ -134,7 +134,7 @@ impl Tables {
     }
 
     // The byte at the place i of a row.
-    fn cell(&self, row: usize, i: usize) -> u8
+    pub fn cell(&self, row: usize, i: usize) -> u8
         requires { i < 41 }
         ensures { result ≡ cell row i }
     {
