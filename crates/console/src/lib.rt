@@ -1,8 +1,8 @@
 // What the programs share: what they read from standard input, what they print, and the buffers that they lend.
 #![tactic(auto)]
 
-ghost use Rattle.std.specs.Prelude.{true, ◌≡◌, ◌≤◌, length, take, IfOk, IfSome};
-ghost use Rattle.console.specs.Counts.{IsPrefixLen};
+ghost use Rattle.std.specs.Prelude.{true, ◌≡◌, ◌≤◌, length, take, IfOk};
+ghost use Rattle.console.specs.Counts.{IsPrefixLen, length_read};
 ghost use Rattle.definition.specs.Check.{longest_tree, deepest};
 ghost use Rattle.definition.specs.Children.{AcceptedAt};
 
@@ -18,7 +18,7 @@ pub mod shown;
 pub const UNRESOLVED: u32 = 1;
 
 // The most trees behind their lengths that are read.
-const MOST: usize = 65536;
+pub const MOST: usize = 65536;
 
 // The room for an output, and for its diagnostics, where they are short.
 pub const ROOM: usize = 4096;
@@ -76,6 +76,12 @@ pub fn front_mut(bytes: &mut [u8], n: usize) -> &mut [u8]
 
 // ---- Reading
 
+// Less than was asked for, or more than is taken: so many bytes were read, and stand at the start of the buffer.
+#[derive(Clone, Copy, Debug, PartialEq, Eq)]
+pub struct Unfit {
+    pub length: usize,
+}
+
 // Reads until the buffer is full or the input ends; how many bytes it put at the start of the buffer.
 fn read_full(rt: &impl Input, buffer: &mut [u8]) -> io::Result<usize>
     ensures { IfOk result (λ n. IsPrefixLen n buffer.new) }
@@ -93,24 +99,28 @@ fn read_full(rt: &impl Input, buffer: &mut [u8]) -> io::Result<usize>
     Ok(done)
 }
 
-// The next n bytes, at the start of the buffer; `None` where there are fewer, or no room for them.
-pub fn read_bytes(rt: &impl Input, buffer: &mut [u8], n: usize) -> io::Result<Option<usize>>
-    ensures { IfOk result (λ read. IfSome read (λ n. IsPrefixLen n buffer.new)) }
+// The next n bytes, at the start of the buffer; where there are fewer, how many they are, and nothing where there is no room for n.
+pub fn read_bytes(rt: &impl Input, buffer: &mut [u8], n: usize) -> io::Result<Result<usize, Unfit>>
+    ensures { IfOk result (λ read. IsPrefixLen (length_read read) buffer.new) }
 {
     if buffer.len() < n {
-        return Ok(None);
+        return Ok(Err(Unfit { length: 0 }));
     }
     let length = read_full(rt, &mut buffer[..n])?;
-    Ok((length == n).then_some(length))
+    Ok(if length == n {
+        Ok(length)
+    } else {
+        Err(Unfit { length })
+    })
 }
 
 // The next tree, which stands behind its length in two bytes.
-pub fn read_framed(rt: &impl Input, buffer: &mut [u8]) -> io::Result<Option<usize>>
-    ensures { IfOk result (λ read. IfSome read (λ n. IsPrefixLen n buffer.new)) }
+pub fn read_framed(rt: &impl Input, buffer: &mut [u8]) -> io::Result<Result<usize, Unfit>>
+    ensures { IfOk result (λ read. IsPrefixLen (length_read read) buffer.new) }
 {
     let mut size = [0u8; 2];
-    if read_bytes(rt, &mut size, 2)?.is_none() {
-        return Ok(None);
+    if read_bytes(rt, &mut size, 2)?.is_err() {
+        return Ok(Err(Unfit { length: 0 }));
     }
     read_bytes(rt, buffer, usize::from(u16::from_le_bytes(size)))
 }
@@ -119,15 +129,15 @@ pub fn read_framed(rt: &impl Input, buffer: &mut [u8]) -> io::Result<Option<usiz
 pub fn read_tree(
     rt: &(impl Input + Print),
     buffer: &mut [u8; TREE_ROOM],
-) -> io::Result<Option<usize>>
-    ensures { IfOk result (λ read. IfSome read (λ n. IsPrefixLen n buffer.new)) }
+) -> io::Result<Result<usize, Unfit>>
+    ensures { IfOk result (λ read. IsPrefixLen (length_read read) buffer.new) }
 {
     let length = read_full(rt, buffer)?;
     if LONGEST < length {
         println!(rt; "too long")?;
-        return Ok(None);
+        return Ok(Err(Unfit { length }));
     }
-    Ok(Some(length))
+    Ok(Ok(length))
 }
 
 // ---- Programs
@@ -167,7 +177,7 @@ pub fn run<F: FnOnce(&[u8]) -> Result<(), Stop>>(
     requires { F.IsAlwaysCallable program }
 {
     let mut buffer = [0u8; TREE_ROOM];
-    let Some(length) = read_tree(rt, &mut buffer)? else {
+    let Ok(length) = read_tree(rt, &mut buffer)? else {
         return Ok(());
     };
     match program(&buffer[..length]) {
@@ -186,7 +196,7 @@ pub fn for_each_tree<F: FnMut(usize, &[u8]) -> io::Result<()>>(
     requires { F.IsAlwaysCallable show }
 {
     for number in 1..=MOST {
-        let Some(length) = read_framed(rt, buffer)? else {
+        let Ok(length) = read_framed(rt, buffer)? else {
             break;
         };
         show(number, &buffer[..length])?;

@@ -2,7 +2,7 @@
 ghost use Rattle.std.specs.Prelude.{true, ◌≡◌, ◌+◌, ◌<◌, ◌≤◌, length, take, Ok, Err};
 ghost use Rattle.definition.specs.Tree.{u32_at};
 ghost use Rattle.grammar.specs.Answers.{number};
-ghost use Rattle.console.specs.Replay.{IsExpected};
+ghost use Rattle.console.specs.Replay.{noise, IsNoise, IsExpected};
 
 use crate::{front, read_bytes};
 use grammar::Refused;
@@ -15,7 +15,7 @@ const MOST: usize = 1000000;
 pub fn read_numbers<const N: usize>(rt: &impl Input) -> io::Result<Option<[u32; N]>> {
     let mut bytes = [[0u8; 4]; N];
     let all = bytes.as_flattened_mut();
-    if read_bytes(rt, all, all.len())?.is_none() {
+    if read_bytes(rt, all, all.len())?.is_err() {
         return Ok(None);
     }
     let mut numbers = [0u32; N];
@@ -39,11 +39,15 @@ pub fn number_at(bytes: &[u8], at: usize) -> u32
 }
 
 // What a buffer holds before the call, by the place.
-fn noise(i: usize) -> u8 {
+fn noise(i: usize) -> u8
+    ensures { result ≡ noise i }
+{
     (i % 251) as u8
 }
 
-pub fn fill(buffer: &mut [u8]) {
+pub fn fill(buffer: &mut [u8])
+    ensures { IsNoise buffer.new (length buffer.old) }
+{
     for (i, b) in buffer.iter_mut().enumerate() {
         *b = noise(i);
     }

@@ -164,11 +164,11 @@ fn replay_one(rt: &impl Input, tree: &mut [u8], list: &mut [u8]) -> io::Result<O
     let written = case.written().length;
     let marked = case.marked();
     let counted = case.cells.saturating_mul(CELL);
-    if read_bytes(rt, tree, case.tree_bytes)?.is_none()
-        || read_bytes(rt, list, case.list_bytes)?.is_none()
-        || read_bytes(rt, &mut output, written)?.is_none()
-        || read_bytes(rt, &mut diagnostics, marked)?.is_none()
-        || read_bytes(rt, &mut cells, counted)?.is_none()
+    if read_bytes(rt, tree, case.tree_bytes)?.is_err()
+        || read_bytes(rt, list, case.list_bytes)?.is_err()
+        || read_bytes(rt, &mut output, written)?.is_err()
+        || read_bytes(rt, &mut diagnostics, marked)?.is_err()
+        || read_bytes(rt, &mut cells, counted)?.is_err()
     {
         return Ok(None);
     }

@@ -25,10 +25,10 @@ fn replay_one(rt: &impl Input, tree: &mut [u8]) -> io::Result<Option<bool>> {
     let [tree_bytes, length, room, number, first] = numbers.map(|n| n as usize);
     let expected = expected(number, first, first);
     let mut text = [0u8; ROOM];
-    if read_bytes(rt, tree, tree_bytes)?.is_none() {
+    if read_bytes(rt, tree, tree_bytes)?.is_err() {
         return Ok(None);
     }
-    if read_bytes(rt, &mut text, expected.unwrap_or(0))?.is_none() {
+    if read_bytes(rt, &mut text, expected.unwrap_or(0))?.is_err() {
         return Ok(None);
     }
     let fits = length <= tree.len() && room <= ROOM;
