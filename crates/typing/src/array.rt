@@ -18,6 +18,7 @@ use records::{DUMMY_SP, HEAD_SIZE, Head};
 use swc_helpers::types::{ts_readonly, ts_rest_type, ts_tuple_element};
 
 // `Expr::Array`: a tuple, readonly where `as_readonly` or `readonly_of` asks for it.
+#[inline(never)]
 #[cycle(types)]
 pub fn array_type(o: &mut Output, array: Record, mode: Mode) -> Option<()>
     requires { Ready o.old array mode.scope × (mark_of (rec_of array) ≡ mark "Ar") }

@@ -47,7 +47,8 @@ pub(crate) fn is_readonly(mode: Mode) -> bool
     mode.as_readonly || mode.frozen
 }
 
-// `expr_to_ts_type`.
+// `expr_to_ts_type`. Each arm that does some work stays a call (`inline(never)`): in one function, the locals of all arms are cleared at each level of a
+// nest, whichever arm it takes.
 #[cycle(types)]
 pub fn expr_to_ts_type(o: &mut Output, expr: Record, mode: Mode) -> Option<()>
     requires { Ready o.old expr mode.scope }
@@ -84,6 +85,7 @@ pub fn expr_to_ts_type(o: &mut Output, expr: Record, mode: Mode) -> Option<()>
 
 // `Expr::Call`, of `Object.freeze`: "An argument that cannot be typed ends the call's typing at once; else `readonly_of`". The argument's type is
 // written as `readonly_of` it, and is given up where that has no answer.
+#[inline(never)]
 #[cycle(types)]
 fn call_type(o: &mut Output, call: Record, mode: Mode) -> Option<()>
     requires { Ready o.old call mode.scope × (mark_of (rec_of call) ≡ mark "Ca") }

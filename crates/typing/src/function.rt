@@ -32,6 +32,7 @@ fn params<'t>(function: Record<'t>, is_function: bool) -> Records<'t>
 }
 
 // `Expr::Fn`, of its Fu, and `Expr::Arrow`: a function's type.
+#[inline(never)]
 #[cycle(types)]
 pub(crate) fn function_type(o: &mut Output, function: Record, scope: Scope, is_function: bool)
     requires { Ready o.old function scope × (mark_of (rec_of function) ≡ function_mark is_function) }

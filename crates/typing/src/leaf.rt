@@ -85,6 +85,7 @@ fn new_type(w: &mut Writer, new: Record, scope: Scope) -> Option<()>
 }
 
 // `Expr::TsAs`: its type, copied, or written as `readonly_of` it.
+#[inline(never)]
 pub fn as_type(w: &mut Writer, expr: Record, frozen: bool)
     requires { mark_of (rec_of expr) ≡ mark "As" }
     ensures { Writes w.old w.new (encode (as_type frozen (kid 1 (kids_of (rec_of expr.entry))))) }
@@ -110,6 +111,7 @@ pub fn array_ident(w: &mut Writer, ident: Record, scope: Scope) -> Option<()>
 
 // The arms of `expr_to_ts_type` that type nothing below them: `Expr::Lit`, `Expr::Tpl`, `Expr::Ident`, `Expr::Unary`, `Expr::New`, and those that
 // give `None`. `readonly_of` knows none of their types, so they are written as they are.
+#[inline(never)]
 pub fn leaf_type(w: &mut Writer, expr: Record, mode: Mode) -> Option<()>
     ensures { MakesType w.old w.new (leaf_of mode.entry (rec_of expr.entry)) result }
 {

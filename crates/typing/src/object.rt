@@ -18,6 +18,7 @@ use records::tree::Record;
 use records::{HEAD_SIZE, Head};
 
 // `Expr::Object`.
+#[inline(never)]
 #[cycle(types)]
 pub fn object_type(o: &mut Output, object: Record, mode: Mode)
     requires { Ready o.old object mode.scope }
