@@ -1,5 +1,5 @@
 // What the test programs share that replay answers: numbers of four bytes, buffers filled with noise, and the loop over the cases.
-ghost use Rattle.std.specs.Prelude.{true, ◌≡◌, ◌+◌, ◌<◌, ◌≤◌, length, take, Ok, Err};
+ghost use Rattle.std.specs.Prelude.{true, ℕ, ◌≡◌, ◌+◌, ◌<◌, ◌≤◌, length, take, Ok, Err};
 ghost use Rattle.definition.specs.Tree.{u32_at};
 ghost use Rattle.grammar.specs.Answers.{number};
 ghost use Rattle.console.specs.Replay.{noise, IsNoise, IsExpected};
@@ -45,12 +45,33 @@ fn noise(i: usize) -> u8
     (i % 251) as u8
 }
 
+// What it holds behind a place that holds this: counted on, since a remainder for each byte took most of a replay.
+fn noise_behind(byte: u8) -> u8
+    ensures { (i : ℕ) → byte ≡ noise i → result ≡ noise (i + 1) }
+{
+    if byte < 250 { byte + 1 } else { 0 }
+}
+
 pub fn fill(buffer: &mut [u8])
     ensures { IsNoise buffer.new (length buffer.old) }
 {
-    for (i, b) in buffer.iter_mut().enumerate() {
-        *b = noise(i);
+    let mut byte = noise(0);
+    for b in buffer.iter_mut() {
+        *b = byte;
+        byte = noise_behind(byte);
     }
+}
+
+// Whether bytes are those that a buffer holds before the call, from a place on.
+fn is_noise(bytes: &[u8], from: usize) -> bool {
+    let mut byte = noise(from);
+    for b in bytes {
+        if *b != byte {
+            return false;
+        }
+        byte = noise_behind(byte);
+    }
+    true
 }
 
 // Whether a buffer begins with the first n bytes of what was expected, and holds the noise behind them.
@@ -60,11 +81,7 @@ pub fn holds(buffer: &[u8], expected: &[u8], n: usize) -> bool
     n <= expected.len()
         && n <= buffer.len()
         && front(buffer, n) == front(expected, n)
-        && buffer
-            .iter()
-            .enumerate()
-            .skip(n)
-            .all(|(i, b)| *b == noise(i))
+        && is_noise(&buffer[n..], n)
 }
 
 // Whether a refusal is the one that a case expects, which has its number as `code`.
