@@ -2,6 +2,9 @@
 #![tactic(auto)]
 
 ghost use Rattle.std.specs.Prelude.{◌≡◌, ◌&&◌, ◌||◌, ◌+◌, ◌/◌, ◌<◌, ◌≤◌, length, get_or, set, take};
+ghost use Rattle.std.specs.Ordering.{nat_cmp};
+ghost use Rattle.std.specs.Cmp.Lexicographic.{slice_cmp};
+ghost use Rattle.std.specs.Slice.Scan.{big_endian};
 ghost use Rattle.definition.specs.Tree.{body_at, text_at};
 ghost use Rattle.definition.specs.Record.{same_text};
 ghost use Rattle.definition.specs.Prescan.{Question};
@@ -65,6 +68,33 @@ fn name_at(tree: &[u8], entry: u32) -> &[u8]
     text_at(tree, id)
 }
 
+// The first eight bytes of a text as one number, the first of them the weightiest.
+fn front_number(text: &[u8]) -> u64
+    requires { 8 ≤ length text.now }
+    ensures { result ≡ big_endian 0 (take 8 text.now) }
+{
+    u64::from_be_bytes([
+        text[0], text[1], text[2], text[3], text[4], text[5], text[6], text[7],
+    ])
+}
+
+// `cmp` of two texts. Their first eight bytes are compared as one number: byte by byte, each takes a branch that can't be foretold, and that is most
+// of what a search takes.
+fn order(a: &[u8], b: &[u8]) -> Ordering
+    ensures { result ≡ slice_cmp nat_cmp a.now b.now }
+{
+    if a.len() < 8 || b.len() < 8 {
+        return a.cmp(&b);
+    }
+    let front = front_number(a);
+    let other = front_number(b);
+    if front != other {
+        return front.cmp(&other);
+    }
+    let behind = &a[8..];
+    behind.cmp(&&b[8..])
+}
+
 // Where the entry of a name stands, or where it would stand: those before it have names before this one, those behind it have names behind.
 // By hand: `binary_search_by` asks for a closure that can be called with every number; one that first looks whether a number is an entry of the
 // tree takes 1.2 to 1.3 times as long.
@@ -76,7 +106,7 @@ pub fn find(tree: &[u8], entries: &[u32], name: &[u8]) -> Result<usize, usize>
     let mut high = entries.len();
     while low < high {
         let middle = low + (high - low) / 2;
-        match name_at(tree, entries[middle]).cmp(&name) {
+        match order(name_at(tree, entries[middle]), name) {
             Ordering::Less => low = middle + 1,
             Ordering::Equal => return Ok(middle),
             Ordering::Greater => high = middle,
